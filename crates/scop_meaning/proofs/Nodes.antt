@@ -1,12 +1,14 @@
 -- The code's nodes of one part, which is read through a reference.
 use Rattle.std.proofs.Common.{◌≡◌, ℕ, ap, sym, ◌∙◌}
 use Rattle.std.specs.Global.{Box}
-use Rattle.scop_syntax.specs.Tree.{Expression, negated, complemented, cast, shifted_left, shifted_right}
-use Rattle.scop_syntax.specs.View.{expression_of, expression_step}
+use Rattle.scop_syntax.specs.Tree.{Expression, negated, complemented, cast, shifted_left, shifted_right, narrowed}
+use Rattle.scop_syntax.specs.View.{expression_of, expression_step, narrowing_of}
+use Rattle.scop_syntax.specs.declared.tree.Narrowing.{Narrowing}
 use Rattle.scop_syntax.specs.declared.tree.Expr.{Expr}
 use Rattle.scop_syntax.specs.declared.tree.Expr.TheVariants.{Negated, Complemented, Cast, ShiftedLeft, ShiftedRight}
 use Rattle.scop_syntax.specs.declared.tree.Expr.TheVariants.{rolls-Negated, rolls-Complemented, rolls-Cast}
-use Rattle.scop_syntax.specs.declared.tree.Expr.TheVariants.{rolls-ShiftedLeft, rolls-ShiftedRight}
+use Rattle.scop_syntax.specs.declared.tree.Expr.TheVariants.{Narrowed, rolls-ShiftedLeft, rolls-ShiftedRight}
+use Rattle.scop_syntax.specs.declared.tree.Expr.TheVariants.{rolls-Narrowed}
 use Rattle.scop_syntax.specs.declared.tree.Expr.TheFolds.{fold-roll-Expr}
 use Rattle.scop_syntax.specs.declared.tree.Expr.TheOpen.{Expr-F}
 
@@ -49,3 +51,11 @@ right_shift whole part operand k is there =
     ap expression_of (is ∙ sym (rolls-ShiftedRight operand k))
     ∙ (fold-roll-Expr Expression expression_step (Expr-F.ShiftedRight operand k)
     ∙ ap (λ (x : Expr). shifted_right (expression_of x) k) (sym there))
+
+-- what is kept to 32 bits stands for its part, kept to 32 bits
+pub narrowing : (whole part : Expr) (w : Narrowing) (operand : Box Expr) → whole ≡ Narrowed w operand
+    → part ≡ operand.value → expression_of whole ≡ narrowed (narrowing_of w) (expression_of part)
+narrowing whole part w operand is there =
+    ap expression_of (is ∙ sym (rolls-Narrowed w operand))
+    ∙ (fold-roll-Expr Expression expression_step (Expr-F.Narrowed w operand)
+    ∙ ap (λ (x : Expr). narrowed (narrowing_of w) (expression_of x)) (sym there))

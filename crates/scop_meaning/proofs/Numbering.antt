@@ -2,7 +2,8 @@
 use Rattle.std.proofs.Common.{◌≡◌, ℕ, zero, suc, ◌+◌, ◌-◌, ◌<◌, ◌≤◌, List, [], ◌∷◌, ◌++◌, length, take, get_or, ap, ◌∙◌}
 use Rattle.std.proofs.Common.{arith, refl}
 use Rattle.std.specs.Prelude.{slice_get}
-use Rattle.scop_syntax.specs.Tree.{Access, Right, assigned, combined, moved_left, moved_right}
+use Rattle.scop_syntax.specs.Tree.{Access, Right, assigned, combined, moved_left, moved_right, combined_narrow}
+use Rattle.scop_syntax.specs.Tree.{moved_left_narrow}
 use Rattle.scop_syntax.specs.Cells.{reads_with}
 use Rattle.scop_syntax.specs.Execution.{cell_count, total_cells}
 use Rattle.scop_meaning.specs.Instances.{AreExtents, AreLayout, values_wanted}
@@ -13,6 +14,8 @@ reads_wanted place (assigned e) = refl
 reads_wanted place (combined op e) = refl
 reads_wanted place (moved_left k) = refl
 reads_wanted place (moved_right k) = refl
+reads_wanted place (combined_narrow op e) = refl
+reads_wanted place (moved_left_narrow k) = refl
 
 -- an element of two lists, one behind the other
 pub get_back : {A : Type 0} (xs ys : List A) (i : ℕ) → length xs ≤ i

@@ -19,7 +19,8 @@ use Rattle.std.specs.Prelude.{
   if◌then◌else◌,
 }
 use Rattle.scop_syntax.specs.Tree.{Tree, loop, guard, statement, Trees, none, more, Program}
-use Rattle.scop_syntax.specs.Tree.{Right, assigned, combined, moved_left, moved_right}
+use Rattle.scop_syntax.specs.Tree.{Right, assigned, combined, moved_left, moved_right, combined_narrow}
+use Rattle.scop_syntax.specs.Tree.{moved_left_narrow}
 use Rattle.scop_syntax.specs.Cells.{reads_of}
 use Rattle.scop_syntax.specs.Members.{In}
 use Rattle.scop_syntax.specs.Acts.{Act}
@@ -78,3 +79,5 @@ values_wanted (assigned e) = length (reads_of e)
 values_wanted (combined op e) = suc (length (reads_of e))
 values_wanted (moved_left k) = 1
 values_wanted (moved_right k) = 1
+values_wanted (combined_narrow op e) = suc (length (reads_of e))
+values_wanted (moved_left_narrow k) = 1

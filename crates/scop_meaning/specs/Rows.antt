@@ -1,5 +1,5 @@
 -- Small kernels whose results are known, as plain data.
-use Rattle.std.specs.Prelude.{ℕ, ℤ, pos, negsuc, List, [], ◌∷◌}
+use Rattle.std.specs.Prelude.{ℕ, ℤ, pos, negsuc, true, false, List, [], ◌∷◌}
 use Rattle.whole_numbers.specs.Affine.{Affine}
 use Rattle.scop_syntax.specs.Cells.{Cell}
 use Rattle.scop_syntax.specs.Tree.{
@@ -10,9 +10,13 @@ use Rattle.scop_syntax.specs.Tree.{
   constant,
   affine,
   binary,
+  complemented,
+  implied,
+  narrowed,
   Right,
   assigned,
   combined,
+  combined_narrow,
   at_least,
   Tree,
   Trees,
@@ -46,9 +50,9 @@ around first stride condition items =
 abbrev pub only : Tree → Trees
 only item = more item none
 
--- an array with these extents
+-- an array of 64 bits with these extents
 abbrev pub array : List Affine → Declaration
-array extents = record { name = []; parameters_before = 0; extents = extents }
+array extents = record { name = []; parameters_before = 0; narrow = false; extents = extents }
 
 -- a kernel of these parameters and arrays
 abbrev pub kernel : List (List ℕ) → List Declaration → Trees → Program
@@ -70,6 +74,14 @@ prefix_sums =
 abbrev pub one_more : Program
 one_more = kernel [] (array (form [] (pos 1) ∷ []) ∷ [])
     (only (store (at 0 (form [] (pos 0) ∷ [])) (combined plus (constant 1))))
+
+-- A[0] += 1; B[0] = ~A[0]; A having cells of 32 bits and B of 64
+abbrev pub narrow_one_more : Program
+narrow_one_more =
+    kernel [] (record (array (form [] (pos 1) ∷ [])) { narrow = true } ∷ array (form [] (pos 1) ∷ []) ∷ [])
+    (more (store (at 0 (form [] (pos 0) ∷ [])) (combined_narrow plus (constant 1)))
+    (only (store (at 1 (form [] (pos 0) ∷ []))
+    (assigned (narrowed implied (complemented (read (at 0 (form [] (pos 0) ∷ [])))))))))
 
 -- for (i = N-1; i >= 1; i -= 2) A[i] = A[i-1];
 abbrev pub falling : Program

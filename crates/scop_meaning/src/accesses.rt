@@ -25,6 +25,7 @@ fn count_reads(expression: &Expr) -> usize
         Expr::Binary(_, left, right) => count_reads(left) + count_reads(right),
         Expr::ShiftedLeft(operand, _) => count_reads(operand),
         Expr::ShiftedRight(operand, _) => count_reads(operand),
+        Expr::Narrowed(_, operand) => count_reads(operand),
     }
 }
 
@@ -51,6 +52,7 @@ fn read_at(expression: &Expr, number: usize) -> &Access
         }
         Expr::ShiftedLeft(operand, _) => read_at(operand, number),
         Expr::ShiftedRight(operand, _) => read_at(operand, number),
+        Expr::Narrowed(_, operand) => read_at(operand, number),
     }
 }
 
@@ -61,9 +63,8 @@ pub fn read_count(statement: &Stmt) -> usize
 {
     match &statement.right {
         Right::Assigned(value) => count_reads(value),
-        Right::Combined(_, value) => count_reads(value) + 1,
-        Right::ShiftedLeft(_) => 1,
-        Right::ShiftedRight(_) => 1,
+        Right::Combined(_, value) | Right::CombinedNarrow(_, value) => count_reads(value) + 1,
+        Right::ShiftedLeft(_) | Right::ShiftedRight(_) | Right::ShiftedLeftNarrow(_) => 1,
     }
 }
 
@@ -78,15 +79,15 @@ pub fn access_at(statement: &Stmt, number: usize) -> &Access
     }
     match &statement.right {
         Right::Assigned(value) => read_at(value, number - 1),
-        Right::Combined(_, value) => {
+        Right::Combined(_, value) | Right::CombinedNarrow(_, value) => {
             if number == 1 {
                 &statement.place
             } else {
                 read_at(value, number - 2)
             }
         }
-        Right::ShiftedLeft(_) => &statement.place,
-        Right::ShiftedRight(_) => &statement.place,
+        Right::ShiftedLeft(_) | Right::ShiftedRight(_) | Right::ShiftedLeftNarrow(_) =>
+            &statement.place,
     }
 }
 

@@ -5,7 +5,7 @@ ghost use Rattle.scop_syntax.specs.View.{expression_of, right_of};
 ghost use Rattle.scop_syntax.specs.Values.{stored_by, value_on};
 ghost use Rattle.scop_meaning.specs.Instances.{values_wanted};
 
-use crate::operators::{combined, complemented, negated, shifted_left, shifted_right};
+use crate::operators::{combined, complemented, narrowed, negated, shifted_left, shifted_right};
 use scop_syntax::affine_values::wrapped_at;
 use scop_syntax::tree::{Expr, Right};
 
@@ -38,6 +38,7 @@ pub fn value_from(expression: &Expr, point: &[i64], reads: &[u64], at: &mut usiz
         Expr::ShiftedRight(operand, count) => {
             shifted_right(value_from(operand, point, reads, at), *count)
         }
+        Expr::Narrowed(_, operand) => narrowed(value_from(operand, point, reads, at)),
     }
 }
 
@@ -59,5 +60,14 @@ pub fn stored_on(right: &Right, point: &[i64], reads: &[u64]) -> u64
         }
         Right::ShiftedLeft(count) => shifted_left(reads[0], *count),
         Right::ShiftedRight(count) => shifted_right(reads[0], *count),
+        Right::CombinedNarrow(operator, value) => {
+            at = 1;
+            narrowed(combined(
+                *operator,
+                reads[0],
+                value_from(value, point, reads, &mut at),
+            ))
+        }
+        Right::ShiftedLeftNarrow(count) => narrowed(shifted_left(reads[0], *count)),
     }
 }

@@ -128,6 +128,7 @@ fn outside_reads(
         },
         Expr::ShiftedLeft(operand, _) => outside_reads(operand, next, extents, point, stmt),
         Expr::ShiftedRight(operand, _) => outside_reads(operand, next, extents, point, stmt),
+        Expr::Narrowed(_, operand) => outside_reads(operand, next, extents, point, stmt),
     }
 }
 
@@ -149,15 +150,16 @@ fn outside_right(
     let mut next = 1;
     match right {
         Right::Assigned(value) => outside_reads(value, &mut next, extents, point, stmt),
-        Right::Combined(_, value) => {
+        Right::Combined(_, value) | Right::CombinedNarrow(_, value) => {
             next = 2;
             match outside_access(place, 1, extents, point, stmt) {
                 Some(outside) => Some(outside),
                 None => outside_reads(value, &mut next, extents, point, stmt),
             }
         }
-        Right::ShiftedLeft(_) => outside_access(place, 1, extents, point, stmt),
-        Right::ShiftedRight(_) => outside_access(place, 1, extents, point, stmt),
+        Right::ShiftedLeft(_) | Right::ShiftedRight(_) | Right::ShiftedLeftNarrow(_) => {
+            outside_access(place, 1, extents, point, stmt)
+        }
     }
 }
 

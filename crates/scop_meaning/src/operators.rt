@@ -36,6 +36,14 @@ pub fn complemented(value: u64) -> u64
     !value
 }
 
+/// The low 32 bits of `value`.
+#[inline]
+pub fn narrowed(value: u64) -> u64
+    ensures { result ≡ value % 2 ^ 32 }
+{
+    value % (1 << 32)
+}
+
 /// The value of `value << count`: its low 64 bits.
 #[inline]
 pub fn shifted_left(value: u64, count: u8) -> u64

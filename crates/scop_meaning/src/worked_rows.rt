@@ -8,14 +8,16 @@ ghost use Rattle.scop_syntax.specs.Walk.{walk_of};
 ghost use Rattle.scop_syntax.specs.Writers.{last_of, next_of};
 ghost use Rattle.scop_meaning.specs.LastWrites.{left_before};
 ghost use Rattle.scop_meaning.specs.Outside.{outside_of};
-ghost use Rattle.scop_meaning.specs.Rows.{copy, even, falling, guarded, line_cell, odd, one_more, one_too_far};
-ghost use Rattle.scop_meaning.specs.Rows.{prefix_sums, product, sweeps, triangle, two_statements};
+ghost use Rattle.scop_meaning.specs.Rows.{copy, even, falling, guarded, line_cell, narrow_one_more, odd, one_more};
+ghost use Rattle.scop_meaning.specs.Rows.{one_too_far, prefix_sums, product, sweeps, triangle, two_statements};
 
-/// A compound operator reads its place; a loop without a turn does nothing; sums wrap.
+/// A compound operator reads its place; a loop without a turn does nothing; sums wrap, of 32 bits too.
 pub fn sums_of_a_place()
     ensures prefix { exec prefix_sums (pos 5 ∷ []) ((1 ∷ 1 ∷ 1 ∷ 1 ∷ 1 ∷ []) ∷ []) ≡ (1 ∷ 2 ∷ 3 ∷ 4 ∷ 5 ∷ []) ∷ [] }
     ensures no_turn { exec prefix_sums (pos 1 ∷ []) ((9 ∷ []) ∷ []) ≡ (9 ∷ []) ∷ [] }
     ensures wraps { exec one_more [] (((2 ^ 64 - 1) ∷ []) ∷ []) ≡ (0 ∷ []) ∷ [] }
+    ensures narrow { exec narrow_one_more [] (((2 ^ 32 - 1) ∷ []) ∷ (9 ∷ []) ∷ [])
+        ≡ (0 ∷ []) ∷ ((2 ^ 32 - 1) ∷ []) ∷ [] }
 {}
 
 /// A stride of -2; sweeps of a stencil; the triangle below a diagonal.

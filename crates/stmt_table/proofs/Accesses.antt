@@ -11,8 +11,8 @@ use Rattle.scop_syntax.specs.Limits.{WithinLimits}
 use Rattle.scop_syntax.specs.Members.{In}
 use Rattle.scop_syntax.specs.Statements.{Placed, loops_in, statements_of}
 use Rattle.scop_syntax.specs.Tree.{Access, Expression, read, constant, affine, negated, complemented, cast, binary}
-use Rattle.scop_syntax.specs.Tree.{shifted_left, shifted_right, Right, assigned, combined, moved_left, moved_right}
-use Rattle.scop_syntax.specs.Tree.{Declaration, Program, Statement}
+use Rattle.scop_syntax.specs.Tree.{shifted_left, shifted_right, narrowed, Right, assigned, combined, moved_left}
+use Rattle.scop_syntax.specs.Tree.{moved_right, combined_narrow, moved_left_narrow, Declaration, Program, Statement}
 use Rattle.scop_syntax.proofs.Members.{in_append, in_from_place, in_map_from}
 use Rattle.standings.specs.Standings.{Standing, heads_in, standing, standings_of}
 use Rattle.standings.proofs.Heads.{as_many_heads}
@@ -37,6 +37,7 @@ read_named ranks n (binary op e f) a is h = elim (in_append a (reads_of e) (read
 ]
 read_named ranks n (shifted_left e k) a is h = read_named ranks n e a is.1 h
 read_named ranks n (shifted_right e k) a is h = read_named ranks n e a is.1 h
+read_named ranks n (narrowed w e) a is h = read_named ranks n e a is.1 h
 
 reads_named : (ranks : List ℕ) (n : ℕ) (place : Access) (r : Right) (a : Access) → Names ranks place
     → IsRight ranks n r → In a (reads_with place r) → Names ranks a
@@ -47,6 +48,10 @@ reads_named ranks n place (moved_left k) a at is (inl h) = subst (Names ranks) (
 reads_named ranks n place (moved_left k) a at is (inr h) = absurd h
 reads_named ranks n place (moved_right k) a at is (inl h) = subst (Names ranks) (sym h) at
 reads_named ranks n place (moved_right k) a at is (inr h) = absurd h
+reads_named ranks n place (combined_narrow op e) a at is (inl h) = subst (Names ranks) (sym h) at
+reads_named ranks n place (combined_narrow op e) a at is (inr h) = read_named ranks n e a is h
+reads_named ranks n place (moved_left_narrow k) a at is (inl h) = subst (Names ranks) (sym h) at
+reads_named ranks n place (moved_left_narrow k) a at is (inr h) = absurd h
 
 access_named : (ranks : List ℕ) (n : ℕ) (s : Statement) (a : Access) → IsStatement ranks n s → In a (accesses s)
     → a.array < length ranks

@@ -7,7 +7,7 @@ use Rattle.scop_syntax.specs.View.{operator_of}
 use Rattle.stmt_table.specs.Codes.{AreSteps, IsStep, made, worked}
 use Rattle.stmt_table.specs.declared.code.Step.{Step}
 use Rattle.stmt_table.specs.declared.code.Step.TheVariants.{Constant, Affine, Negated, Complemented, Binary}
-use Rattle.stmt_table.specs.declared.code.Step.TheVariants.{ShiftedLeft, ShiftedRight}
+use Rattle.stmt_table.specs.declared.code.Step.TheVariants.{ShiftedLeft, ShiftedRight, Narrowed}
 
 -- where there are more leaves, a step names some of them still
 step_within : (n k m : ℕ) (step : Step) → n ≤ k → IsStep n m step → IsStep k m step
@@ -30,6 +30,7 @@ made_same n m ls ks xs ys (Binary op a b) is leaves slots =
 made_same n m ls ks xs ys (ShiftedLeft a count) is leaves slots =
     ap (λ (x : ℕ). (x * 2 ^ count) % 2 ^ 64) (slots a is)
 made_same n m ls ks xs ys (ShiftedRight a count) is leaves slots = ap (λ (x : ℕ). x / 2 ^ count) (slots a is)
+made_same n m ls ks xs ys (Narrowed a) is leaves slots = ap (λ (x : ℕ). x % 2 ^ 32) (slots a is)
 
 -- steps that name leaves and slots that there are do so where there are more leaves
 pub steps_within : (n k m : ℕ) (steps : List Step) → n ≤ k → AreSteps n m steps → AreSteps k m steps

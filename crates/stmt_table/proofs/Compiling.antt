@@ -1,5 +1,5 @@
 -- A code that grows step by step: slots keep their values, and each kind of node makes its value of those of its parts.
-use Rattle.std.proofs.Common.{◌≡◌, ◌∙◌, ap, ap₂, refl, sym, subst, ℕ, suc, ◌+◌, ◌-◌, ◌%◌, ◌^◌, ◌<◌, ◌≤◌}
+use Rattle.std.proofs.Common.{◌≡◌, ◌∙◌, ap, ap₂, refl, sym, subst, ℕ, suc, ◌+◌, ◌<◌, ◌≤◌}
 use Rattle.std.proofs.Common.{ℤ, List, [], ◌∷◌, ◌++◌, length, map, drop, get_or, arith, length-append}
 use Rattle.std.proofs.lemmas.List.{get_or-drop, get_or_append_left, get_or_push, length-map, length_push}
 use Rattle.std.proofs.lemmas.List.{map-append}
@@ -17,7 +17,7 @@ use Rattle.stmt_table.specs.Codes.{AreSteps, IsStep, leaves_at, made, worked}
 use Rattle.stmt_table.specs.Points.{point_in}
 use Rattle.stmt_table.specs.declared.code.Code.{Code}
 use Rattle.stmt_table.specs.declared.code.Step.{Step}
-use Rattle.stmt_table.specs.declared.code.Step.TheVariants.{Constant, Affine as Leaf, Binary, Negated}
+use Rattle.stmt_table.specs.declared.code.Step.TheVariants.{Constant, Affine as Leaf, Binary}
 use Rattle.stmt_table.specs.steps.Codes.{GoesOn, IsBegun, IsPut, Makes, MakesStored, MakesValue, slots_by}
 use Rattle.stmt_table.specs.steps.AffineParts.{IsFormOver}
 use Rattle.stmt_table.proofs.Codes.{Agree, steps_more, steps_within, worked_front, worked_long, worked_more, worked_same}
@@ -157,7 +157,20 @@ form_made params heads form over at old new result begun told =
     ∙ (ap (λ (l : List ℕ). get_or l (length old.leaves.items) 0) (map-append f old.leaves.items (over ∷ []))
     ∙ (get_or_push (leaves_at old turns) (f over) 0 (length old.leaves.items) count ∙ told turns many))) put)
 
--- a node of one part, by what its step makes of the part's value
+-- a value more, by what its step makes of one that was made
+pub step_made : {E : Type 0} (loops : ℕ) (value meant : List ℤ → List ℕ → ℕ) (f : ℕ → ℕ) (step : Step)
+    (old mid new : Code) (part : ℕ) (result : Result ℕ E) → Makes loops meant old mid part
+    → ((n m : ℕ) → part < m → IsStep n m step) → ((ls xs : List ℕ) → made ls xs step ≡ f (get_or xs part 0))
+    → ((turns : List ℤ) (values : List ℕ) → value turns values ≡ f (meant turns values))
+    → IfOk result (IsPut [] step mid new) → IfOk result (Makes loops value old new)
+step_made loops value meant f step old mid new part result of_part names makes is =
+    IfOk-weaker result (IsPut [] step mid new) (Makes loops value old new) (λ slot put.
+    put_makes loops value [] step old mid new slot of_part.code (names _ _ of_part.there)
+    (λ turns values many long.
+    makes (leaves_at new turns) (slots_by mid turns values)
+    ∙ (ap f (of_part.value turns values many long) ∙ sym (is turns values))) put)
+
+-- a node of one part
 pub unary_made : {E : Type 0} (params : List ℤ) (heads : List Head) (whole node e : Expression) (f : ℕ → ℕ) (step : Step)
     (at : ℕ) (old mid new : Code) (part : ℕ) (result : Result ℕ E) → whole ≡ node
     → MakesValue params heads e at old mid part → ((n m : ℕ) → part < m → IsStep n m step)
@@ -165,13 +178,9 @@ pub unary_made : {E : Type 0} (params : List ℤ) (heads : List Head) (whole nod
     → ((point : List ℤ) (vs : List ℕ) → value_on node point vs ≡ f (value_on e point vs))
     → IfOk result (IsPut [] step mid new) → IfOk result (MakesValue params heads whole at old new)
 unary_made params heads whole node e f step at old mid new part result is of_part names makes value =
-    IfOk-weaker result (IsPut [] step mid new) (MakesValue params heads whole at old new) (λ slot put.
-    put_makes (length heads) _ [] step old mid new slot of_part.code (names _ _ of_part.there)
-    (λ turns values many long.
-    let point = point_in heads params turns in
-    makes (leaves_at new turns) (slots_by mid turns values)
-    ∙ (ap f (of_part.value turns values many long)
-    ∙ (sym (value point (drop at values)) ∙ ap (λ (x : Expression). value_on x point (drop at values)) (sym is)))) put)
+    step_made (length heads) _ _ f step old mid new part result of_part names makes (λ turns values.
+    ap (λ (x : Expression). value_on x (point_in heads params turns) (drop at values)) is
+    ∙ value (point_in heads params turns) (drop at values))
 
 -- a node of two parts, whose reads stand one behind the other
 pub binary_made : {E : Type 0} (params : List ℤ) (heads : List Head) (whole e f : Expression) (op : CodeOperator)
@@ -244,16 +253,6 @@ pub zero_made : {E : Type 0} (loops : ℕ) (value : List ℤ → List ℕ → �
 zero_made loops value old mid new result goes none =
     IfOk-weaker result (IsPut [] (Constant 0) mid new) (Makes loops value old new) (λ slot put.
     put_makes loops value [] (Constant 0) old mid new slot goes tt (λ turns values many long. sym (none turns values)) put)
-
-pub minus_made : {E : Type 0} (loops : ℕ) (value meant : List ℤ → List ℕ → ℕ) (old mid new : Code) (part : ℕ)
-    (result : Result ℕ E) → Makes loops meant old mid part
-    → ((turns : List ℤ) (values : List ℕ) → value turns values ≡ (2 ^ 64 - meant turns values) % 2 ^ 64)
-    → IfOk result (IsPut [] (Negated part) mid new) → IfOk result (Makes loops value old new)
-minus_made loops value meant old mid new part result of_part is =
-    IfOk-weaker result (IsPut [] (Negated part) mid new) (Makes loops value old new) (λ slot put.
-    put_makes loops value [] (Negated part) old mid new slot of_part.code of_part.there
-    (λ turns values many long.
-    ap (λ (x : ℕ). (2 ^ 64 - x) % 2 ^ 64) (of_part.value turns values many long) ∙ sym (is turns values)) put)
 
 -- another meaning that is the same
 pub means_so : {E : Type 0} (loops : ℕ) (value meant : List ℤ → List ℕ → ℕ) (old new : Code) (result : Result ℕ E)

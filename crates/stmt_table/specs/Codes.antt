@@ -11,7 +11,7 @@ use Rattle.stmt_table.specs.Points.{point_in}
 use Rattle.stmt_table.specs.declared.code.Code.{Code}
 use Rattle.stmt_table.specs.declared.code.Step.{Step}
 use Rattle.stmt_table.specs.declared.code.Step.TheVariants.{Constant, Affine, Negated, Complemented, Binary}
-use Rattle.stmt_table.specs.declared.code.Step.TheVariants.{ShiftedLeft, ShiftedRight}
+use Rattle.stmt_table.specs.declared.code.Step.TheVariants.{ShiftedLeft, ShiftedRight, Narrowed}
 
 -- the value that a step makes, where the leaves and the slots have these values: the formulas of `value_on`
 abbrev pub made : List ℕ → List ℕ → Step → ℕ
@@ -22,6 +22,7 @@ made leaves slots (Complemented a) = 2 ^ 64 - 1 - slice_index_or slots a 0
 made leaves slots (Binary op a b) = applied (operator_of op) (slice_index_or slots a 0) (slice_index_or slots b 0)
 made leaves slots (ShiftedLeft a k) = (slice_index_or slots a 0 * 2 ^ k) % 2 ^ 64
 made leaves slots (ShiftedRight a k) = slice_index_or slots a 0 / 2 ^ k
+made leaves slots (Narrowed a) = slice_index_or slots a 0 % 2 ^ 32
 
 -- the slots behind steps: each puts what it makes behind those so far
 abbrev pub worked : List ℕ → List Step → List ℕ → List ℕ
@@ -37,6 +38,7 @@ IsStep leaves slots (Complemented a) = a < slots
 IsStep leaves slots (Binary op a b) = (a < slots) × (b < slots)
 IsStep leaves slots (ShiftedLeft a k) = a < slots
 IsStep leaves slots (ShiftedRight a k) = a < slots
+IsStep leaves slots (Narrowed a) = a < slots
 
 -- each of some steps does, from so many slots on
 abbrev pub AreSteps : ℕ → ℕ → List Step → Type 0

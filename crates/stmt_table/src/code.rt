@@ -1,10 +1,10 @@
 //! A right side as straight-line code: the values read and those of its affine parts over the turns of the loops round
 //! the statement, and steps that each make one value more (A. V. Aho, M. S. Lam, R. Sethi and J. D. Ullman,
 //! "Compilers", 2007, 6.2). Promises that the result is what the right side stores, or adds to its place, at all turns.
-ghost use Rattle.std.specs.Prelude.{◌≡◌, ◌+◌, ◌≤◌, ◌∷◌, ℕ, ℤ, [], IfOk, List, drop, length, map, take};
+ghost use Rattle.std.specs.Prelude.{◌≡◌, ◌+◌, ◌≤◌, ◌∷◌, ℕ, suc, ℤ, [], IfOk, List, drop, length, map, take};
 ghost use Rattle.scop_meaning.specs.declared.loops.TheConstants.{ROOM};
 ghost use Rattle.scop_syntax.specs.Cells.{reads, reads_of, reads_with};
-ghost use Rattle.scop_syntax.specs.Tree.{Access, affine};
+ghost use Rattle.scop_syntax.specs.Tree.{Access, affine, combined as exact_combined};
 ghost use Rattle.scop_syntax.specs.Reductions.{addend};
 ghost use Rattle.scop_syntax.specs.View.{expression_of, operator_of, right_of, statement_of};
 ghost use Rattle.scop_syntax.specs.declared.instance.TheConstants.{MAX_LOOPS};
@@ -15,7 +15,9 @@ ghost use Rattle.stmt_table.specs.steps.Codes.{IsBegun, IsPut, Makes, MakesAdded
 use crate::affine_parts::form_over;
 use crate::lane::Lane;
 use crate::loads::load_count;
-use scop_meaning::operators::{combined, complemented, negated, shifted_left, shifted_right};
+use scop_meaning::operators::{
+    combined, complemented, narrowed, negated, shifted_left, shifted_right,
+};
 use scop_syntax::instance::MAX_LOOPS;
 use scop_syntax::tree::{Aff, Expr, Loop, Operator, Right, Stmt};
 use std::alloc::{AllocError, Global};
@@ -30,6 +32,7 @@ pub enum Step {
     Binary(Operator, usize, usize),
     ShiftedLeft(usize, u8),
     ShiftedRight(usize, u8),
+    Narrowed(usize),
 }
 
 /// A right side as code. Its slots are the values read, `reads` many in the order of the text, and then what each step
@@ -56,6 +59,7 @@ fn made(step: &Step, leaves: &[Lane], slots: &[u64]) -> u64
         Step::Binary(operator, left, right) => combined(*operator, slots[*left], slots[*right]),
         Step::ShiftedLeft(slot, count) => shifted_left(slots[*slot], *count),
         Step::ShiftedRight(slot, count) => shifted_right(slots[*slot], *count),
+        Step::Narrowed(slot) => narrowed(slots[*slot]),
     }
 }
 
@@ -168,7 +172,31 @@ fn put_value(
             let slot = put_value(alloc, operand, heads, params, at, code)?;
             put(code, Step::ShiftedRight(slot, *count))
         }
+        Expr::Narrowed(_, operand) => {
+            let slot = put_value(alloc, operand, heads, params, at, code)?;
+            put(code, Step::Narrowed(slot))
+        }
     }
+}
+
+/// Makes code for an operator between the place, which is read first, and an expression.
+fn put_combined(
+    alloc: Global,
+    operator: Operator,
+    value: &Expr,
+    heads: &[&Loop],
+    params: &[i64],
+    code: &mut Code,
+) -> Result<usize, AllocError>
+    requires loops { length heads.now ≤ MAX_LOOPS }
+    requires room { length params.now + length heads.now ≤ ROOM }
+    requires begun { IsBegun code.old }
+    requires reads { code.old.reads ≡ suc (length (reads_of (expression_of value.now))) }
+    ensures { IfOk result (MakesStored params.now (map (λ h. h.now) heads.now)
+        (exact_combined (operator_of operator) (expression_of value.now)) code.old code.new) }
+{
+    let slot = put_value(alloc, value, heads, params, &mut 1, code)?;
+    put(code, Step::Binary(operator, 0, slot))
 }
 
 /// Makes code for a right side, which has as many reads as the code takes.
@@ -189,11 +217,18 @@ fn put_right(
     match right {
         Right::Assigned(value) => put_value(alloc, value, heads, params, &mut 0, code),
         Right::Combined(operator, value) => {
-            let slot = put_value(alloc, value, heads, params, &mut 1, code)?;
-            put(code, Step::Binary(*operator, 0, slot))
+            put_combined(alloc, *operator, value, heads, params, code)
         }
         Right::ShiftedLeft(count) => put(code, Step::ShiftedLeft(0, *count)),
         Right::ShiftedRight(count) => put(code, Step::ShiftedRight(0, *count)),
+        Right::CombinedNarrow(operator, value) => {
+            let slot = put_combined(alloc, *operator, value, heads, params, code)?;
+            put(code, Step::Narrowed(slot))
+        }
+        Right::ShiftedLeftNarrow(count) => {
+            let slot = put(code, Step::ShiftedLeft(0, *count))?;
+            put(code, Step::Narrowed(slot))
+        }
     }
 }
 
@@ -236,6 +271,8 @@ fn put_added(
         }
         Right::ShiftedLeft(_) => put(code, Step::Constant(0)),
         Right::ShiftedRight(_) => put(code, Step::Constant(0)),
+        Right::CombinedNarrow(..) => put(code, Step::Constant(0)),
+        Right::ShiftedLeftNarrow(_) => put(code, Step::Constant(0)),
     }
 }
 

@@ -3,7 +3,7 @@ use Rattle.scop_syntax.specs.Tree.{Expression}
 use Rattle.scop_syntax.specs.Cells.{reads_of}
 use Rattle.scop_syntax.specs.View.{expression_of}
 use Rattle.scop_meaning.proofs.Chains.{chained}
-use Rattle.scop_meaning.proofs.Nodes.{negation, complement, conversion, left_shift, right_shift}
+use Rattle.scop_meaning.proofs.Nodes.{negation, complement, conversion, left_shift, right_shift, narrowing}
 use Rattle.scop_meaning.proofs.accesses.+count_reads.Goals as goal
 
 pub returns-in-Negated : goal.returns-in-Negated
@@ -54,3 +54,9 @@ returns-in-Binary t c =
     let all = ap (λ (x : Expression). length (reads_of x)) is in
     let joined = length-append (reads_of (expression_of l)) (reads_of (expression_of r)) in
     omega (arith, c.count_reads-in-Binary.ensures, c.count_reads-in-Binary-2.ensures)
+
+pub returns-in-Narrowed : goal.returns-in-Narrowed
+returns-in-Narrowed t c =
+    let is = narrowing c.args.expression.now c.deref-in-Narrowed.result.now c.in-Narrowed.field-0 c.in-Narrowed.operand
+    c.in-Narrowed.is c.deref-in-Narrowed.ensures in
+    rw is c.count_reads-in-Narrowed.ensures

@@ -7,7 +7,7 @@ use Rattle.scop_syntax.specs.Cells.{reads_of}
 use Rattle.scop_syntax.specs.View.{expression_of}
 use Rattle.scop_syntax.proofs.Views.{expression_binary}
 use Rattle.scop_meaning.proofs.Numbering.{get_back}
-use Rattle.scop_meaning.proofs.Nodes.{negation, complement, conversion, left_shift, right_shift}
+use Rattle.scop_meaning.proofs.Nodes.{negation, complement, conversion, left_shift, right_shift, narrowing}
 use Rattle.scop_meaning.proofs.accesses.+read_at.Goals as goal
 
 pub returns-then-number-before : goal.returns-then-number-before
@@ -68,3 +68,9 @@ returns-in-ShiftedRight t c =
     let is = right_shift c.args.expression.now c.deref-in-ShiftedRight.result.now c.in-ShiftedRight.operand
     c.in-ShiftedRight.field-1 c.in-ShiftedRight.is c.deref-in-ShiftedRight.ensures in
     rw is c.read_at-in-ShiftedRight.ensures
+
+pub returns-in-Narrowed : goal.returns-in-Narrowed
+returns-in-Narrowed t c =
+    let is = narrowing c.args.expression.now c.deref-in-Narrowed.result.now c.in-Narrowed.field-0 c.in-Narrowed.operand
+    c.in-Narrowed.is c.deref-in-Narrowed.ensures in
+    rw is c.read_at-in-Narrowed.ensures

@@ -3,7 +3,7 @@ use Rattle.scop_syntax.specs.Tree.{Expression}
 use Rattle.scop_syntax.specs.Cells.{reads_of}
 use Rattle.scop_syntax.specs.View.{expression_of, operator_of}
 use Rattle.scop_meaning.proofs.Chains.{chained, chained_end, chained_value, expression_read}
-use Rattle.scop_meaning.proofs.Nodes.{negation, complement, conversion, left_shift, right_shift}
+use Rattle.scop_meaning.proofs.Nodes.{negation, complement, conversion, left_shift, right_shift, narrowing}
 use Rattle.scop_meaning.proofs.expressions.+value_from.Goals as goal
 
 pub bounds-reads-at : goal.bounds-reads-at
@@ -97,3 +97,15 @@ returns-in-ShiftedRight-clause-at t c =
     let is = right_shift c.args.expression.now c.deref-in-ShiftedRight.result.now c.in-ShiftedRight.operand
     c.in-ShiftedRight.count c.in-ShiftedRight.is c.deref-in-ShiftedRight.ensures in
     rw is c.value_from-in-ShiftedRight.ensures.at
+
+pub returns-in-Narrowed-clause-value : goal.returns-in-Narrowed-clause-value
+returns-in-Narrowed-clause-value t c =
+    let is = narrowing c.args.expression.now c.deref-in-Narrowed.result.now c.in-Narrowed.field-0 c.in-Narrowed.operand
+    c.in-Narrowed.is c.deref-in-Narrowed.ensures in
+    rw (is, c.narrowed.ensures, c.value_from-in-Narrowed.ensures.value) refl
+
+pub returns-in-Narrowed-clause-at : goal.returns-in-Narrowed-clause-at
+returns-in-Narrowed-clause-at t c =
+    let is = narrowing c.args.expression.now c.deref-in-Narrowed.result.now c.in-Narrowed.field-0 c.in-Narrowed.operand
+    c.in-Narrowed.is c.deref-in-Narrowed.ensures in
+    rw is c.value_from-in-Narrowed.ensures.at

@@ -8,7 +8,7 @@ use Rattle.scop_syntax.proofs.Views.{expression_binary}
 use Rattle.scop_meaning.specs.declared.index.Outside.{Outside}
 use Rattle.scop_meaning.specs.Outside.{FindsFirst}
 use Rattle.scop_meaning.proofs.Checks.{found_left, found_right}
-use Rattle.scop_meaning.proofs.Nodes.{negation, complement, conversion, left_shift, right_shift}
+use Rattle.scop_meaning.proofs.Nodes.{negation, complement, conversion, left_shift, right_shift, narrowing}
 use Rattle.scop_meaning.proofs.index.+outside_reads.Goals as goal
 
 pub returns-in-Some-clause-found : goal.returns-in-Some-clause-found
@@ -128,3 +128,15 @@ returns-in-ShiftedRight-clause-behind t c =
     let is = right_shift c.args.expression.now c.deref-in-ShiftedRight.result.now c.in-ShiftedRight.operand
     c.in-ShiftedRight.field-1 c.in-ShiftedRight.is c.deref-in-ShiftedRight.ensures in
     rw is c.outside_reads-in-ShiftedRight.ensures.behind
+
+pub returns-in-Narrowed-clause-found : goal.returns-in-Narrowed-clause-found
+returns-in-Narrowed-clause-found t c =
+    let is = narrowing c.args.expression.now c.deref-in-Narrowed.result.now c.in-Narrowed.field-0 c.in-Narrowed.operand
+    c.in-Narrowed.is c.deref-in-Narrowed.ensures in
+    rw is c.outside_reads-in-Narrowed.ensures.found
+
+pub returns-in-Narrowed-clause-behind : goal.returns-in-Narrowed-clause-behind
+returns-in-Narrowed-clause-behind t c =
+    let is = narrowing c.args.expression.now c.deref-in-Narrowed.result.now c.in-Narrowed.field-0 c.in-Narrowed.operand
+    c.in-Narrowed.is c.deref-in-Narrowed.ensures in
+    rw is c.outside_reads-in-Narrowed.ensures.behind

@@ -1,10 +1,11 @@
 use Rattle.std.proofs.Common.{◌∙◌, ap, refl, ℕ, ◌-◌, ◌*◌, ◌/◌, ◌%◌, ◌^◌, List, [], map}
 use Rattle.std.proofs.lemmas.Result.{IfOk-weaker}
-use Rattle.scop_syntax.specs.Tree.{Head, negated, complemented, shifted_left, shifted_right}
-use Rattle.scop_syntax.specs.View.{expression_of, operator_of}
+use Rattle.scop_syntax.specs.Tree.{Head, negated, complemented, shifted_left, shifted_right, narrowed}
+use Rattle.scop_syntax.specs.View.{expression_of, narrowing_of, operator_of}
 use Rattle.scop_meaning.proofs.Chains.{chained, chained_end, expression_constant, expression_read}
-use Rattle.scop_meaning.proofs.Nodes.{negation, complement, left_shift, right_shift}
+use Rattle.scop_meaning.proofs.Nodes.{negation, complement, left_shift, right_shift, narrowing}
 use Rattle.stmt_table.specs.declared.code.Step.TheVariants.{Negated, Complemented, Binary, ShiftedLeft, ShiftedRight}
+use Rattle.stmt_table.specs.declared.code.Step.TheVariants.{Narrowed}
 use Rattle.stmt_table.specs.steps.Codes.{IsPut}
 use Rattle.stmt_table.proofs.Compiling.{binary_made, constant_made, read_made, unary_made}
 use Rattle.stmt_table.proofs.code.+put_value.Goals as goal
@@ -102,3 +103,16 @@ returns-in_ok-slot-in-ShiftedRight-clause-makes t c =
     c.put_value-in-ShiftedRight.new.code c.put-in-ShiftedRight.new.code slot c.put-in-ShiftedRight.result is
     c.in_ok-slot-in-ShiftedRight.ensures.makes (λ n m l. l) (λ ls xs. refl) (λ p vs. refl)
     c.put-in-ShiftedRight.ensures
+
+pub returns-in_ok-slot-in-Narrowed-clause-makes : goal.returns-in_ok-slot-in-Narrowed-clause-makes
+returns-in_ok-slot-in-Narrowed-clause-makes t c =
+    let heads : List Head = map (λ h. h.now) c.args.heads.now in
+    let e = expression_of c.deref-in-Narrowed.result.now in
+    let slot = c.in_ok-slot-in-Narrowed.slot in
+    let w = c.in-Narrowed.field-0 in
+    let is = narrowing c.args.expression.now c.deref-in-Narrowed.result.now w c.in-Narrowed.operand c.in-Narrowed.is
+    c.deref-in-Narrowed.ensures in
+    unary_made c.args.params.now heads (expression_of c.args.expression.now) (narrowed (narrowing_of w) e) e
+    (λ (x : ℕ). x % 2 ^ 32) (Narrowed slot) c.args.at.now c.args.code.now c.put_value-in-Narrowed.new.code
+    c.put-in-Narrowed.new.code slot c.put-in-Narrowed.result is c.in_ok-slot-in-Narrowed.ensures.makes (λ n m l. l)
+    (λ ls xs. refl) (λ p vs. refl) c.put-in-Narrowed.ensures

@@ -55,3 +55,23 @@ returns-in-ShiftedRight c =
     (goes_nowhere c.args.code.now c.requires.begun)
     (λ turns values. ap (λ (r : Right). added_by (right_of r) (point turns) values) c.in-ShiftedRight.is)
     c.put-in-ShiftedRight.ensures
+
+pub returns-in-CombinedNarrow : goal.returns-in-CombinedNarrow
+returns-in-CombinedNarrow c =
+    let heads : List Head = map (λ h. h.now) c.args.heads.now in
+    let point : List ℤ → List ℤ = λ turns. point_in heads c.args.params.now turns in
+    zero_made (length heads) (λ turns values. added_by (right_of c.args.right.now) (point turns) values)
+    c.args.code.now c.args.code.now c.put-in-CombinedNarrow.new.code c.put-in-CombinedNarrow.result
+    (goes_nowhere c.args.code.now c.requires.begun)
+    (λ turns values. ap (λ (r : Right). added_by (right_of r) (point turns) values) c.in-CombinedNarrow.is)
+    c.put-in-CombinedNarrow.ensures
+
+pub returns-in-ShiftedLeftNarrow : goal.returns-in-ShiftedLeftNarrow
+returns-in-ShiftedLeftNarrow c =
+    let heads : List Head = map (λ h. h.now) c.args.heads.now in
+    let point : List ℤ → List ℤ = λ turns. point_in heads c.args.params.now turns in
+    zero_made (length heads) (λ turns values. added_by (right_of c.args.right.now) (point turns) values)
+    c.args.code.now c.args.code.now c.put-in-ShiftedLeftNarrow.new.code c.put-in-ShiftedLeftNarrow.result
+    (goes_nowhere c.args.code.now c.requires.begun)
+    (λ turns values. ap (λ (r : Right). added_by (right_of r) (point turns) values) c.in-ShiftedLeftNarrow.is)
+    c.put-in-ShiftedLeftNarrow.ensures

@@ -1,14 +1,16 @@
-use Rattle.std.proofs.Common.{ap}
+use Rattle.std.proofs.Common.{ap, refl, ℕ, ◌-◌, ◌%◌, ◌^◌}
 use Rattle.scop_syntax.specs.Reductions.{addend}
 use Rattle.scop_syntax.specs.View.{operator_of}
 use Rattle.scop_syntax.specs.declared.tree.Operator.{Operator}
-use Rattle.stmt_table.proofs.Compiling.{minus_made, zero_made}
+use Rattle.stmt_table.specs.declared.code.Step.TheVariants.{Negated}
+use Rattle.stmt_table.proofs.Compiling.{step_made, zero_made}
 use Rattle.stmt_table.proofs.code.put_addend.Goals as goal
 
 pub returns-in-Minus : goal.returns-in-Minus
 returns-in-Minus c = λ loops meant before makes.
-    minus_made loops (λ turns values. addend (operator_of c.args.operator) (meant turns values)) meant before
-    c.args.code.now c.put.new.code c.args.slot c.put.result makes
+    step_made loops (λ turns values. addend (operator_of c.args.operator) (meant turns values)) meant
+    (λ (x : ℕ). (2 ^ 64 - x) % 2 ^ 64) (Negated c.args.slot) before c.args.code.now c.put.new.code c.args.slot
+    c.put.result makes (λ n m l. l) (λ ls xs. refl)
     (λ turns values. ap (λ (o : Operator). addend (operator_of o) (meant turns values)) c.in-Minus.is) c.put.ensures
 
 pub returns-in-Times : goal.returns-in-Times
