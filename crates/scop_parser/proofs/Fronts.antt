@@ -43,7 +43,7 @@ mutual
 
 pub parameter-more : (d n e m : ℕ) (p : Parameter) → d ≤ e → n ≤ m → ParameterFits d n p → ParameterFits e m p
 parameter-more d n e m number x y f = tt
-parameter-more d n e m (array t ts) x y f = all-more d n e m (t ∷ ts) x y f
+parameter-more d n e m (array w t ts) x y f = all-more d n e m (t ∷ ts) x y f
 
 pub parameters-more : (d n e m : ℕ) (ps : List Parameter) → d ≤ e → n ≤ m → ParametersFit d n ps → ParametersFit e m ps
 parameters-more d n e m [] x y f = tt

@@ -1,5 +1,5 @@
 -- Where the tokens of a text have a name, the text spells one.
-use Rattle.std.proofs.Common.{◌≡◌, ◌∙◌, sym, ap, subst, refl, ℕ, zero, suc, ◌-◌, Bool, true, false, List, [], ◌∷◌}
+use Rattle.std.proofs.Common.{◌≡◌, ◌∙◌, sym, ap, subst, ℕ, zero, suc, ◌-◌, List, [], ◌∷◌}
 use Rattle.std.proofs.Common.{take, drop, slice_get, arith}
 use Rattle.std.specs.Prelude.{All, Some}
 use Rattle.scop_lexer.specs.Bytes.{Text}

@@ -47,7 +47,7 @@ parameter_unreserved words s at number h e =
       parameters = All-push IsUnreserved s.parameters (words.spelling (at + 1)) h.parameters named;
       declared = h.declared;
     }
-parameter_unreserved words s at (array x xs) h e = record { parameters = h.parameters; declared = h.declared }
+parameter_unreserved words s at (array w x xs) h e = record { parameters = h.parameters; declared = h.declared }
 
 parameters_unreserved : (words : Words) (s : Scope) (at : ℕ) (ps : List Parameter) → IsUnreservedScope s
     → parameters_faults words s at ps ≡ [] → IsUnreservedScope (behind_parameters words s at ps)
@@ -64,7 +64,7 @@ HasUnreservedName d = IsUnreserved d.name
 array_unreserved : (words : Words) (s : Scope) (at : ℕ) (p : Parameter) → parameter_faults words s at p ≡ []
     → All HasUnreservedName (its_array words s at p)
 array_unreserved words s at number e = All-nil HasUnreservedName
-array_unreserved words s at (array x xs) e =
+array_unreserved words s at (array w x xs) e =
     All-cons HasUnreservedName _ []
     (name_none words s (at + 1) (parts_none (name_faults words s (at + 1)) _ e).0) (All-nil HasUnreservedName)
 
@@ -147,7 +147,7 @@ taken_array k w [] e = absurd (cc)
 taken_array k w (a ∷ xs) e = by_test (bytes_eq a.name w) (array_in (k + 1) w xs) (taken_array (k + 1) w xs) e
   where
     by_test : (b : Bool) (m : Meaning) → (taken m ≡ None → ⊥)
-        → taken (if b then meaning.Array k a.rank else m) ≡ None → ⊥
+        → taken (if b then meaning.Array k a.rank a.narrow else m) ≡ None → ⊥
     by_test true m h f = absurd (cc)
     by_test false m h f = h f
 

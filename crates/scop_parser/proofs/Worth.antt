@@ -1,5 +1,5 @@
 -- The constants of a text have 64 bits.
-use Rattle.std.proofs.Common.{◌≡◌, ℕ, zero, suc, ◌-◌, ◌^◌, ◌<◌, ◌≤◌, Bool, true, false, ◌&&◌, if◌then◌else◌, ◌==◌, List}
+use Rattle.std.proofs.Common.{◌≡◌, ℕ, zero, suc, ◌^◌, ◌<◌, ◌≤◌, Bool, true, false, ◌&&◌, if◌then◌else◌, ◌==◌, List}
 use Rattle.std.proofs.Common.{[], ◌∷◌, length, take, drop, get_or, refl, subst, arith, nat_le, nat_lt, slice_get}
 use Rattle.std.specs.Prelude.{Option, Some, None, ⊤}
 use Rattle.std.specs.List.{prefix_len, take_while}
@@ -7,8 +7,8 @@ use Rattle.std.proofs.lemmas.Bool.{and_parts, leb-true}
 use Rattle.std.proofs.lemmas.Bool.Decides.{nat_tests}
 use Rattle.scop_lexer.specs.Bytes.{Text, is_blank, is_letter, is_digit, is_fresh}
 use Rattle.scop_lexer.specs.Words.{kind_of_word, word_stands}
-use Rattle.scop_lexer.specs.Constants.{is_hex_digit, number_behind, is_suffix, with_suffix, constant_in, is_hexadecimal}
-use Rattle.scop_lexer.specs.Constants.{is_octal, constant_of, numeral_stands_as, numeral_stands}
+use Rattle.scop_lexer.specs.Constants.{number_behind, radix, is_digit_in, greatest, is_suffix, with_suffix, constant_in}
+use Rattle.scop_lexer.specs.Constants.{is_hexadecimal, is_octal, constant_of, numeral_stands_as, numeral_stands}
 use Rattle.scop_lexer.specs.Gaps.{close, comment_stands_as, comment_stands, is_directive, line_of, hash_stands}
 use Rattle.scop_lexer.specs.Signs.{single, with_equal, doubled, doubled_with_equal, sign_or, sign_stands}
 use Rattle.scop_lexer.specs.Stands.{word_of, slash_stands, stands, stands_at}
@@ -16,6 +16,8 @@ use Rattle.scop_lexer.specs.Tokens.{IsToken, AreTokens, HasTokens}
 use Rattle.scop_lexer.specs.declared.stand.Stand.{Stand}
 use Rattle.scop_lexer.specs.declared.stand.Stand.TheVariants as stand
 use Rattle.scop_lexer.specs.declared.token.FaultKind.TheVariants as wrong
+use Rattle.expression_grammar.specs.Base.{Base}
+use Rattle.expression_grammar.specs.Base.TheVariants.{Decimal, Hexadecimal}
 use Rattle.expression_grammar.specs.Suffix.{Suffix}
 use Rattle.expression_grammar.specs.Suffix.TheVariants.{Absent, Present}
 use Rattle.expression_grammar.specs.Token.{Token as Kind}
@@ -51,28 +53,31 @@ is_below a b e = grind (arith, nat_tests, e)
 upto_below : (a b c : ℕ) → a ≤ b → b < c → a < c
 upto_below a b c h k = omega (arith, h, k)
 
-suffix_small : (limit value : ℕ) (w : Text) → limit < 2 ^ 64 → MayBeSmall (with_suffix limit value w)
-suffix_small limit value [] h =
-    option_if (nat_le value limit) (Some (Absent, value)) None
-    (λ e. upto_below value limit (2 ^ 64) (leb-true value limit e) h) tt
-suffix_small limit value (b ∷ bs) h =
+greatest_small : (base : Base) → greatest base < 2 ^ 64
+greatest_small Decimal = omega arith
+greatest_small Hexadecimal = omega arith
+
+suffix_small : (base : Base) (value : ℕ) (w : Text) → MayBeSmall (with_suffix base value w)
+suffix_small base value [] =
+    option_if (nat_le value (greatest base)) (Some (Absent base, value)) None
+    (λ e. upto_below value (greatest base) (2 ^ 64) (leb-true value (greatest base) e) (greatest_small base)) tt
+suffix_small base value (b ∷ bs) =
     option_if (is_suffix (b ∷ bs) && nat_lt value (2 ^ 64)) (Some (Present, value)) None
     (λ e. is_below value (2 ^ 64) (and_parts (is_suffix (b ∷ bs)) (nat_lt value (2 ^ 64)) e).1) tt
 
-in_small : (base : ℕ) (test : ℕ → Bool) (limit : ℕ) (w : Text) → limit < 2 ^ 64
-    → MayBeSmall (constant_in base test limit w)
-in_small base test limit w h =
-    option_if (prefix_len test w == 0) None
-    (with_suffix limit (number_behind base 0 (take_while test w)) (drop (prefix_len test w) w)) (λ e. tt)
-    (suffix_small limit (number_behind base 0 (take_while test w)) (drop (prefix_len test w) w) h)
+in_small : (base : Base) (w : Text) → MayBeSmall (constant_in base w)
+in_small base w =
+    let test = is_digit_in base in
+    let value = number_behind (radix base) 0 (take_while test w) in
+    option_if (prefix_len test w == 0) None (with_suffix base value (drop (prefix_len test w) w)) (λ e. tt)
+    (suffix_small base value (drop (prefix_len test w) w))
 
 constant_small : (w : Text) → MayBeSmall (constant_of w)
 constant_small w =
-    let hex = constant_in 16 is_hex_digit (2 ^ 64 - 1) (drop 2 w) in
-    let decimal = constant_in 10 is_digit (2 ^ 63 - 1) w in
+    let decimal = constant_in Decimal w in
     let other : Option (Suffix × ℕ) = if is_octal w then None else decimal in
-    option_if (is_hexadecimal w) hex other (λ e. in_small 16 is_hex_digit (2 ^ 64 - 1) (drop 2 w) (omega arith))
-    (option_if (is_octal w) None decimal (λ e. tt) (in_small 10 is_digit (2 ^ 63 - 1) w (omega arith)))
+    option_if (is_hexadecimal w) (constant_in Hexadecimal (drop 2 w)) other (λ e. in_small Hexadecimal (drop 2 w))
+    (option_if (is_octal w) None decimal (λ e. tt) (in_small Decimal w))
 
 numeral_small : (o : Option (Suffix × ℕ)) (n : ℕ) → MayBeSmall o → Small (numeral_stands_as o n)
 numeral_small (Some k) n h = h

@@ -7,6 +7,7 @@ use Rattle.std.proofs.lemmas.List.{append-nil}
 use Rattle.expression_grammar.specs.Assign.{Assign}
 use Rattle.expression_grammar.specs.Count.{Count}
 use Rattle.expression_grammar.specs.Tree.{Tree, tokens_of, size, written}
+use Rattle.expression_grammar.specs.Width.{Width}
 use Rattle.kernel_grammar.specs.declared.part.Mark.{Mark}
 use Rattle.kernel_grammar.specs.declared.part.Mark.TheVariants as kept
 use Rattle.kernel_grammar.specs.Kernel.{Element, sign, expression, Piece, mark_at, nodes_from, pieces, spelled}
@@ -42,7 +43,7 @@ use Rattle.scop_pass.proofs.UnitPlaces.{in-loop, in-statement, Lies, HeadLies}
 -- where the unit in hand begins; without one the next token's place
 abbrev begins : ℕ → Pending → ℕ
 begins at idle = at
-begins at (extents p fs) = p
+begins at (extents w p fs) = p
 begins at condition = at
 begins at (loop_begun p) = p
 begins at (loop_named h) = h.place
@@ -63,7 +64,7 @@ ReadFits b at _ = ⊤
 -- what is in hand stands between the unit's beginning and the next token
 abbrev Fits : ℕ → Pending → Type 0
 Fits at idle = ⊤
-Fits at (extents p fs) = (p < at) × AllLie p at fs
+Fits at (extents w p fs) = (p < at) × AllLie p at fs
 Fits at condition = ⊤
 Fits at (loop_begun p) = p < at
 Fits at (loop_named h) = IsBegun at h
@@ -133,7 +134,7 @@ later-read b at to (read.Assignment v a) le k = let l = k.1 in (k.0, omega (arit
 -- the next token is further on
 fits-later : (at to : ℕ) (p : Pending) → at ≤ to → Fits at p → Fits to p
 fits-later at to idle le h = tt
-fits-later at to (extents p fs) le h =
+fits-later at to (extents w p fs) le h =
     let l = h.0 in
     (omega (arith, l, le), all-wider p at p to fs (omega arith) le h.1)
 fits-later at to condition le h = tt
@@ -185,8 +186,8 @@ step-idle words s at kept.Number none =
 step-idle words s at kept.Declared none =
     goes-whole at (at + 1) s (idle_step words s kept.Declared at) (name_faults words s.scope at) refl none
     (in-told at (at + 1) at (redeclared s.scope (words.spelling at)) (omega arith) (omega arith)) (omega arith)
-step-idle words s at kept.Array none =
-    goes-on at (at + 1) s (expects s (extents at [])) refl (omega arith) (omega arith, tt)
+step-idle words s at (kept.Array w) none =
+    goes-on at (at + 1) s (expects s (extents w at [])) refl (omega arith) (omega arith, tt)
 step-idle words s at kept.Begin none =
     goes-whole at (at + 1) s (idle_step words s kept.Begin at) [] (sym (append-nil s.faults)) none tt
     (omega arith)
@@ -204,18 +205,18 @@ step-idle words s at kept.Place none =
 step-idle words s at _ none = stays at (at + 1) idle s none (omega arith) tt
 
 -- an array's extents are complete
-ranked-goes : (words : Words) (s : State) (at p : ℕ) (fs : List Formula) → Fits at (extents p fs)
-    → Goes p at s (ranked words s p fs)
-ranked-goes words s at p fs h =
+ranked-goes : (words : Words) (s : State) (w : Width) (at p : ℕ) (fs : List Formula) → Fits at (extents w p fs)
+    → Goes p at s (ranked words s w p fs)
+ranked-goes words s w at p fs h =
     let l = h.0 in
-    goes-whole p at s (ranked words s p fs) (array_faults words s.scope p fs) refl refl
+    goes-whole p at s (ranked words s w p fs) (array_faults words s.scope p fs) refl refl
     (in-array words s.scope p at p fs (omega arith) l h.1) (omega (arith, l))
 
-step-extents : (words : Words) (s : State) (at p : ℕ) (fs : List Formula) (m : Mark) → Fits at (extents p fs)
-    → Goes p (at + 1) s (idle_step words (ranked words s p fs) m at)
-step-extents words s at p fs m h =
-    let t = ranked words s p fs in
-    goes-then p at (at + 1) s t (idle_step words t m at) (ranked-goes words s at p fs h) (step-idle words t at m refl)
+step-extents : (words : Words) (s : State) (w : Width) (at p : ℕ) (fs : List Formula) (m : Mark)
+    → Fits at (extents w p fs) → Goes p (at + 1) s (idle_step words (ranked words s w p fs) m at)
+step-extents words s w at p fs m h =
+    let t = ranked words s w p fs in
+    goes-then p at (at + 1) s t (idle_step words t m at) (ranked-goes words s w at p fs h) (step-idle words t at m refl)
 
 -- a loop's head is complete
 opened-goes : (words : Words) (s : State) (b to : ℕ) (h : LoopHead) → HeadLies b to h → Goes b to s (loop_opened s h)
@@ -257,7 +258,7 @@ begun-before at h k = let a = k.0 in let b = k.1 in omega (arith, a, b)
 
 before : (at : ℕ) (q : Pending) → Fits at q → begins at q ≤ at
 before at idle k = omega arith
-before at (extents p fs) k = let l = k.0 in omega (arith, l)
+before at (extents w p fs) k = let l = k.0 in omega (arith, l)
 before at condition k = omega arith
 before at (loop_begun p) k = omega (arith, k)
 before at (loop_named h) k = begun-before at h k
@@ -322,7 +323,7 @@ step-placed s at f _ same k = stays at (at + 1) (placed f) s same (omega arith) 
 step-sign : (words : Words) (s : State) (at : ℕ) (q : Pending) (m : Mark) → s.pending ≡ q → Fits at q
     → Goes (begins at q) (at + 1) s (sign_step q words s m at)
 step-sign words s at idle m same k = step-idle words s at m same
-step-sign words s at (extents p fs) m same k = step-extents words s at p fs m k
+step-sign words s at (extents w p fs) m same k = step-extents words s w at p fs m k
 step-sign words s at (loop_begun p) m same k = step-begun s at p m same k
 step-sign words s at (loop_step h f g r) m same k = step-change words s at h f g r m same k
 step-sign words s at (placed f) m same k = step-placed s at f m same k
@@ -355,9 +356,9 @@ step-value s at to f a p e k le l =
 -- an expression's formula, which ends before the next token
 step-formula : (words : Words) (s : State) (at to : ℕ) (q : Pending) (f : Formula) → s.pending ≡ q → Fits at q → at ≤ to
     → Lies (begins at q) to f → Goes (begins at q) to s (formula_step q words s f)
-step-formula words s at to (extents p fs) f same k le l =
+step-formula words s at to (extents w p fs) f same k le l =
     let b = k.0 in
-    goes-on p to s (expects s (extents p (fs ++ f ∷ []))) refl (omega arith)
+    goes-on p to s (expects s (extents w p (fs ++ f ∷ []))) refl (omega arith)
     (omega (arith, b, le), all-behind p to fs f (all-wider p at p to fs (omega arith) le k.1) l)
 step-formula words s at to condition f same k le l =
     goes-whole at to s (guard_opened s f) (faults (entries s.scope) role.Condition f) refl refl
@@ -537,14 +538,14 @@ first-stays laws words es ps qs f same is =
 
 settled-goes : (words : Words) (s : State) (at : ℕ) (q : Pending) → s.pending ≡ q → Fits at q
     → Goes (begins at q) at s (settled_in q words s)
-settled-goes words s at (extents p fs) same h = ranked-goes words s at p fs h
+settled-goes words s at (extents w p fs) same h = ranked-goes words s w at p fs h
 settled-goes words s at q same h =
     goes-on (begins at q) at s s refl (subst (λ (x : Pending). begins at q ≤ begins at x) (sym same) (omega arith))
     (subst (λ (x : Pending). Fits at x) (sym same) h)
 
 settled-run : (words : Words) (s : State) (q : Pending) (m : Mark) (p : ℕ) (qs : List Piece) → s.pending ≡ q
     → run words s (mark_at m p ∷ qs) ≡ run words (settled_in q words s) (mark_at m p ∷ qs)
-settled-run words s (extents at fs) m p qs same =
+settled-run words s (extents w at fs) m p qs same =
     ap (λ (x : Pending). run words (sign_step x words s m p) qs) same
 settled-run words s q m p qs same = refl
 

@@ -2,6 +2,7 @@
 use Rattle.std.proofs.Common.{◌≡◌, ℕ, zero, suc, ◌+◌, List, [], ◌∷◌, ◌++◌, refl, sym, ap, ◌∙◌, append_assoc}
 use Rattle.std.proofs.lemmas.List.{append-nil}
 use Rattle.expression_grammar.specs.Tree.{Tree, size}
+use Rattle.expression_grammar.specs.Width.{Width}
 use Rattle.kernel_grammar.specs.declared.part.Mark.{Mark}
 use Rattle.kernel_grammar.specs.declared.part.Mark.TheVariants as kept
 use Rattle.kernel_grammar.specs.Kernel.{Element, Piece, mark_at, pieces, Parameter, number, array, extents}
@@ -9,6 +10,7 @@ use Rattle.kernel_grammar.specs.Kernel.{parameter_elements, other_parameters, ot
 use Rattle.scop_syntax.specs.Tree.{Declaration}
 use Rattle.scop_roles.specs.declared.fault.Fault.{Fault}
 use Rattle.scop_roles.specs.Formula.{Formula}
+use Rattle.scop_roles.specs.Forms.{is_narrow_width}
 use Rattle.scop_units.specs.Words.{Words}
 use Rattle.scop_units.specs.Scopes.{Scope, look}
 use Rattle.scop_units.specs.Judging.{width, formula_in, extents_in, parameter_faults, behind_parameter}
@@ -71,29 +73,30 @@ declarations-run words s at (k ∷ ks) =
     ∙ scoped-more s (name_faults words s.scope (at + 1)) (gs ++ hs) t.scope z))
 
 -- the extents of an array
-pub extents-run : (words : Words) (s : State) (n : ℕ) (fs : List Formula) (at : ℕ) (xs : List Tree)
-    → run words (expects s (machine.extents n fs)) (pieces at (extents xs))
-    ≡ expects s (machine.extents n (fs ++ extents_in words s.scope at xs))
-extents-run words s n fs at [] = ap (λ (gs : List Formula). expects s (machine.extents n gs)) (sym (append-nil fs))
-extents-run words s n fs at (x ∷ xs) =
+pub extents-run : (words : Words) (s : State) (w : Width) (n : ℕ) (fs : List Formula) (at : ℕ) (xs : List Tree)
+    → run words (expects s (machine.extents w n fs)) (pieces at (extents xs))
+    ≡ expects s (machine.extents w n (fs ++ extents_in words s.scope at xs))
+extents-run words s w n fs at [] =
+    ap (λ (gs : List Formula). expects s (machine.extents w n gs)) (sym (append-nil fs))
+extents-run words s w n fs at (x ∷ xs) =
     let f = formula_in words s.scope (at + 1) x in
     let rest = pieces (at + 1 + size x + 1) (extents xs) in
-    ap (λ (g : Formula). run words (expects s (machine.extents n (fs ++ g ∷ []))) rest)
+    ap (λ (g : Formula). run words (expects s (machine.extents w n (fs ++ g ∷ []))) rest)
     (formula-of-written (look words s.scope) (at + 1) x)
-    ∙ (extents-run words s n (fs ++ f ∷ []) (at + 1 + size x + 1) xs
-    ∙ ap (λ (gs : List Formula). expects s (machine.extents n gs))
+    ∙ (extents-run words s w n (fs ++ f ∷ []) (at + 1 + size x + 1) xs
+    ∙ ap (λ (gs : List Formula). expects s (machine.extents w n gs))
     (append_assoc fs (f ∷ []) (extents_in words s.scope (at + 1 + size x + 1) xs)))
 
 -- a parameter whose end may not be known yet
 abbrev pub half : Words → State → ℕ → Parameter → State
 half words s at number = expects (numbered words s (at + 1)) idle
-half words s at (array x xs) =
-    expects s (machine.extents (at + 1) (extents_in words s.scope (at + 1 + 1) (x ∷ xs)))
+half words s at (array w x xs) =
+    expects s (machine.extents w (at + 1) (extents_in words s.scope (at + 1 + 1) (x ∷ xs)))
 
 pub parameter-run : (words : Words) (s : State) (at : ℕ) (p : Parameter)
     → run words (expects s idle) (pieces at (parameter_elements p)) ≡ half words s at p
 parameter-run words s at number = refl
-parameter-run words s at (array x xs) = extents-run words s (at + 1) [] (at + 1 + 1) (x ∷ xs)
+parameter-run words s at (array w x xs) = extents-run words s w (at + 1) [] (at + 1 + 1) (x ∷ xs)
 
 abbrev pub with_arrays : State → List Fault → Scope → List Declaration → State
 with_arrays s fs z ds = record s { faults = s.faults ++ fs; scope = z; arrays = s.arrays ++ ds }
@@ -125,11 +128,12 @@ half-flushes words s at number m q rest =
     let t = numbered words s (at + 1) in
     ap (λ (x : State). run words (expects x idle) (mark_at m q ∷ rest))
     (with-no-arrays s (number_faults words s.scope (at + 1)) t.scope)
-half-flushes words s at (array x xs) m q rest =
+half-flushes words s at (array w x xs) m q rest =
     let fs = extents_in words s.scope (at + 1 + 1) (x ∷ xs) in
-    let w = words.spelling (at + 1) in
-    let t = with_arrays s (array_faults words s.scope (at + 1) fs) s.scope (array_of words s.scope (at + 1) fs ∷ []) in
-    ap (λ (n : ℕ). run words (record t { scope = scopes.with_array s.scope w n; pending = idle }) (mark_at m q ∷ rest))
+    let ds = array_of words s.scope (at + 1) w fs ∷ [] in
+    let t = with_arrays s (array_faults words s.scope (at + 1) fs) s.scope ds in
+    let in_scope : ℕ → Scope = λ n. scopes.with_array s.scope (words.spelling (at + 1)) n (is_narrow_width w) in
+    ap (λ (n : ℕ). run words (record t { scope = in_scope n; pending = idle }) (mark_at m q ∷ rest))
     (extents_length words s.scope (at + 1 + 1) (x ∷ xs))
 
 -- the first piece of a parameter is a mark
@@ -137,8 +141,8 @@ pub parameter-flushes : (words : Words) (x s : State) (at : ℕ) (p : Parameter)
     → run words x (pieces at (parameter_elements p) ++ rest)
     ≡ run words (expects s idle) (pieces at (parameter_elements p) ++ rest)
 parameter-flushes words x s at number rest flush = flush kept.Number (at + 1) rest
-parameter-flushes words x s at (array y ys) rest flush =
-    flush kept.Array (at + 1) (pieces (at + 1 + 1) (extents (y ∷ ys)) ++ rest)
+parameter-flushes words x s at (array w y ys) rest flush =
+    flush (kept.Array w) (at + 1) (pieces (at + 1 + 1) (extents (y ∷ ys)) ++ rest)
 
 -- the parameters behind the first
 abbrev pub with_parameters : Words → State → ℕ → List Parameter → State

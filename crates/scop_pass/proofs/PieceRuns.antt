@@ -45,7 +45,7 @@ place-width (tree.group t) i g = absurd i
 place-width tree.bare_call i g = absurd i
 place-width (tree.call t) i g = absurd i
 place-width (tree.unary k t) i g = absurd i
-place-width (tree.cast t) i g = absurd i
+place-width (tree.cast w t) i g = absurd i
 place-width (tree.binary o l r) i g = absurd i
 
 -- a place, with all its subscripts
@@ -65,7 +65,7 @@ place-run words s at (tree.group t) i g = absurd i
 place-run words s at tree.bare_call i g = absurd i
 place-run words s at (tree.call t) i g = absurd i
 place-run words s at (tree.unary k t) i g = absurd i
-place-run words s at (tree.cast t) i g = absurd i
+place-run words s at (tree.cast w t) i g = absurd i
 place-run words s at (tree.binary o l r) i g = absurd i
 
 -- a loop's head with its step

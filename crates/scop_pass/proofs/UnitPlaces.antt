@@ -24,7 +24,8 @@ use Rattle.scop_units.specs.Scopes.{Scope, entries, redeclared, iterator_fault}
 use Rattle.scop_units.specs.Loops.{LoopHead, Change, counted, assigned, change_faults, part_faults, loop_faults}
 use Rattle.scop_units.specs.Loops.{is_form}
 use Rattle.scop_units.specs.Units.{Stored, name_faults, number_faults, array_faults, extent_faults, statement_faults}
-use Rattle.scop_units.specs.Units.{stored_faults, cell_faults, own_cell, own_assign, own_read, reads_of, read_limit}
+use Rattle.scop_units.specs.Units.{stored_faults, cell_faults, own_cell, is_narrow_cell, own_assign, own_read, reads_of}
+use Rattle.scop_units.specs.Units.{read_limit}
 use Rattle.scop_roles.specs.Resolving.{formula_of_nodes}
 use Rattle.scop_roles.proofs.FormulaStack.{formula-of-written}
 
@@ -141,8 +142,8 @@ reads-tree laws see at (tree.call t) = tt
 reads-tree laws see at (tree.unary s t) =
     places-wider (at + 1) (at + 1 + size t) at (at + size (tree.unary s t)) (read_places (formula see (at + 1) t))
     (omega arith) (omega arith) (reads-tree laws see (at + 1) t)
-reads-tree laws see at (tree.cast t) =
-    places-wider (at + 1 + 1 + 1) (at + 1 + 1 + 1 + size t) at (at + size (tree.cast t))
+reads-tree laws see at (tree.cast w t) =
+    places-wider (at + 1 + 1 + 1) (at + 1 + 1 + 1 + size t) at (at + size (tree.cast w t))
     (read_places (formula see (at + 1 + 1 + 1) t)) (omega arith) (omega arith) (reads-tree laws see (at + 1 + 1 + 1) t)
 reads-tree laws see at (tree.binary o a b) =
     let q = at + size a + 1 in
@@ -287,11 +288,12 @@ in-statement n comparisons before b e x h k low high =
     (in-told b e p (own_cell x.cell) h.from h.below)
     (in-judged b e (place_faults n x.cell) rank (h.told_places n) (in-told b e p (own_rank x.cell) h.from h.below)) in
     let both = cell_faults n x.cell ++ faults n role.Value x.value in
-    let last = told x.assign_at (own_assign x.assign x.value) in
+    let own = own_assign (is_narrow_cell x.cell) x.assign x.value in
+    let last = told x.assign_at own in
     let one : In b e (stored_faults n x) =
     in-judged b e both last
     (in-append b e (cell_faults n x.cell) (faults n role.Value x.value) cell (k.told_faults n role.Value))
-    (in-told b e x.assign_at (own_assign x.assign x.value) low high) in
+    (in-told b e x.assign_at own low high) in
     let limit = read_limit (slice_get (reads_of x) 16) in
     let deep = only_where (nat_lt 16 comparisons) kind.Depth in
     let many = only_where (nat_le 32 before) kind.Statements in

@@ -3,6 +3,7 @@
 use Rattle.std.specs.Prelude.{ℕ, ◌+◌, ◌-◌, true, false, List, [], ◌∷◌, ◌++◌, length, map, take, Option, Some, None}
 use Rattle.expression_grammar.specs.Assign.{Assign}
 use Rattle.expression_grammar.specs.Count.{Count}
+use Rattle.expression_grammar.specs.Width.{Width}
 use Rattle.kernel_grammar.specs.Kernel.{Piece, mark_at, nodes_from}
 use Rattle.kernel_grammar.specs.declared.part.Mark.{Mark}
 use Rattle.kernel_grammar.specs.declared.part.Mark.TheVariants as kept
@@ -15,6 +16,7 @@ use Rattle.scop_roles.specs.declared.formula.Role.TheVariants as role
 use Rattle.scop_roles.specs.Formula.{Formula, name, index, Lookup}
 use Rattle.scop_roles.specs.Resolving.{formula_of_nodes}
 use Rattle.scop_roles.specs.Faults.{faults}
+use Rattle.scop_roles.specs.Forms.{is_narrow_width}
 use Rattle.scop_roles.specs.Values.{tests}
 use Rattle.scop_units.specs.Words.{Words}
 use Rattle.scop_units.specs.Scopes.{Scope, no_scope, with_parameter, with_array, with_iterator, with_loop, entries}
@@ -37,7 +39,7 @@ pub data Frame : Type 0 where
 -- what of a declaration, a head or a statement was read
 pub data Pending : Type 0 where
   idle : Pending
-  extents : ℕ → List Formula → Pending
+  extents : Width → ℕ → List Formula → Pending
   condition : Pending
   loop_begun : ℕ → Pending
   loop_named : Begun → Pending
@@ -132,12 +134,12 @@ abbrev pub named : Words → State → ℕ → State
 named words s at = record s { name = words.spelling at; faults = s.faults ++ kernel_name_faults words at }
 
 -- an array with all its extents
-abbrev pub ranked : Words → State → ℕ → List Formula → State
-ranked words s at fs =
+abbrev pub ranked : Words → State → Width → ℕ → List Formula → State
+ranked words s w at fs =
     record s {
       faults = s.faults ++ array_faults words s.scope at fs;
-      arrays = s.arrays ++ array_of words s.scope at fs ∷ [];
-      scope = with_array s.scope (words.spelling at) (length fs);
+      arrays = s.arrays ++ array_of words s.scope at w fs ∷ [];
+      scope = with_array s.scope (words.spelling at) (length fs) (is_narrow_width w);
       pending = idle;
     }
 
@@ -147,7 +149,7 @@ ranked words s at fs =
 abbrev pub idle_step : Words → State → Mark → ℕ → State
 idle_step words s kept.Kernel at = named words s at
 idle_step words s kept.Number at = numbered words s at
-idle_step words s kept.Array at = expects s (extents at [])
+idle_step words s (kept.Array w) at = expects s (extents w at [])
 idle_step words s kept.Declared at = declared words s at
 idle_step words s kept.Begin at = record s { frames = block ∷ s.frames }
 idle_step words s kept.End at = closed s.frames s
@@ -224,7 +226,7 @@ placed_step s p _ at = s
 -- a sign behind what is in hand
 abbrev pub sign_step : Pending → Words → State → Mark → ℕ → State
 sign_step idle words s m at = idle_step words s m at
-sign_step (extents p fs) words s m at = idle_step words (ranked words s p fs) m at
+sign_step (extents w p fs) words s m at = idle_step words (ranked words s w p fs) m at
 sign_step (loop_begun p) words s m at = begun_step s p m at
 sign_step (loop_step h f g r) words s m at = change_step words s h f g r m at
 sign_step (placed f) words s m at = placed_step s f m at
@@ -263,7 +265,7 @@ whole_statement p a at f = record { cell = p; assign = a; assign_at = at; value 
 
 -- an expression's formula behind what is in hand
 abbrev pub formula_step : Pending → Words → State → Formula → State
-formula_step (extents p fs) words s f = expects s (extents p (fs ++ f ∷ []))
+formula_step (extents w p fs) words s f = expects s (extents w p (fs ++ f ∷ []))
 formula_step condition words s f = guard_opened s f
 formula_step (loop_named h) words s f = expects s (loop_first h f)
 formula_step (loop_first h f) words s g = expects s (loop_step h f g read.Nothing)
@@ -293,7 +295,7 @@ step words s p = step_in s.pending words s p
 
 -- an array in hand is whole, as it is before a sign
 abbrev pub settled_in : Pending → Words → State → State
-settled_in (extents at fs) words s = ranked words s at fs
+settled_in (extents w at fs) words s = ranked words s w at fs
 settled_in _ words s = s
 
 -- an array in hand is whole in a state

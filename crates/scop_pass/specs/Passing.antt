@@ -53,7 +53,7 @@ hand_of (hand.Valued f a at) = valued (formula_of f) a at
 
 -- what of a declaration, a head or a statement was read, as the code holds it
 abbrev pub pending_of : CodePending → Pending
-pending_of (pending.Extents at fs) = extents at (map formula_of fs.items)
+pending_of (pending.Extents w at fs) = extents w at (map formula_of fs.items)
 pending_of (pending.Hand h) = hand_of h
 
 -- the state that a pass stands for: it goes on as long as there is no fault

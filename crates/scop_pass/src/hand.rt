@@ -62,7 +62,7 @@ impl Pass {
             Mark::Kernel => self.named(alloc, words, at),
             Mark::Number => self.numbered(alloc, words, at),
             Mark::Declared => self.declared(alloc, words, at),
-            Mark::Array => self.begin_array(alloc, at),
+            Mark::Array(width) => self.begin_array(alloc, width, at),
             Mark::Begin => self.begin(),
             Mark::End => self.end(),
             Mark::Empty => self.complete(),

@@ -12,6 +12,7 @@ ghost use Rattle.scop_units.specs.View.{scope_of, words_in};
 use crate::lists::{push, push_formula, push_name};
 use crate::pass::{Pass, Stop, checked};
 use crate::pending::{Hand, Pending};
+use expression_grammar::token::Width;
 use kernel_grammar::part::Mark;
 use scop_roles::formula::Formula;
 use scop_units::scope::copied;
@@ -47,25 +48,26 @@ impl Pass {
     }
 
     // An array begins.
-    pub(crate) fn begin_array(&mut self, alloc: Global, at: usize) -> Result<(), Stop>
-        ensures { Comes result (state_of self.new) (expects (state_of self.old) (machine.extents at [])) }
+    pub(crate) fn begin_array(&mut self, alloc: Global, width: Width, at: usize) -> Result<(), Stop>
+        ensures { Comes result (state_of self.new) (expects (state_of self.old) (machine.extents width at [])) }
     {
-        self.keep(Pending::Extents(at, Vec::new(alloc)));
+        self.keep(Pending::Extents(width, at, Vec::new(alloc)));
         Ok(())
     }
 
     // An extent more.
     pub(crate) fn extent(
         &mut self,
+        width: Width,
         at: usize,
         mut extents: Vec<Formula>,
         formula: Formula,
     ) -> Result<(), Stop>
         ensures { Comes result (state_of self.new) (expects (state_of self.old)
-            (machine.extents at (map formula_of extents.items ++ formula_of formula ∷ []))) }
+            (machine.extents width at (map formula_of extents.items ++ formula_of formula ∷ []))) }
     {
         push_formula(&mut extents, formula)?;
-        self.keep(Pending::Extents(at, extents));
+        self.keep(Pending::Extents(width, at, extents));
         Ok(())
     }
 
@@ -74,14 +76,15 @@ impl Pass {
         &mut self,
         alloc: Global,
         words: &Words,
+        width: Width,
         at: usize,
         extents: &[Formula],
     ) -> Result<(), Stop>
         requires { array_faults (words_in words.now) (scope_of self.old.scope) at (map formula_of extents.now) ≡ [] }
         ensures { Comes result (state_of self.new)
-            (ranked (words_in words.now) (state_of self.old) at (map formula_of extents.now)) }
+            (ranked (words_in words.now) (state_of self.old) width at (map formula_of extents.now)) }
     {
-        let array = array_of(alloc, words, &self.scope, at, extents)?;
+        let array = array_of(alloc, words, &self.scope, at, width, extents)?;
         push(&mut self.scope.arrays, array)?;
         self.keep(Pending::Hand(Hand::Idle));
         Ok(())
@@ -91,14 +94,15 @@ impl Pass {
         &mut self,
         alloc: Global,
         words: &Words,
+        width: Width,
         at: usize,
         extents: &[Formula],
     ) -> Result<(), Stop>
         ensures { Comes result (state_of self.new)
-            (ranked (words_in words.now) (state_of self.old) at (map formula_of extents.now)) }
+            (ranked (words_in words.now) (state_of self.old) width at (map formula_of extents.now)) }
     {
         checked(array_fault(alloc, words, &self.scope, at, extents))?;
-        self.rank(alloc, words, at, extents)
+        self.rank(alloc, words, width, at, extents)
     }
 
     // A sign behind an array with its extents.
@@ -106,16 +110,17 @@ impl Pass {
         &mut self,
         alloc: Global,
         words: &Words,
+        width: Width,
         name_at: usize,
         extents: &[Formula],
         mark: Mark,
         at: usize,
     ) -> Result<(), Stop>
         ensures { Steps result (words_in words.now)
-            (expects (state_of self.old) (machine.extents name_at (map formula_of extents.now)))
+            (expects (state_of self.old) (machine.extents width name_at (map formula_of extents.now)))
             (state_of self.new) (mark_at mark at) }
     {
-        self.ranked(alloc, words, name_at, extents)?;
+        self.ranked(alloc, words, width, name_at, extents)?;
         self.idle_step(alloc, words, mark, at)
     }
 }

@@ -144,8 +144,8 @@ impl Pass {
             (state_of self.new) (mark_at mark at) }
     {
         match pending {
-            Pending::Extents(name_at, extents) => {
-                self.behind_array(alloc, words, name_at, &extents, mark, at)
+            Pending::Extents(width, name_at, extents) => {
+                self.behind_array(alloc, words, width, name_at, &extents, mark, at)
             }
             Pending::Hand(hand) => self.sign_step(alloc, words, hand, mark, at),
         }
@@ -163,7 +163,7 @@ impl Pass {
             (expects (state_of self.old) (pending_of pending)) (formula_of formula)) }
     {
         match pending {
-            Pending::Extents(at, extents) => self.extent(at, extents, formula),
+            Pending::Extents(width, at, extents) => self.extent(width, at, extents, formula),
             Pending::Hand(hand) => self.hand_formula(alloc, words, hand, formula),
         }
     }

@@ -4,7 +4,7 @@ ghost use Rattle.std.specs.Prelude.{◌≡◌};
 ghost use Rattle.scop_pass.specs.Machine.{inner_of};
 ghost use Rattle.scop_pass.specs.Passing.{hand_of, pending_of};
 
-use expression_grammar::token::{Assign, Count};
+use expression_grammar::token::{Assign, Count, Width};
 use scop_roles::formula::Formula;
 
 // A loop's head up to its name.
@@ -48,7 +48,7 @@ pub(crate) enum Hand {
 // An array, which the next sign completes, or what signs and expressions go on with.
 #[derive(Drop)]
 pub(crate) enum Pending {
-    Extents(usize, Vec<Formula>),
+    Extents(Width, usize, Vec<Formula>),
     Hand(Hand),
 }
 
@@ -67,7 +67,7 @@ pub(crate) fn inner_of(pending: &Pending) -> Option<usize>
     ensures { result ≡ inner_of (pending_of pending.now) }
 {
     match pending {
-        Pending::Extents(_, _) => None,
+        Pending::Extents(_, _, _) => None,
         Pending::Hand(hand) => name_in_hand(hand),
     }
 }

@@ -7,6 +7,7 @@ use Rattle.expression_grammar.specs.Tree.{Tree, constant, name, group, index, ba
 use Rattle.expression_grammar.specs.Tree.{written, size}
 use Rattle.expression_grammar.specs.Op.{Op}
 use Rattle.expression_grammar.specs.declared.token.Sign.{Sign}
+use Rattle.expression_grammar.specs.Width.{Width}
 use Rattle.expression_grammar.specs.declared.node.Node.{Node}
 use Rattle.expression_grammar.specs.declared.node.Node.TheVariants as node
 use Rattle.scop_roles.specs.Formula as f
@@ -35,16 +36,17 @@ fold-written look first at p (call t) stack rest e =
     simp append_assoc refl in
     let n = f.name (look.meaning p) p in
     ap (fold (built look first) stack) flat
-    ∙ (ap (λ (q : ℕ). fold (built look first) (f.name (look.meaning q) q ∷ stack) (written (at + 1 + 1) t ++ x ∷ rest)) e
+    ∙ (ap (λ (q : ℕ). fold (built look first) (f.name (look.meaning q) q ∷ stack)
+    (written (at + 1 + 1) t ++ x ∷ rest)) e
     ∙ fold-written look first (at + 1 + 1) (p + 1 + 1) t (n ∷ stack) (x ∷ rest) (omega (arith, e)))
 fold-written look first at p (unary s t) stack rest e =
     let x = node.Unary s at in
     let flat : written at (unary s t) ++ rest ≡ written (at + 1) t ++ x ∷ rest = simp append_assoc refl in
     ap (fold (built look first) stack) flat
     ∙ (fold-written look first (at + 1) (p + 1) t stack (x ∷ rest) (omega (arith, e)) ∙ rw e refl)
-fold-written look first at p (cast t) stack rest e =
-    let x = node.Cast at in
-    let flat : written at (cast t) ++ rest ≡ written (at + 1 + 1 + 1) t ++ x ∷ rest = simp append_assoc refl in
+fold-written look first at p (cast w t) stack rest e =
+    let x = node.Cast w at in
+    let flat : written at (cast w t) ++ rest ≡ written (at + 1 + 1 + 1) t ++ x ∷ rest = simp append_assoc refl in
     ap (fold (built look first) stack) flat
     ∙ (fold-written look first (at + 1 + 1 + 1) (p + 1 + 1 + 1) t stack (x ∷ rest) (omega (arith, e)) ∙ rw e refl)
 fold-written look first at p (binary o l r) stack rest e =
@@ -101,8 +103,8 @@ size_call t = simp length-append (omega arith)
 pub size_unary : (s : Sign) (t : Tree) → size (unary s t) ≡ size t + 1
 size_unary s t = omega arith
 
-pub size_cast : (t : Tree) → size (cast t) ≡ size t + 3
-size_cast t = omega arith
+pub size_cast : (w : Width) (t : Tree) → size (cast w t) ≡ size t + 3
+size_cast w t = omega arith
 
 pub size_binary : (o : Op) (a b : Tree) → size (binary o a b) ≡ size a + (size b + 1)
 size_binary o a b = simp length-append (omega arith)
@@ -131,9 +133,9 @@ places_below at end (unary s t) h =
     let e = size_unary s t in
     below-append end (written (at + 1) t) (node.Unary s at ∷ []) (places_below (at + 1) end t (omega arith))
     (omega arith, tt)
-places_below at end (cast t) h =
-    let e = size_cast t in
-    below-append end (written (at + 1 + 1 + 1) t) (node.Cast at ∷ [])
+places_below at end (cast w t) h =
+    let e = size_cast w t in
+    below-append end (written (at + 1 + 1 + 1) t) (node.Cast w at ∷ [])
     (places_below (at + 1 + 1 + 1) end t (omega arith))
     (omega arith, tt)
 places_below at end (binary o a b) h =

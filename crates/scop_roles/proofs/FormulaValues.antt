@@ -1,24 +1,26 @@
 -- The values and the comparisons that the code makes of a formula's parts.
-use Rattle.std.proofs.Common.{◌≡◌, ℕ, true, false, List, [], ◌∷◌, ◌++◌, None, Result, Ok, Err, ap, sym, subst, ◌∙◌}
-use Rattle.std.proofs.Common.{refl, append_assoc}
+use Rattle.std.proofs.Common.{◌≡◌, ℕ, Bool, true, false, ◌&&◌, List, [], ◌∷◌, ◌++◌, None, Result, Ok, Err, ap, sym}
+use Rattle.std.proofs.Common.{subst, ◌∙◌, refl, append_assoc}
+use Rattle.std.proofs.lemmas.Bool.{and_parts}
 use Rattle.std.specs.Prelude.{OnOk, IfOk}
 use Rattle.std.specs.declared.alloc.AllocError.{AllocError}
 use Rattle.whole_numbers.specs.Affine.{Affine}
-use Rattle.scop_syntax.specs.Tree.{Expression, affine, read, Test}
+use Rattle.scop_syntax.specs.Tree.{Expression, affine, read, implied, converted, Test}
 use Rattle.scop_syntax.specs.Tree as scop
 use Rattle.expression_grammar.specs.Op.{Op}
 use Rattle.expression_grammar.specs.declared.token.Sign.{Sign}
+use Rattle.expression_grammar.specs.Width.{Width}
 use Rattle.scop_roles.specs.declared.formula.Role.TheVariants as role
 use Rattle.scop_roles.specs.Formula.{Formula, index, unary, cast, binary}
-use Rattle.scop_roles.specs.Forms.{is_shift, is_and, is_signed, form}
+use Rattle.scop_roles.specs.Forms.{is_sum_or_product, is_shift, is_and, is_signed, has_name, is_narrow, form}
 use Rattle.scop_roles.specs.Faults.{first, faults, place_faults, is_count}
 use Rattle.scop_roles.specs.Values.{access, subscript_forms, expression, IsValueOf, signed_value, combined, count}
-use Rattle.scop_roles.specs.Values.{comparison, tests}
+use Rattle.scop_roles.specs.Values.{comparison, tests, operator, narrowed_where, cast_to, joined, IsSideOf}
 use Rattle.scop_roles.specs.declared.judgement.Judgement.{Judgement}
 use Rattle.scop_roles.specs.Judgement.{HasForm, IsJudgement}
 use Rattle.scop_roles.proofs.NodeFaults.{signed_is_affine}
 use Rattle.scop_roles.proofs.Parts.{place_parts, index_value, cast_value, unary_value, signed_unary, signed_binary}
-use Rattle.scop_roles.proofs.Parts.{binary_value, shift_count, condition_sides, comparison_sides}
+use Rattle.scop_roles.proofs.Parts.{binary_value, shift_count, combined_plain, condition_sides, comparison_sides}
 
 pub on_ok : {T E : Type 0} {P Q : Type 0} (r : Result T E) → (P → Q) → OnOk r P → OnOk r Q
 on_ok (Ok x) f h = f h
@@ -32,6 +34,16 @@ if_ok (Err e) f h = tt
 pub judged_limits : (n : ℕ) (f : Formula) (r : Result Judgement AllocError) → IfOk r (IsJudgement n f)
     → IfOk r (λ j. HasForm n j.form)
 judged_limits n f r judged = if_ok r (λ j known. known.limits) judged
+
+-- where no name stands in the left side of a signed operator, one stands in it if in the right side
+pub named_right : (f : Formula) (o : Op) (g k : Formula) (at : ℕ) (l r : Bool) → f ≡ binary o g k at
+    → (is_signed g ≡ true → l ≡ has_name g) → l ≡ false → (is_signed k ≡ true → r ≡ has_name k) → is_signed f ≡ true
+    → r ≡ has_name f
+named_right f o g k at l r e left none right signed =
+    let all = and_parts (is_sum_or_product o) (is_signed g && is_signed k) (subst (λ f. is_signed f ≡ true) e signed) in
+    let both = and_parts (is_signed g) (is_signed k) all.1 in
+    let whole : has_name k ≡ has_name (binary o g k at) = rw (sym (left both.0) ∙ none) refl in
+    right both.1 ∙ whole ∙ ap has_name (sym e)
 
 pub pushed_subscripts : (n : ℕ) (f p i : Formula) (old mid new : List Affine) (x : Affine) → f ≡ index p i
     → (first (place_faults n p) ≡ None → mid ≡ old ++ subscript_forms n p)
@@ -70,36 +82,56 @@ signed_binary_value n f o g k at x e signed x_is h =
     x_is (subst (λ f. first (faults n role.Affine f) ≡ None) (sym e) none)
     ∙ subst (λ f. affine (form n f) ≡ expression n f) (sym e) whole
 
-pub unsigned_unary_value : (n : ℕ) (s : Sign) (g : Formula) (at : ℕ) (x y : Expression)
-    → is_signed (unary s g at) ≡ false → IsValueOf n g y → x ≡ signed_value s y → IsValueOf n (unary s g at) x
-unsigned_unary_value n s g at x y unsigned y_is x_is h =
-    let whole : signed_value s (expression n g) ≡ expression n (unary s g at) = rw unsigned refl in
-    x_is ∙ ap (λ z. signed_value s z) (y_is (unary_value n s g at unsigned h)) ∙ whole
+pub unsigned_unary_value : (n : ℕ) (s : Sign) (g : Formula) (at : ℕ) (b : Bool) (x y : Expression)
+    → is_signed (unary s g at) ≡ false → b ≡ is_narrow (unary s g at) → IsValueOf n g y
+    → x ≡ narrowed_where b implied (signed_value s y) → IsValueOf n (unary s g at) x
+unsigned_unary_value n s g at b x y unsigned b_is y_is x_is h =
+    let whole : narrowed_where (is_narrow (unary s g at)) implied (signed_value s (expression n g))
+    ≡ expression n (unary s g at) = rw unsigned refl in
+    x_is ∙ ap (λ c. narrowed_where c implied (signed_value s y)) b_is
+    ∙ ap (λ z. narrowed_where (is_narrow (unary s g at)) implied (signed_value s z))
+    (y_is (unary_value n s g at unsigned h)) ∙ whole
 
-pub cast_of_value : (n : ℕ) (g : Formula) (at : ℕ) (x y : Expression) → IsValueOf n g y → x ≡ scop.cast y
-    → IsValueOf n (cast g at) x
-cast_of_value n g at x y y_is x_is h = x_is ∙ ap (λ z. scop.cast z) (y_is (cast_value n g at h))
+pub cast_of_value : (n : ℕ) (w : Width) (g : Formula) (at : ℕ) (x y : Expression) → IsValueOf n g y → x ≡ cast_to w y
+    → IsValueOf n (cast w g at) x
+cast_of_value n w g at x y y_is x_is h = x_is ∙ ap (λ z. cast_to w z) (y_is (cast_value n w g at h))
 
-pub shift_value : (n : ℕ) (o : Op) (g k : Formula) (at : ℕ) (x y : Expression) (c : ℕ)
-    → is_signed (binary o g k at) ≡ false → is_shift o ≡ true → IsValueOf n g y
-    → ((d : Expression) → x ≡ combined o y d c) → (is_count 0 63 k ≡ true → c ≡ count k)
+pub converted_side : (n : ℕ) (b t : Bool) (g : Formula) (x y : Expression) → t ≡ (b && is_signed g) → IsValueOf n g y
+    → x ≡ narrowed_where t converted y → IsSideOf n b g x
+converted_side n b t g x y t_is y_is x_is h =
+    x_is ∙ ap (λ u. narrowed_where u converted y) t_is
+    ∙ ap (λ z. narrowed_where (b && is_signed g) converted z) (y_is h)
+
+pub shift_value : (n : ℕ) (o : Op) (g k : Formula) (at : ℕ) (b : Bool) (x y : Expression) (c : ℕ)
+    → is_signed (binary o g k at) ≡ false → is_shift o ≡ true → b ≡ is_narrow (binary o g k at) → IsSideOf n b g y
+    → ((d : Expression) → x ≡ narrowed_where b implied (combined o y d c)) → (is_count 0 63 k ≡ true → c ≡ count k)
     → IsValueOf n (binary o g k at) x
-shift_value n o g k at x y c unsigned shift y_is x_is c_is h =
+shift_value n o g k at b x y c unsigned shift b_is y_is x_is c_is h =
     let parts = binary_value n o g k at unsigned h in
-    let whole : combined o (expression n g) (expression n k) (count k) ≡ expression n (binary o g k at) =
+    let left = narrowed_where (b && is_signed g) converted (expression n g) in
+    let right = narrowed_where (b && is_signed k) converted (expression n k) in
+    let whole : joined o g k at (expression n g) (expression n k) ≡ expression n (binary o g k at) =
     rw unsigned refl in
-    x_is (expression n k) ∙ ap (λ z. combined o z (expression n k) c) (y_is parts.0)
-    ∙ ap (λ m. combined o (expression n g) (expression n k) m) (c_is (shift_count n o g k at shift h)) ∙ whole
+    let wide : narrowed_where b implied (combined o left right (count k))
+    ≡ joined o g k at (expression n g) (expression n k) = rw b_is refl in
+    x_is right ∙ ap (λ z. narrowed_where b implied (combined o z right c)) (y_is parts.0)
+    ∙ ap (λ m. narrowed_where b implied (combined o left right m)) (c_is (shift_count n o g k at shift h)) ∙ wide
+    ∙ whole
 
-pub joined_value : (n : ℕ) (o : Op) (g k : Formula) (at : ℕ) (x y z : Expression)
-    → is_signed (binary o g k at) ≡ false → IsValueOf n g y → IsValueOf n k z → ((c : ℕ) → x ≡ combined o y z c)
-    → IsValueOf n (binary o g k at) x
-joined_value n o g k at x y z unsigned y_is z_is x_is h =
+pub joined_value : (n : ℕ) (o : Op) (g k : Formula) (at : ℕ) (b : Bool) (x y z : Expression) → is_shift o ≡ false
+    → is_signed (binary o g k at) ≡ false → b ≡ is_narrow (binary o g k at) → IsSideOf n b g y → IsSideOf n b k z
+    → x ≡ narrowed_where b implied (scop.binary (operator o) y z) → IsValueOf n (binary o g k at) x
+joined_value n o g k at b x y z plain unsigned b_is y_is z_is x_is h =
     let parts = binary_value n o g k at unsigned h in
-    let whole : combined o (expression n g) (expression n k) (count k) ≡ expression n (binary o g k at) =
+    let left = narrowed_where (b && is_signed g) converted (expression n g) in
+    let right = narrowed_where (b && is_signed k) converted (expression n k) in
+    let whole : joined o g k at (expression n g) (expression n k) ≡ expression n (binary o g k at) =
     rw unsigned refl in
-    x_is (count k) ∙ ap (λ v. combined o v z (count k)) (y_is parts.0)
-    ∙ ap (λ v. combined o (expression n g) v (count k)) (z_is parts.1) ∙ whole
+    let wide : narrowed_where b implied (combined o left right (count k))
+    ≡ joined o g k at (expression n g) (expression n k) = rw b_is refl in
+    x_is ∙ ap (λ v. narrowed_where b implied v) (sym (combined_plain o y z (count k) plain))
+    ∙ ap (λ v. narrowed_where b implied (combined o v z (count k))) (y_is parts.0)
+    ∙ ap (λ v. narrowed_where b implied (combined o left v (count k))) (z_is parts.1) ∙ wide ∙ whole
 
 pub joined_tests : (n : ℕ) (f : Formula) (o : Op) (g k : Formula) (at : ℕ) (old mid new : List Test)
     → f ≡ binary o g k at

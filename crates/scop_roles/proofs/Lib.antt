@@ -7,6 +7,8 @@ pub mod Views
 pub mod FormulaStack
 pub mod Chains
 pub mod Parts
+pub mod Widths
 pub mod FormulaValues
 pub mod Places
 pub mod Affines
+pub mod Types

@@ -1,11 +1,12 @@
 -- The first fault of each node from what is known of its parts.
-use Rattle.std.proofs.Common.{◌≡◌, ℕ, zero, suc, ◌==◌, Bool, true, false, ◌&&◌, ◌++◌, Option, Some, None, inl, inr, ap}
-use Rattle.std.proofs.Common.{sym, ◌∙◌, refl, add-one, arith}
-use Rattle.std.specs.Prelude.{◌⊎◌}
+use Rattle.std.proofs.Common.{◌≡◌, ℕ, zero, suc, ◌==◌, Bool, true, false, ◌&&◌, ◌||◌, ◌++◌, Option, Some, None, inl}
+use Rattle.std.proofs.Common.{inr, ap, sym, ◌∙◌, refl, add-one, arith}
+use Rattle.std.specs.Prelude.{◌⊎◌, if◌then◌else◌}
 use Rattle.expression_grammar.specs.Op.{Op}
 use Rattle.expression_grammar.specs.Op.TheVariants as op
 use Rattle.expression_grammar.specs.declared.token.Sign.{Sign}
 use Rattle.expression_grammar.specs.declared.token.Sign.TheVariants as sign
+use Rattle.expression_grammar.specs.Width.{Width}
 use Rattle.scop_roles.specs.declared.fault.Fault.{Fault}
 use Rattle.scop_roles.specs.declared.fault.Kind.{Kind}
 use Rattle.scop_roles.specs.declared.fault.Kind.TheVariants as kind
@@ -15,10 +16,10 @@ use Rattle.scop_roles.specs.declared.formula.Role.TheVariants as role
 use Rattle.scop_roles.specs.declared.judgement.Judgement.{Judgement}
 use Rattle.scop_roles.specs.Formula.{Formula, constant, name, index, bare_call, call, unary, cast, binary, place}
 use Rattle.scop_roles.specs.Formula.{meaning_of, subscripts}
-use Rattle.scop_roles.specs.Forms.{is_sum_or_product, is_signed}
+use Rattle.scop_roles.specs.Forms.{is_sum_or_product, is_signed, is_narrow, mixes}
 use Rattle.scop_roles.specs.Faults.{first, first_of, told, faults, place_faults, named, called, operand_role, cast_role}
 use Rattle.scop_roles.specs.Faults.{term_role, side_role, rank, own, own_affine, or_else, only_where}
-use Rattle.scop_roles.specs.Faults.{are_plain_constants, is_count}
+use Rattle.scop_roles.specs.Faults.{are_plain_constants, is_count, last_count, is_shift_count}
 use Rattle.scop_roles.specs.Judgement.{IsJudgement, AreAffine, IsOwnAffine, in_role, part_or_own, own_joined, lacking}
 use Rattle.scop_roles.specs.Judgement.{one_less, is_zero}
 use Rattle.scop_roles.proofs.Firsts.{first-append, first-judged, first_of_none, part_or_own_none, part_or_own_same}
@@ -64,9 +65,9 @@ pub unary_first : (n : ℕ) (r : Role) (s : Sign) (f : Formula) (at : ℕ)
 unary_first n r s f at =
     sym (first-judged (faults n (operand_role s (is_signed f) r) f) at (own n r (unary s f at)))
 
-pub cast_first : (n : ℕ) (r : Role) (f : Formula) (at : ℕ)
-    → part_or_own (first (faults n (cast_role r) f)) at (own n r (cast f at)) ≡ first (faults n r (cast f at))
-cast_first n r f at = sym (first-judged (faults n (cast_role r) f) at (own n r (cast f at)))
+pub cast_first : (n : ℕ) (r : Role) (w : Width) (f : Formula) (at : ℕ)
+    → part_or_own (first (faults n (cast_role r) f)) at (own n r (cast w f at)) ≡ first (faults n r (cast w f at))
+cast_first n r w f at = sym (first-judged (faults n (cast_role r) f) at (own n r (cast w f at)))
 
 pub binary_first : (n : ℕ) (r : Role) (o : Op) (f g : Formula) (at : ℕ)
     → part_or_own (first_of (first (faults n (side_role o (is_signed f && is_signed g) r) f))
@@ -84,9 +85,9 @@ pub unary_judged : (n : ℕ) (r : Role) (s : Sign) (f : Formula) (j : Judgement)
 unary_judged n r s f j at h =
     rw (h.signed, faults_at n f j (operand_role s (is_signed f) r) h) (unary_first n r s f at)
 
-pub cast_judged : (n : ℕ) (r : Role) (f : Formula) (j : Judgement) (at : ℕ) → IsJudgement n f j
-    → part_or_own (in_role j.faults (cast_role r)) at (own n r (cast f at)) ≡ first (faults n r (cast f at))
-cast_judged n r f j at h = rw (faults_at n f j (cast_role r) h) (cast_first n r f at)
+pub cast_judged : (n : ℕ) (r : Role) (w : Width) (f : Formula) (j : Judgement) (at : ℕ) → IsJudgement n f j
+    → part_or_own (in_role j.faults (cast_role r)) at (own n r (cast w f at)) ≡ first (faults n r (cast w f at))
+cast_judged n r w f j at h = rw (faults_at n f j (cast_role r) h) (cast_first n r w f at)
 
 -- what is left of a rank behind so many subscripts
 abbrev left_of : ℕ → ℕ → Option ℕ
@@ -109,7 +110,7 @@ lacking_is (index p i) =
 lacking_is (bare_call m at) = refl
 lacking_is (call m f at) = refl
 lacking_is (unary s f at) = refl
-lacking_is (cast f at) = refl
+lacking_is (cast w f at) = refl
 lacking_is (binary o f g at) = refl
 
 left_none : (s r : ℕ) → is_zero (left_of s r) ≡ (r == s)
@@ -166,7 +167,7 @@ signed_is_affine n (unary sign.Minus f at) h =
     ∙ none_part_or_own (first (faults n role.Affine f)) at None (signed_is_affine n f parts.0) refl
 signed_is_affine n (unary sign.Complement f at) h = h
 signed_is_affine n (unary sign.Not f at) h = h
-signed_is_affine n (cast f at) h = h
+signed_is_affine n (cast w f at) h = h
 signed_is_affine n (binary o f g at) h =
     let b = is_signed f && is_signed g in
     let whole = part_or_own_none (first_of (first (faults n (side_role o b role.Signed) f))
@@ -232,7 +233,7 @@ both_signed n o f g r role_is h =
 -- what is wrong with an operator, where what is wrong with it as an affine one is known if its sides are affine
 own_same : (n : ℕ) (r : Role) (o : Op) (f g : Formula) (at : ℕ) (a : Option Kind) → IsOwnAffine n o f g at a
     → sides n r o f g ≡ None
-    → own_joined a r o (is_signed f) (is_signed g) (are_plain_constants f g) (is_count 0 63 g)
+    → own_joined a r o (is_signed f) (is_signed g) (are_plain_constants f g) (is_shift_count f g) (mixes f g)
     ≡ own n r (binary o f g at)
 own_same n role.Affine o f g at a is h =
     is (both_affine n o f g role.Affine (λ s. sum_sides o (is_signed f && is_signed g) role.Affine s) h)
@@ -243,9 +244,10 @@ own_same n role.Value o f g at a is h =
     value_same (is_sum_or_product o) (is_signed f && is_signed g) refl refl
   where
     value_same : (b s : Bool) → is_sum_or_product o ≡ b → (is_signed f && is_signed g) ≡ s
-        → own_joined a role.Value o (is_signed f) (is_signed g) (are_plain_constants f g) (is_count 0 63 g)
+        → own_joined a role.Value o (is_signed f) (is_signed g) (are_plain_constants f g) (is_shift_count f g)
+        (mixes f g)
         ≡ own_joined (own_affine n (binary o f g at)) role.Value o (is_signed f) (is_signed g) (are_plain_constants f g)
-        (is_count 0 63 g)
+        (is_shift_count f g) (mixes f g)
     value_same true true p q =
         let e = is (both_signed n o f g role.Value
         (λ s. sum_sides o (is_signed f && is_signed g) role.Value s ∙ ap (λ (x : Bool). term_role x role.Value) q) h) in
@@ -256,11 +258,17 @@ own_same n role.Condition o f g at a is h = refl
 own_same n role.Loose o f g at a is h = refl
 own_same n role.Free o f g at a is h = refl
 
+count_chosen : (narrow : Bool) (g : Formula)
+    → (if narrow then is_count 0 31 g else is_count 0 63 g) ≡ is_count 0 (last_count narrow) g
+count_chosen true g = refl
+count_chosen false g = refl
+
 pub binary_judged : (n : ℕ) (r : Role) (o : Op) (f g : Formula) (j k : Judgement) (at : ℕ) (a : Option Kind)
     → IsJudgement n f j → IsJudgement n g k → IsOwnAffine n o f g at a
     → part_or_own (first_of (in_role j.faults (side_role o (j.signed && k.signed) r))
     (in_role k.faults (side_role o (j.signed && k.signed) r))) at
-    (own_joined a r o j.signed k.signed (j.constant && k.constant) k.count)
+    (own_joined a r o j.signed k.signed (j.constant && k.constant) (if j.narrow then k.narrow_count else k.count)
+    ((j.narrow && k.long) || (j.long && k.narrow)))
     ≡ first (faults n r (binary o f g at))
 binary_judged n r o f g j k at a h i is =
     rw (
@@ -268,11 +276,17 @@ binary_judged n r o f g j k at a h i is =
       i.signed,
       h.constant,
       i.constant,
+      h.narrow,
+      i.narrow,
+      h.long,
+      i.long,
+      i.narrow_count,
       i.count,
+      count_chosen (is_narrow f) g,
       faults_at n f j (side_role o (is_signed f && is_signed g) r) h,
       faults_at n g k (side_role o (is_signed f && is_signed g) r) i,
     )
     (part_or_own_same (sides n r o f g) at
-    (own_joined a r o (is_signed f) (is_signed g) (are_plain_constants f g) (is_count 0 63 g))
+    (own_joined a r o (is_signed f) (is_signed g) (are_plain_constants f g) (is_shift_count f g) (mixes f g))
     (own n r (binary o f g at)) (λ e. own_same n r o f g at a is e)
     ∙ binary_first n r o f g at)

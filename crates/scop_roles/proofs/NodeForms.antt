@@ -1,6 +1,6 @@
 -- The form of a node from those of its parts.
-use Rattle.std.proofs.Common.{◌≡◌, ◌≢◌, ℕ, Bool, true, false, ◌&&◌, List, Some, None, inl, inr, sym, subst, ◌∙◌, refl}
-use Rattle.std.proofs.Common.{length, arith}
+use Rattle.std.proofs.Common.{◌≡◌, ◌≢◌, ℕ, Bool, true, false, ◌&&◌, ◌||◌, List, Some, None, inl, inr, ap, sym, subst}
+use Rattle.std.proofs.Common.{◌∙◌, refl, length, arith}
 use Rattle.std.specs.Prelude.{if◌then◌else◌, ◌⊎◌, not}
 use Rattle.whole_numbers.specs.Affine.{Affine}
 use Rattle.expression_grammar.specs.Op.{Op}
@@ -8,11 +8,14 @@ use Rattle.expression_grammar.specs.declared.token.Sign.TheVariants as sign
 use Rattle.scop_roles.specs.declared.fault.Fault.{Fault}
 use Rattle.scop_roles.specs.declared.fault.Kind.{Kind}
 use Rattle.scop_roles.specs.declared.fault.Kind.TheVariants as kind
+use Rattle.scop_roles.specs.declared.formula.Meaning.{Meaning}
+use Rattle.scop_roles.specs.declared.formula.Meaning.TheVariants as meaning
 use Rattle.scop_roles.specs.declared.formula.Role.TheVariants as role
 use Rattle.scop_roles.specs.declared.judgement.Judgement.{Judgement}
 use Rattle.scop_roles.specs.declared.sides.Joined.{Joined}
-use Rattle.scop_roles.specs.Formula.{Formula, unary, binary}
-use Rattle.scop_roles.specs.Forms.{is_sum_or_product, is_product, is_signed, has_name, form, combined_forms, is_within}
+use Rattle.scop_roles.specs.Formula.{Formula, name, unary, binary}
+use Rattle.scop_roles.specs.Forms.{is_sum_or_product, is_product, is_number, is_signed, has_name, is_long, form}
+use Rattle.scop_roles.specs.Forms.{combined_forms, is_within}
 use Rattle.scop_roles.specs.Faults.{first, first_of, told, judged, faults, side_role, own, own_affine, only_where}
 use Rattle.scop_roles.specs.Judgement.{IsJudgement, IsFormOf, IsJoined, HasForm}
 use Rattle.scop_roles.proofs.Firsts.{first-judged, first_of_none, part_or_own_none}
@@ -31,6 +34,25 @@ pub opposite_refused : (n : ℕ) (f : Formula) (at : ℕ) → first (faults n ro
 opposite_refused n f at no_form h =
     no_form (part_or_own_none (first (faults n role.Affine f)) at None
     (unary_first n role.Affine sign.Minus f at ∙ h)).0
+
+-- a signed part with a name may not stand beside 32 bits
+twice_not : (b : Bool) → b ≡ not (not b)
+twice_not true = refl
+twice_not false = refl
+
+pub long_name : (m : Meaning) (at : ℕ) → is_number m ≡ is_long (name m at)
+long_name meaning.Unknown at = refl
+long_name (meaning.Variable k) at = refl
+long_name meaning.Closed at = refl
+long_name (meaning.Array k r narrow) at = refl
+
+pub long_opposite : (f : Formula) (at : ℕ) → (is_signed f && has_name f) ≡ is_long (unary sign.Minus f at)
+long_opposite f at = ap (λ b. is_signed f && b) (twice_not (has_name f))
+
+pub long_sides : (o : Op) (f g : Formula) (at : ℕ)
+    → ((is_sum_or_product o && (is_signed f && is_signed g)) && (has_name f || has_name g)) ≡ is_long (binary o f g at)
+long_sides o f g at =
+    ap (λ b. (is_sum_or_product o && (is_signed f && is_signed g)) && b) (twice_not (has_name f || has_name g))
 
 -- an operator that is wrong itself has a fault
 operator_refused : (n : ℕ) (o : Op) (f g : Formula) (at : ℕ) (k : Kind) → own_affine n (binary o f g at) ≡ Some k

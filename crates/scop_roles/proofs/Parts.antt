@@ -7,17 +7,19 @@ use Rattle.expression_grammar.specs.Op.{Op}
 use Rattle.expression_grammar.specs.Op.TheVariants as op
 use Rattle.expression_grammar.specs.declared.token.Sign.{Sign}
 use Rattle.expression_grammar.specs.declared.token.Sign.TheVariants as sign
+use Rattle.expression_grammar.specs.Suffix.TheVariants as suffix
+use Rattle.expression_grammar.specs.Width.{Width}
 use Rattle.scop_roles.specs.declared.fault.Fault.{Fault}
 use Rattle.scop_roles.specs.declared.fault.Kind.{Kind}
 use Rattle.scop_roles.specs.declared.fault.Kind.TheVariants as kind
 use Rattle.scop_roles.specs.declared.formula.Role.TheVariants as role
 use Rattle.scop_syntax.specs.Tree.{Expression}
 use Rattle.scop_syntax.specs.Tree as scop
-use Rattle.scop_roles.specs.Formula.{Formula, index, unary, cast, binary, place}
-use Rattle.scop_roles.specs.Forms.{is_sum_or_product, is_shift, is_and, is_comparison, is_signed}
+use Rattle.scop_roles.specs.Formula.{Formula, constant, index, unary, cast, binary, place}
+use Rattle.scop_roles.specs.Forms.{is_sum_or_product, is_shift, is_and, is_comparison, is_signed, is_narrow, mixes}
 use Rattle.scop_roles.specs.Faults.{first, first_of, told, judged, faults, place_faults, operand_role, term_role}
 use Rattle.scop_roles.specs.Faults.{side_role, own, own_rank, own_operator, or_else, only_where, are_plain_constants}
-use Rattle.scop_roles.specs.Faults.{is_count}
+use Rattle.scop_roles.specs.Faults.{is_count, last_count, is_shift_count}
 use Rattle.scop_roles.specs.Judgement.{part_or_own}
 use Rattle.scop_roles.specs.Values.{combined, operator}
 use Rattle.scop_roles.proofs.Firsts.{first-append, first-judged, first_of_none, part_or_own_none, none_part_or_own}
@@ -40,9 +42,9 @@ pub index_value : (n : ℕ) (p i : Formula) → first (faults n role.Value (inde
     → (first (place_faults n (index p i)) ≡ None) × (own_rank (index p i) ≡ None)
 index_value n p i h = judged_none (place_faults n p ++ faults n role.Affine i) (place p) (own_rank (index p i)) h
 
-pub cast_value : (n : ℕ) (f : Formula) (at : ℕ) → first (faults n role.Value (cast f at)) ≡ None
+pub cast_value : (n : ℕ) (w : Width) (f : Formula) (at : ℕ) → first (faults n role.Value (cast w f at)) ≡ None
     → first (faults n role.Value f) ≡ None
-cast_value n f at h = (judged_none (faults n role.Value f) at None h).0
+cast_value n w f at h = (judged_none (faults n role.Value f) at None h).0
 
 pub unary_value : (n : ℕ) (s : Sign) (f : Formula) (at : ℕ) → is_signed (unary s f at) ≡ false
     → first (faults n role.Value (unary s f at)) ≡ None → first (faults n role.Value f) ≡ None
@@ -90,32 +92,32 @@ signed_binary n o f g at signed h =
     (own n role.Signed (binary o f g at)) whole (sym same ∙ parts.1))
 
 -- the sides of an operator of an unsigned value without fault are values
-value_side : (o : Op) (b k c : Bool) (s t : Bool) → (is_sum_or_product o && b) ≡ false → (s && t) ≡ b
-    → (if is_sum_or_product o then None else own_operator o s t c k) ≡ None → side_role o b role.Value ≡ role.Value
-value_side op.Comma b k c s t u e h = refl
-value_side op.LogicalOr b k c s t u e h = refl
-value_side op.LogicalAnd b k c s t u e h = refl
-value_side op.BitOr b k c s t u e h = refl
-value_side op.BitXor b k c s t u e h = refl
-value_side op.BitAnd b k c s t u e h = refl
-value_side op.Equal b k c s t u e h = absurd (grind (arith, h))
-value_side op.NotEqual b k c s t u e h = absurd (grind (arith, h))
-value_side op.Less b k c s t u e h = absurd (grind (arith, h))
-value_side op.AtMost b k c s t u e h = absurd (grind (arith, h))
-value_side op.Greater b k c s t u e h = absurd (grind (arith, h))
-value_side op.AtLeast b k c s t u e h = absurd (grind (arith, h))
-value_side op.ShiftLeft b k c s t u e h = refl
-value_side op.ShiftRight b k c s t u e h = refl
-value_side op.Plus b k c s t u e h = rw u refl
-value_side op.Minus b k c s t u e h = rw u refl
-value_side op.Times b k c s t u e h = rw u refl
-value_side op.Divide b k c s t u e h = refl
-value_side op.Remainder b k c s t u e h = refl
+value_side : (o : Op) (b k c m : Bool) (s t : Bool) → (is_sum_or_product o && b) ≡ false → (s && t) ≡ b
+    → (if is_sum_or_product o then None else own_operator o s t c k m) ≡ None → side_role o b role.Value ≡ role.Value
+value_side op.Comma b k c m s t u e h = refl
+value_side op.LogicalOr b k c m s t u e h = refl
+value_side op.LogicalAnd b k c m s t u e h = refl
+value_side op.BitOr b k c m s t u e h = refl
+value_side op.BitXor b k c m s t u e h = refl
+value_side op.BitAnd b k c m s t u e h = refl
+value_side op.Equal b k c m s t u e h = absurd (grind (arith, h))
+value_side op.NotEqual b k c m s t u e h = absurd (grind (arith, h))
+value_side op.Less b k c m s t u e h = absurd (grind (arith, h))
+value_side op.AtMost b k c m s t u e h = absurd (grind (arith, h))
+value_side op.Greater b k c m s t u e h = absurd (grind (arith, h))
+value_side op.AtLeast b k c m s t u e h = absurd (grind (arith, h))
+value_side op.ShiftLeft b k c m s t u e h = refl
+value_side op.ShiftRight b k c m s t u e h = refl
+value_side op.Plus b k c m s t u e h = rw u refl
+value_side op.Minus b k c m s t u e h = rw u refl
+value_side op.Times b k c m s t u e h = rw u refl
+value_side op.Divide b k c m s t u e h = refl
+value_side op.Remainder b k c m s t u e h = refl
 
 unsigned_own : (n : ℕ) (o : Op) (f g : Formula) (at : ℕ) (a b : Bool) → is_sum_or_product o ≡ a
     → (is_signed f && is_signed g) ≡ b → (a && b) ≡ false → own n role.Value (binary o f g at) ≡ None
     → (if is_sum_or_product o then None
-    else own_operator o (is_signed f) (is_signed g) (are_plain_constants f g) (is_count 0 63 g)) ≡ None
+    else own_operator o (is_signed f) (is_signed g) (are_plain_constants f g) (is_shift_count f g) (mixes f g)) ≡ None
 unsigned_own n o f g at true true p q u h = absurd (grind (arith, u))
 unsigned_own n o f g at true false p q u h = rw p refl
 unsigned_own n o f g at false b p q u h = rw p (rw p at h)
@@ -127,8 +129,8 @@ binary_value n o f g at u h =
     let side = side_role o (is_signed f && is_signed g) role.Value in
     let parts = judged_none (faults n side f ++ faults n side g) at (own n role.Value (binary o f g at)) h in
     let own_none = unsigned_own n o f g at (is_sum_or_product o) (is_signed f && is_signed g) refl refl u parts.1 in
-    let e = value_side o (is_signed f && is_signed g) (is_count 0 63 g) (are_plain_constants f g) (is_signed f)
-    (is_signed g) u refl own_none in
+    let e = value_side o (is_signed f && is_signed g) (is_shift_count f g) (are_plain_constants f g) (mixes f g)
+    (is_signed f) (is_signed g) u refl own_none in
     let p = append_none (faults n side f) (faults n side g) parts.0 in
     (subst (λ r. first (faults n r f) ≡ None) e p.0, subst (λ r. first (faults n r g) ≡ None) e p.1)
 
@@ -139,17 +141,27 @@ count_there s true h = refl
 count_there true false h = absurd (grind (arith, h))
 count_there false false h = absurd (grind (arith, h))
 
-pub shift_count : (n : ℕ) (o : Op) (f g : Formula) (at : ℕ) → is_shift o ≡ true
-    → first (faults n role.Value (binary o f g at)) ≡ None → is_count 0 63 g ≡ true
-shift_count n op.ShiftLeft f g at s h =
-    count_there (is_signed f) (is_count 0 63 g)
+pub shift_counted : (n : ℕ) (o : Op) (f g : Formula) (at : ℕ) → is_shift o ≡ true
+    → first (faults n role.Value (binary o f g at)) ≡ None → is_shift_count f g ≡ true
+shift_counted n op.ShiftLeft f g at s h =
+    count_there (is_signed f) (is_shift_count f g)
     (judged_none (faults n role.Value f ++ faults n role.Value g) at (own n role.Value (binary op.ShiftLeft f g at))
     h).1
-shift_count n op.ShiftRight f g at s h =
-    count_there (is_signed f) (is_count 0 63 g)
+shift_counted n op.ShiftRight f g at s h =
+    count_there (is_signed f) (is_shift_count f g)
     (judged_none (faults n role.Value f ++ faults n role.Value g) at
     (own n role.Value (binary op.ShiftRight f g at)) h).1
-shift_count n _ f g at s h = absurd (grind (arith, s))
+shift_counted n _ f g at s h = absurd (grind (arith, s))
+
+-- a count below 64
+count_below : (narrow : Bool) (g : Formula) → is_count 0 (last_count narrow) g ≡ true → is_count 0 63 g ≡ true
+count_below false g h = h
+count_below true (constant (suffix.Absent b) v at) h = grind arith
+count_below true _ h = h
+
+pub shift_count : (n : ℕ) (o : Op) (f g : Formula) (at : ℕ) → is_shift o ≡ true
+    → first (faults n role.Value (binary o f g at)) ≡ None → is_count 0 63 g ≡ true
+shift_count n o f g at s h = count_below (is_narrow f) g (shift_counted n o f g at s h)
 
 pub combined_plain : (o : Op) (e d : Expression) (k : ℕ) → is_shift o ≡ false
     → combined o e d k ≡ scop.binary (operator o) e d

@@ -23,7 +23,7 @@ in_scope ranks look at (index t i) k = (in_scope ranks look at t k, in_scope ran
 in_scope ranks look at bare_call k = k.meaning at
 in_scope ranks look at (call t) k = (k.meaning at, in_scope ranks look (at + 1 + 1) t k)
 in_scope ranks look at (unary s t) k = in_scope ranks look (at + 1) t k
-in_scope ranks look at (cast t) k = in_scope ranks look (at + 1 + 1 + 1) t k
+in_scope ranks look at (cast w t) k = in_scope ranks look (at + 1 + 1 + 1) t k
 in_scope ranks look at (binary o a b) k = (in_scope ranks look at a k, in_scope ranks look (at + size a + 1) b k)
 
 pub place_from : (look : Lookup) (at : ℕ) (t : Tree) → at ≤ place (formula look at t)
@@ -34,7 +34,7 @@ place_from look at (index t i) = place_from look at t
 place_from look at bare_call = omega arith
 place_from look at (call t) = omega arith
 place_from look at (unary s t) = omega arith
-place_from look at (cast t) = omega arith
+place_from look at (cast w t) = omega arith
 place_from look at (binary o a b) = omega arith
 
 pub place_below : (look : Lookup) (at : ℕ) (t : Tree) → place (formula look at t) < at + size t
@@ -45,7 +45,7 @@ place_below look at (index t i) = let h = place_below look at t in let s = size_
 place_below look at bare_call = omega arith
 place_below look at (call t) = let s = size_call t in omega arith
 place_below look at (unary s t) = let e = size_unary s t in omega arith
-place_below look at (cast t) = let e = size_cast t in omega arith
+place_below look at (cast w t) = let e = size_cast w t in omega arith
 place_below look at (binary o a b) = let s = size_binary o a b in omega arith
 
 wider : (at count from length : ℕ) (fs : List Fault) → at ≤ from → from + length ≤ at + count
@@ -118,15 +118,15 @@ mutual
       (wider at c (at + 1) (size t) (faults n inner (formula look (at + 1) t)) (omega arith) (omega arith)
       (faults_within look (at + 1) t n inner))
       (told_within at c at (own n r (formula look at (unary s t))) (omega arith) (omega arith))
-  faults_within look at (cast t) n r =
-      let e = size_cast t in
-      let c = size (cast t) in
+  faults_within look at (cast w t) n r =
+      let e = size_cast w t in
+      let c = size (cast w t) in
       judged_within at c (faults n (cast_role r) (formula look (at + 1 + 1 + 1) t))
-      (told at (own n r (formula look at (cast t))))
+      (told at (own n r (formula look at (cast w t))))
       (wider at c (at + 1 + 1 + 1) (size t) (faults n (cast_role r) (formula look (at + 1 + 1 + 1) t)) (omega arith)
       (omega arith)
       (faults_within look (at + 1 + 1 + 1) t n (cast_role r)))
-      (told_within at c at (own n r (formula look at (cast t))) (omega arith) (omega arith))
+      (told_within at c at (own n r (formula look at (cast w t))) (omega arith) (omega arith))
   faults_within look at (binary o a b) n r =
       let s = size_binary o a b in
       let c = size (binary o a b) in
@@ -163,5 +163,5 @@ mutual
   place_faults_within look at bare_call n = All-nil (LiesWithin at 3)
   place_faults_within look at (call t) n = All-nil (LiesWithin at (size (call t)))
   place_faults_within look at (unary s t) n = All-nil (LiesWithin at (size (unary s t)))
-  place_faults_within look at (cast t) n = All-nil (LiesWithin at (size (cast t)))
+  place_faults_within look at (cast w t) n = All-nil (LiesWithin at (size (cast w t)))
   place_faults_within look at (binary o a b) n = All-nil (LiesWithin at (size (binary o a b)))

@@ -4,6 +4,7 @@ use Rattle.std.specs.Global.{Box}
 use Rattle.expression_grammar.specs.Op.{Op}
 use Rattle.expression_grammar.specs.Op.TheVariants as op
 use Rattle.expression_grammar.specs.declared.token.Sign.{Sign}
+use Rattle.expression_grammar.specs.Width.{Width}
 use Rattle.scop_roles.specs.declared.formula.Meaning.{Meaning}
 use Rattle.scop_roles.specs.declared.formula.Argument.{Argument}
 use Rattle.scop_roles.specs.declared.formula.Formula.{Formula as Code}
@@ -32,10 +33,10 @@ formula_unary s f at =
     ap formula_of (sym (rolls-Unary s f at))
     ∙ fold-roll-Formula Formula (Formula × ℕ) formula_step argument_step (Formula-F.Unary s f at)
 
-pub formula_cast : (f : Box Code) (at : ℕ) → formula_of (Cast f at) ≡ cast (formula_of f.value) at
-formula_cast f at =
-    ap formula_of (sym (rolls-Cast f at))
-    ∙ fold-roll-Formula Formula (Formula × ℕ) formula_step argument_step (Formula-F.Cast f at)
+pub formula_cast : (w : Width) (f : Box Code) (at : ℕ) → formula_of (Cast w f at) ≡ cast w (formula_of f.value) at
+formula_cast w f at =
+    ap formula_of (sym (rolls-Cast w f at))
+    ∙ fold-roll-Formula Formula (Formula × ℕ) formula_step argument_step (Formula-F.Cast w f at)
 
 argument_is : (a : Argument) → fold-Argument Formula (Formula × ℕ) formula_step argument_step a ≡ argument_of a
 argument_is a =

@@ -17,7 +17,7 @@ use Rattle.scop_roles.specs.declared.formula.Role.TheVariants as role
 use Rattle.scop_roles.specs.Formula.{Formula, constant, name, index, bare_call, call, unary, cast, binary, place}
 use Rattle.scop_roles.specs.Formula.{meaning_of, subscripts}
 use Rattle.scop_roles.specs.Forms.{is_sum_or_product, is_product, is_and, is_comparison, is_signed, has_name, form}
-use Rattle.scop_roles.specs.Forms.{is_within}
+use Rattle.scop_roles.specs.Forms.{is_within, is_narrow, mixes}
 
 -- the kinds in their order
 abbrev pub number : Kind → ℕ
@@ -45,6 +45,7 @@ number kind.Arrays = 21
 number kind.Parameters = 22
 number kind.Reads = 23
 number kind.TooLong = 24
+number kind.Width = 25
 
 -- a fault stands before another: at an earlier place, or at the same as a lesser kind
 abbrev pub precedes : Fault → Fault → Bool
@@ -111,13 +112,17 @@ side_role o signed r =
 
 -- a constant without suffix
 abbrev pub is_plain_constant : Formula → Bool
-is_plain_constant (constant suffix.Absent v at) = true
+is_plain_constant (constant (suffix.Absent b) v at) = true
 is_plain_constant _ = false
 
 -- a constant without suffix, from the one number up to the other
 abbrev pub is_count : ℕ → ℕ → Formula → Bool
-is_count low high (constant suffix.Absent v at) = nat_le low v && nat_le v high
+is_count low high (constant (suffix.Absent b) v at) = nat_le low v && nat_le v high
 is_count low high _ = false
+
+-- the greatest count of a shift: one less than the bits of its left side (C17 6.5.7p3)
+abbrev pub last_count : Bool → ℕ
+last_count narrow = if narrow then 31 else 63
 
 -- this kind where it applies, else none
 abbrev pub only_where : Bool → Kind → Option Kind
@@ -137,8 +142,8 @@ own_term n o f g at =
 
 -- what is wrong with a node itself in the role of an affine form over n entries
 abbrev pub own_affine : ℕ → Formula → Option Kind
-own_affine n (constant suffix.Absent v at) = only_where (nat_lt (2 ^ 20) v) kind.Coefficient
-own_affine n (name (meaning.Array k r) at) = Some kind.NotAffine
+own_affine n (constant (suffix.Absent b) v at) = only_where (nat_lt (2 ^ 20) v) kind.Coefficient
+own_affine n (name (meaning.Array k r narrow) at) = Some kind.NotAffine
 own_affine n (name m at) = None
 own_affine n (unary sign.Minus f at) = None
 own_affine n (binary o f g at) =
@@ -157,25 +162,34 @@ own_signed n f = own_affine n f
 
 -- how many subscripts a name takes
 abbrev pub rank : Meaning → ℕ
-rank (meaning.Array k r) = r
+rank (meaning.Array k r narrow) = r
 rank _ = 0
 
 -- a name with another number of subscripts than its declaration has; what is no array has none
 abbrev pub own_rank : Formula → Option Kind
 own_rank f = only_where (not (rank (meaning_of f) == subscripts f)) kind.Rank
 
+-- & | ^; b: both sides are signed; m: a signed part that may not stand beside 32 bits does
+abbrev pub own_bits : Bool → Bool → Option Kind
+own_bits b m = or_else (only_where b kind.SignedValue) (only_where m kind.Width)
+
 -- an operator of a value that is no sum, difference or product; s, t: its sides are signed; c: both are constants
--- without suffix; k: the right one is a count below 64
-abbrev pub own_operator : Op → Bool → Bool → Bool → Bool → Option Kind
-own_operator op.BitAnd s t c k = only_where (s && t) kind.SignedValue
-own_operator op.BitXor s t c k = only_where (s && t) kind.SignedValue
-own_operator op.BitOr s t c k = only_where (s && t) kind.SignedValue
-own_operator op.ShiftLeft s t c k = or_else (only_where s kind.SignedValue) (only_where (not k) kind.ShiftCount)
-own_operator op.ShiftRight s t c k = or_else (only_where s kind.SignedValue) (only_where (not k) kind.ShiftCount)
-own_operator op.Divide s t c k = Some (if c then kind.SignedValue else kind.Division)
-own_operator op.Remainder s t c k = Some (if c then kind.SignedValue else kind.Division)
-own_operator op.Comma s t c k = None
-own_operator o s t c k = Some kind.Condition
+-- without suffix; k: the right one is a count by which the left one may be shifted; m: as for & | ^. A comma stands in
+-- a call alone
+abbrev pub own_operator : Op → Bool → Bool → Bool → Bool → Bool → Option Kind
+own_operator op.BitAnd s t c k m = own_bits (s && t) m
+own_operator op.BitXor s t c k m = own_bits (s && t) m
+own_operator op.BitOr s t c k m = own_bits (s && t) m
+own_operator op.ShiftLeft s t c k m = or_else (only_where s kind.SignedValue) (only_where (not k) kind.ShiftCount)
+own_operator op.ShiftRight s t c k m = or_else (only_where s kind.SignedValue) (only_where (not k) kind.ShiftCount)
+own_operator op.Divide s t c k m = Some (if c then kind.SignedValue else kind.Division)
+own_operator op.Remainder s t c k m = Some (if c then kind.SignedValue else kind.Division)
+own_operator op.Comma s t c k m = Some kind.Call
+own_operator o s t c k m = Some kind.Condition
+
+-- the right one is a count by which the left one may be shifted
+abbrev pub is_shift_count : Formula → Formula → Bool
+is_shift_count f g = is_count 0 (last_count (is_narrow f)) g
 
 -- what is wrong with a node itself in the role of a value
 abbrev pub own_value : ℕ → Formula → Option Kind
@@ -187,11 +201,12 @@ own_value n (call m f at) = Some kind.Call
 own_value n (unary sign.Minus f at) = None
 own_value n (unary sign.Complement f at) = only_where (is_signed f) kind.SignedValue
 own_value n (unary sign.Not f at) = Some kind.Condition
-own_value n (cast f at) = None
+own_value n (cast w f at) = None
 own_value n (binary o f g at) =
     if is_sum_or_product o
-    then (if is_signed f && is_signed g then own_signed n (binary o f g at) else None)
-    else own_operator o (is_signed f) (is_signed g) (are_plain_constants f g) (is_count 0 63 g)
+    then (if is_signed f && is_signed g then own_signed n (binary o f g at)
+    else only_where (mixes f g) kind.Width)
+    else own_operator o (is_signed f) (is_signed g) (are_plain_constants f g) (is_shift_count f g) (mixes f g)
 
 -- what a condition is made of: comparisons, joined by &&
 abbrev pub joins_condition : Op → Bool
@@ -203,7 +218,7 @@ own_condition (binary o f g at) = only_where (not (joins_condition o)) kind.Cond
 own_condition _ = Some kind.Condition
 
 -- where comparisons may stand and nothing more is asked, what no text may have is still refused; k: the right side is
--- a count below 64
+-- a count by which the left one may be shifted
 abbrev pub own_loose_operator : Op → Bool → Option Kind
 own_loose_operator op.Divide k = Some kind.Division
 own_loose_operator op.Remainder k = Some kind.Division
@@ -220,13 +235,13 @@ own_loose (index p i) = own_rank (index p i)
 own_loose (bare_call m at) = Some kind.Call
 own_loose (call m f at) = Some kind.Call
 own_loose (unary sign.Not f at) = Some kind.Condition
-own_loose (binary o f g at) = own_loose_operator o (is_count 0 63 g)
+own_loose (binary o f g at) = own_loose_operator o (is_shift_count f g)
 own_loose _ = None
 
 -- without a role a comparison and && are refused too
 abbrev pub own_free : Formula → Option Kind
 own_free (binary o f g at) =
-    if joins_condition o then Some kind.Condition else own_loose_operator o (is_count 0 63 g)
+    if joins_condition o then Some kind.Condition else own_loose_operator o (is_shift_count f g)
 own_free f = own_loose f
 
 -- what is wrong with a node itself, over n entries
@@ -261,7 +276,7 @@ abbrev mutual
       judged (told at (called m) ++ faults n role.Free f) (told at (own n r (call m f at)))
   faults n r (unary s f at) =
       judged (faults n (operand_role s (is_signed f) r) f) (told at (own n r (unary s f at)))
-  faults n r (cast f at) = judged (faults n (cast_role r) f) (told at (own n r (cast f at)))
+  faults n r (cast w f at) = judged (faults n (cast_role r) f) (told at (own n r (cast w f at)))
   faults n r (binary o f g at) =
       judged (faults n (side_role o (is_signed f && is_signed g) r) f
       ++ faults n (side_role o (is_signed f && is_signed g) r) g)

@@ -6,6 +6,7 @@ use Rattle.expression_grammar.specs.Op.{Op}
 use Rattle.expression_grammar.specs.Op.TheVariants as op
 use Rattle.expression_grammar.specs.declared.token.Sign.{Sign}
 use Rattle.expression_grammar.specs.Suffix.{Suffix}
+use Rattle.expression_grammar.specs.Width.{Width}
 use Rattle.expression_grammar.specs.Tree as tree
 use Rattle.scop_roles.specs.declared.formula.Meaning.{Meaning}
 use Rattle.scop_roles.specs.declared.formula.Meaning.TheVariants as meaning
@@ -25,7 +26,7 @@ pub data Formula : Type 0 where
   -- name ( arguments ), the arguments joined by commas
   call : Meaning → Formula → ℕ → Formula
   unary : Sign → Formula → ℕ → Formula
-  cast : Formula → ℕ → Formula
+  cast : Width → Formula → ℕ → Formula
   binary : Op → Formula → Formula → ℕ → Formula
 
 -- what the names of a text mean where an expression stands, and what its constants are worth, by the places of tokens
@@ -42,7 +43,7 @@ formula look at (tree.index t i) = index (formula look at t) (formula look (at +
 formula look at tree.bare_call = bare_call (look.meaning at) at
 formula look at (tree.call t) = call (look.meaning at) (formula look (at + 1 + 1) t) at
 formula look at (tree.unary s t) = unary s (formula look (at + 1) t) at
-formula look at (tree.cast t) = cast (formula look (at + 1 + 1 + 1) t) at
+formula look at (tree.cast w t) = cast w (formula look (at + 1 + 1 + 1) t) at
 formula look at (tree.binary o a b) =
     binary o (formula look at a) (formula look (at + tree.size a + 1) b) (at + tree.size a)
 
@@ -54,7 +55,7 @@ place (index p i) = place p
 place (bare_call m at) = at
 place (call m f at) = at
 place (unary s f at) = at
-place (cast f at) = at
+place (cast w f at) = at
 place (binary o f g at) = at
 
 -- what the name of a place means
@@ -80,7 +81,7 @@ formula_step (Formula-F.Index p is i) = index (fold index p.value is.items) i.va
 formula_step (Formula-F.BareCall m at) = bare_call m at
 formula_step (Formula-F.Call m f at) = call m f.value at
 formula_step (Formula-F.Unary s f at) = unary s f.value at
-formula_step (Formula-F.Cast f at) = cast f.value at
+formula_step (Formula-F.Cast w f at) = cast w f.value at
 formula_step (Formula-F.Commas f gs g at) = binary op.Comma (fold with_argument f.value gs.items) g.value at
 formula_step (Formula-F.Binary o f g at) = binary o f.value g.value at
 

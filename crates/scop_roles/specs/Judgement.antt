@@ -13,8 +13,8 @@ use Rattle.scop_roles.specs.declared.formula.Role.TheVariants as role
 use Rattle.scop_roles.specs.declared.judgement.Faults.{Faults}
 use Rattle.scop_roles.specs.declared.judgement.Judgement.{Judgement}
 use Rattle.scop_roles.specs.declared.sides.Joined.{Joined}
-use Rattle.scop_roles.specs.Formula.{Formula, name, index, binary, place}
-use Rattle.scop_roles.specs.Forms.{is_sum_or_product, is_signed, has_name, form}
+use Rattle.scop_roles.specs.Formula.{Formula, name, index, binary, place, meaning_of}
+use Rattle.scop_roles.specs.Forms.{is_sum_or_product, is_signed, is_narrow_array, is_narrow, is_long, has_name, form}
 use Rattle.scop_roles.specs.Faults.{first, told, faults, place_faults, rank, is_plain_constant, is_count, or_else}
 use Rattle.scop_roles.specs.Faults.{only_where, own_affine, own_operator, own_loose_operator, joins_condition}
 
@@ -49,17 +49,18 @@ is_zero (Some zero) = true
 is_zero _ = false
 
 -- what is wrong with an operator itself, where a is wrong with it as an affine one; s, t: its sides are signed;
--- c: both are constants without suffix; k: the right one is a count below 64
-abbrev pub own_joined : Option Kind → Role → Op → Bool → Bool → Bool → Bool → Option Kind
-own_joined a role.Affine o s t c k = a
-own_joined a role.Signed o s t c k = or_else a (only_where c kind.SignedValue)
-own_joined a role.Value o s t c k =
+-- c: both are constants without suffix; k: the right one is a count by which the left one may be shifted; m: a signed
+-- part that may not stand beside 32 bits does
+abbrev pub own_joined : Option Kind → Role → Op → Bool → Bool → Bool → Bool → Bool → Option Kind
+own_joined a role.Affine o s t c k m = a
+own_joined a role.Signed o s t c k m = or_else a (only_where c kind.SignedValue)
+own_joined a role.Value o s t c k m =
     if is_sum_or_product o
-    then (if s && t then or_else a (only_where c kind.SignedValue) else None)
-    else own_operator o s t c k
-own_joined a role.Condition o s t c k = only_where (not (joins_condition o)) kind.Condition
-own_joined a role.Loose o s t c k = own_loose_operator o k
-own_joined a role.Free o s t c k = if joins_condition o then Some kind.Condition else own_loose_operator o k
+    then (if s && t then or_else a (only_where c kind.SignedValue) else only_where m kind.Width)
+    else own_operator o s t c k m
+own_joined a role.Condition o s t c k m = only_where (not (joins_condition o)) kind.Condition
+own_joined a role.Loose o s t c k m = own_loose_operator o k
+own_joined a role.Free o s t c k m = if joins_condition o then Some kind.Condition else own_loose_operator o k
 
 -- the form that a formula is; none only of what is not affine
 abbrev pub IsFormOf : ℕ → Formula → Option Affine → Type 0
@@ -75,9 +76,13 @@ HasForm n (Some a) = IsAffine n a
 pub record IsJudgement (n : ℕ) (f : Formula) (j : Judgement) : Type 0 where
   pub place : j.place ≡ place f
   pub signed : j.signed ≡ is_signed f
+  pub narrow : j.narrow ≡ is_narrow f
+  pub long : j.long ≡ is_long f
   pub named : j.named ≡ has_name f
+  pub narrow_cells : j.narrow_cells ≡ is_narrow_array (meaning_of f)
   pub constant : j.constant ≡ is_plain_constant f
   pub count : j.count ≡ is_count 0 63 f
+  pub narrow_count : j.narrow_count ≡ is_count 0 31 f
   pub lacking : j.lacking ≡ lacking f
   pub place_fault : j.place_fault ≡ first (place_faults n f)
   pub affine : j.faults.affine ≡ first (faults n role.Affine f)

@@ -4,6 +4,7 @@ use Rattle.std.specs.List.{fold}
 use Rattle.expression_grammar.specs.Tree.{Tree, written, size}
 use Rattle.expression_grammar.specs.declared.node.Node.{Node}
 use Rattle.expression_grammar.specs.declared.node.Node.TheVariants as node
+use Rattle.expression_grammar.specs.Base.TheVariants as base
 use Rattle.expression_grammar.specs.Suffix.TheVariants as suffix
 use Rattle.scop_roles.specs.declared.formula.Formula.{Formula as CodeFormula}
 use Rattle.scop_roles.specs.Formula.{Formula, constant, name, index, bare_call, call, unary, cast, binary, Lookup}
@@ -23,12 +24,12 @@ place_of (node.Index at) = at
 place_of (node.BareCall at) = at
 place_of (node.Call at) = at
 place_of (node.Unary s at) = at
-place_of (node.Cast at) = at
+place_of (node.Cast w at) = at
 place_of (node.Binary o at) = at
 
 -- the formula on top; of an empty stack nothing is asked
 abbrev pub top : List Formula → Formula
-top [] = constant suffix.Absent 0 0
+top [] = constant (suffix.Absent base.Decimal) 0 0
 top (f ∷ fs) = f
 
 -- the formulas below the top
@@ -45,7 +46,7 @@ built look first fs (node.BareCall at) = bare_call (meaning_of (top fs)) (place 
 built look first fs (node.Call at) =
     call (meaning_of (top (below fs))) (top fs) (place (top (below fs))) ∷ below (below fs)
 built look first fs (node.Unary s at) = unary s (top fs) (first + at) ∷ below fs
-built look first fs (node.Cast at) = cast (top fs) (first + at) ∷ below fs
+built look first fs (node.Cast w at) = cast w (top fs) (first + at) ∷ below fs
 built look first fs (node.Binary o at) = binary o (top (below fs)) (top fs) (first + at) ∷ below (below fs)
 
 -- the formula of nodes whose places count from a first one

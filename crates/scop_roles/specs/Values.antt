@@ -1,23 +1,27 @@
 -- What a formula without faults stands for: a value, or the comparisons of a condition.
-use Rattle.std.specs.Prelude.{◌≡◌, ℕ, if◌then◌else◌, ℤ, pos, negsuc, List, [], ◌∷◌, ◌++◌, None}
+use Rattle.std.specs.Prelude.{◌≡◌, ℕ, Bool, true, false, ◌&&◌, if◌then◌else◌, ℤ, pos, negsuc, List, [], ◌∷◌, ◌++◌}
+use Rattle.std.specs.Prelude.{None}
 use Rattle.whole_numbers.specs.Affine.{Affine, form_of, sum_of_forms, multiple_of_form}
 use Rattle.scop_syntax.specs.Tree.{Access, Operator, plus, minus, times, bits_and, bits_or, bits_xor, Expression, read}
-use Rattle.scop_syntax.specs.Tree.{affine, negated, complemented, shifted_left, shifted_right, Test, at_least, equal}
+use Rattle.scop_syntax.specs.Tree.{affine, negated, complemented, shifted_left, shifted_right, Narrowing, explicit}
+use Rattle.scop_syntax.specs.Tree.{implied, converted, narrowed, Test, at_least, equal}
 use Rattle.scop_syntax.specs.Tree as scop
 use Rattle.expression_grammar.specs.Op.{Op}
 use Rattle.expression_grammar.specs.Op.TheVariants as op
 use Rattle.expression_grammar.specs.declared.token.Sign.{Sign}
 use Rattle.expression_grammar.specs.declared.token.Sign.TheVariants as sign
+use Rattle.expression_grammar.specs.Width.{Width}
+use Rattle.expression_grammar.specs.Width.TheVariants as width
 use Rattle.scop_roles.specs.declared.formula.Meaning.{Meaning}
 use Rattle.scop_roles.specs.declared.formula.Meaning.TheVariants as meaning
 use Rattle.scop_roles.specs.declared.formula.Role.TheVariants as role
 use Rattle.scop_roles.specs.Faults.{first, faults}
 use Rattle.scop_roles.specs.Formula.{Formula, constant, name, index, unary, cast, binary, meaning_of, place}
-use Rattle.scop_roles.specs.Forms.{is_and, is_signed, form}
+use Rattle.scop_roles.specs.Forms.{is_and, is_signed, is_narrow, form}
 
 -- the number of an array, in declared order from 0
 abbrev pub array_number : Meaning → ℕ
-array_number (meaning.Array k r) = k
+array_number (meaning.Array k r narrow) = k
 array_number _ = 0
 
 -- the forms of a place's subscripts
@@ -54,23 +58,48 @@ abbrev pub signed_value : Sign → Expression → Expression
 signed_value sign.Minus e = negated e
 signed_value s e = complemented e
 
+-- a value is kept to 32 bits, where this is so
+abbrev pub narrowed_where : Bool → Narrowing → Expression → Expression
+narrowed_where true w e = narrowed w e
+narrowed_where false w e = e
+
+-- a cast of a value
+abbrev pub cast_to : Width → Expression → Expression
+cast_to width.Narrow e = narrowed explicit e
+cast_to width.Full e = scop.cast e
+
+-- the value of an operator over those of its sides f and g; a signed side of an operator of 32 bits is converted
+abbrev pub joined : Op → Formula → Formula → ℕ → Expression → Expression → Expression
+joined o f g at d e =
+    let narrow = is_narrow (binary o f g at) in
+    narrowed_where narrow implied (combined o
+    (narrowed_where (narrow && is_signed f) converted d)
+    (narrowed_where (narrow && is_signed g) converted e) (count g))
+
 -- the value that a formula stands for: a largest signed part is its constant or its affine form
 abbrev pub expression : ℕ → Formula → Expression
 expression n (constant s v at) = scop.constant v
 expression n (name m at) = affine (form n (name m at))
 expression n (index p i) = read (access n (index p i))
 expression n (unary s f at) =
-    if is_signed (unary s f at) then affine (form n (unary s f at)) else signed_value s (expression n f)
-expression n (cast f at) = scop.cast (expression n f)
+    if is_signed (unary s f at)
+    then affine (form n (unary s f at))
+    else narrowed_where (is_narrow (unary s f at)) implied (signed_value s (expression n f))
+expression n (cast w f at) = cast_to w (expression n f)
 expression n (binary o f g at) =
     if is_signed (binary o f g at)
     then affine (form n (binary o f g at))
-    else combined o (expression n f) (expression n g) (count g)
+    else joined o f g at (expression n f) (expression n g)
 expression n _ = scop.constant 0
 
 -- an expression is the value of a formula, if that has no fault as one
 abbrev pub IsValueOf : ℕ → Formula → Expression → Type 0
 IsValueOf n f e = first (faults n role.Value f) ≡ None → e ≡ expression n f
+
+-- so it is of an operator's side, that is converted where it is signed and the operator has 32 bits
+abbrev pub IsSideOf : ℕ → Bool → Formula → Expression → Type 0
+IsSideOf n narrow f e =
+    first (faults n role.Value f) ≡ None → e ≡ narrowed_where (narrow && is_signed f) converted (expression n f)
 
 -- f - g + k
 abbrev pub difference : Affine → Affine → ℤ → Affine
@@ -101,6 +130,6 @@ tests n _ = []
 abbrev pub read_places : Formula → List ℕ
 read_places (index p i) = place p ∷ []
 read_places (unary s f at) = read_places f
-read_places (cast f at) = read_places f
+read_places (cast w f at) = read_places f
 read_places (binary o f g at) = read_places f ++ read_places g
 read_places _ = []

@@ -32,7 +32,7 @@ pub enum Kind {
     Condition,
     /// An operator has signed operands where C's result would depend on their width.
     SignedValue,
-    /// A shift's count is no constant from 0 to 63.
+    /// A shift's count is no constant from 0 to 63, or to 31 where the left side has 32 bits.
     ShiftCount,
     /// A division or a remainder.
     Division,
@@ -54,6 +54,8 @@ pub enum Kind {
     Reads,
     /// The text is longer than it may be: told before it is read, and of no text that is read.
     TooLong,
+    /// A signed part beside 32 bits has a name in it, or is a constant of more than 32 bits.
+    Width,
 }
 
 /// A fault, and the place of its token among the tokens.

@@ -8,7 +8,7 @@ ghost use Rattle.scop_roles.specs.Resolving.{IsWritten, below, built, formula_of
 
 use crate::pairs::{boxed, in_box, push_behind};
 use expression_grammar::node::Node;
-use expression_grammar::token::{Op, Sign, Suffix};
+use expression_grammar::token::{Base, Op, Sign, Suffix, Width};
 use std::alloc::{AllocError, Global};
 use std::mem;
 
@@ -21,8 +21,8 @@ pub enum Meaning {
     Variable(usize),
     /// A declared iterator whose loop is not open.
     Closed,
-    /// An array: its number and how many extents it has.
-    Array(usize, usize),
+    /// An array: its number, how many extents it has, and whether its cells have 32 bits.
+    Array(usize, usize, bool),
 }
 
 /// An argument behind others, and the place of the comma in front of it.
@@ -47,7 +47,7 @@ pub enum Formula {
     /// A call, with its arguments joined by commas.
     Call(Meaning, Box<Formula>, usize),
     Unary(Sign, Box<Formula>, usize),
-    Cast(Box<Formula>, usize),
+    Cast(Width, Box<Formula>, usize),
     /// Arguments: the first, those between, the last and the place of the comma in front of it.
     Commas(Box<Formula>, Vec<Argument>, Box<Formula>, usize),
     Binary(Op, Box<Formula>, Box<Formula>, usize),
@@ -91,7 +91,7 @@ pub fn place(formula: &Formula) -> usize
         Formula::BareCall(_, at) => *at,
         Formula::Call(_, _, at) => *at,
         Formula::Unary(_, _, at) => *at,
-        Formula::Cast(_, at) => *at,
+        Formula::Cast(_, _, at) => *at,
         Formula::Commas(_, _, _, at) => *at,
         Formula::Binary(_, _, _, at) => *at,
     }
@@ -258,7 +258,7 @@ fn pop(stack: &mut Vec<Formula>) -> Formula
     ensures rest { held stack.new.items ≡ below (held stack.old.items) }
 {
     match stack.pop() {
-        None => Formula::Constant(Suffix::Absent, 0, 0),
+        None => Formula::Constant(Suffix::Absent(Base::Decimal), 0, 0),
         Some(formula) => formula,
     }
 }
@@ -324,13 +324,18 @@ fn join_unary(
 }
 
 // The operand on the stack under a cast at a place.
-fn join_cast(alloc: Global, stack: &mut Vec<Formula>, place: usize) -> Result<Formula, AllocError>
+fn join_cast(
+    alloc: Global,
+    stack: &mut Vec<Formula>,
+    width: Width,
+    place: usize,
+) -> Result<Formula, AllocError>
     ensures { IfOk result (λ f. formula_of f ∷ held stack.new.items
-        ≡ cast (top (held stack.old.items)) place ∷ below (held stack.old.items)) }
+        ≡ cast width (top (held stack.old.items)) place ∷ below (held stack.old.items)) }
 {
     match in_box(alloc, pop(stack)) {
         Err(_) => Err(AllocError),
-        Ok(operand) => Ok(Formula::Cast(operand, place)),
+        Ok(operand) => Ok(Formula::Cast(width, operand, place)),
     }
 }
 
@@ -373,7 +378,7 @@ fn joined<N: Names>(
         Node::BareCall(_) => Ok(join_bare_call(stack)),
         Node::Call(_) => join_call(alloc, stack),
         Node::Unary(sign, at) => join_unary(alloc, stack, sign, first + at),
-        Node::Cast(at) => join_cast(alloc, stack, first + at),
+        Node::Cast(width, at) => join_cast(alloc, stack, width, first + at),
         Node::Binary(op, at) => join_sides(alloc, stack, op, first + at),
     }
 }

@@ -48,11 +48,16 @@ impl Faults {
 pub(crate) struct Judgement {
     pub(crate) place: usize,
     pub(crate) signed: bool,
-    // A name stands in it.
+    // It is unsigned with 32 bits; it is a signed part that may not stand beside such.
+    pub(crate) narrow: bool,
+    pub(crate) long: bool,
+    // A name stands in it; as a place, that of an array of 32 bits.
     pub(crate) named: bool,
-    // It is a constant without suffix; and one below 64.
+    pub(crate) narrow_cells: bool,
+    // It is a constant without suffix; and one below 64; and one below 32.
     pub(crate) constant: bool,
     pub(crate) count: bool,
+    pub(crate) narrow_count: bool,
     // How many subscripts a place lacks, where it has not too many.
     pub(crate) lacking: Option<usize>,
     // The first fault of a place's name and subscripts.
@@ -102,7 +107,8 @@ fn judge_arguments(
     arguments
 }
 
-// Judges a formula. What is known of a part goes on as it is, so that want of memory is looked at outside the recursion.
+// Judges a formula. What is known of a part goes on as it is, so that want of memory is looked at outside the
+// recursion.
 #[cycle(judging)]
 #[tactic(auto, using(crate::proofs::FormulaValues::judged_limits))]
 fn judge(alloc: Global, formula: &Formula, entries: usize) -> Result<Judgement, AllocError>
@@ -126,9 +132,9 @@ fn judge(alloc: Global, formula: &Formula, entries: usize) -> Result<Judgement, 
             let operand = judge(alloc, operand, entries);
             of_unary(alloc, *sign, operand, *at, entries)
         }
-        Formula::Cast(operand, at) => {
+        Formula::Cast(width, operand, at) => {
             let operand = judge(alloc, operand, entries);
-            of_cast(operand, *at)
+            of_cast(*width, operand, *at)
         }
         Formula::Commas(first, between, last, at) => {
             let first = judge(alloc, first, entries);

@@ -1,15 +1,16 @@
 //! Laws of faults, roles and values, as contracts of functions that do nothing.
-ghost use Rattle.std.specs.Prelude.{◌+◌, ◌++◌, ◌<◌, ◌≡◌, ◌≤◌, ℕ, All, List, None, Option, length};
+ghost use Rattle.std.specs.Prelude.{◌+◌, ◌++◌, ◌<◌, ◌≡◌, ◌≤◌, ℕ, All, Bool, List, None, Option, length};
 ghost use Rattle.expression_grammar.specs.Tree.{Tree, size};
 ghost use Rattle.scop_syntax.specs.Cells.{reads_of};
 ghost use Rattle.scop_syntax.specs.Kernel.{IsAccess, IsAffine, IsComparison, IsExpression, test_form};
+ghost use Rattle.scop_syntax.specs.Widths.{IsTyped};
 ghost use Rattle.scop_roles.specs.declared.fault.Fault.{Fault};
 ghost use Rattle.scop_roles.specs.declared.formula.Role.{Role};
 ghost use Rattle.scop_roles.specs.declared.formula.Role.TheVariants as role;
 ghost use Rattle.scop_roles.specs.Faults.{faults, first, first_of, own_rank, place_faults};
 ghost use Rattle.scop_roles.specs.Forms.{form};
 ghost use Rattle.scop_roles.specs.Formula.{Formula, Lookup, formula, place};
-ghost use Rattle.scop_roles.specs.Scope.{IsArray, IsInScope, KnowsArrays, LiesWithin};
+ghost use Rattle.scop_roles.specs.Scope.{HasWidths, IsArray, IsInScope, KnowsArrays, KnowsWidth, LiesWithin};
 ghost use Rattle.scop_roles.specs.Values.{access, expression, read_places, tests};
 
 /// The first fault of a list is the first of those of its parts, however it is split.
@@ -46,4 +47,12 @@ pub fn faultless_formulas_are_within_limits()
         → All (λ test. IsComparison n (test_form test)) (tests n f) }
     ensures reads { (n : ℕ) (f : Formula) → first (faults n role.Value f) ≡ None
         → length (read_places f) ≡ length (reads_of (expression n f)) }
+{}
+
+/// A value without faults has the types that C gives it, where the arrays of its text have these widths.
+pub fn faultless_values_have_types()
+    ensures widths { (narrow : List Bool) (look : Lookup) (at : ℕ) (t : Tree)
+        → ((i : ℕ) → KnowsWidth narrow (look.meaning i)) → HasWidths narrow (formula look at t) }
+    ensures types { (narrow : List Bool) (n : ℕ) (f : Formula) → HasWidths narrow f
+        → first (faults n role.Value f) ≡ None → IsTyped narrow (expression n f) }
 {}

@@ -1,8 +1,9 @@
 //! What is known of a constant or a name, and of a subscript, a call, a sign or a cast from what is known of its parts.
-ghost use Rattle.std.specs.Prelude.{◌≡◌, ℕ, IfOk};
+ghost use Rattle.std.specs.Prelude.{◌&&◌, ◌≡◌, ℕ, IfOk};
+ghost use Rattle.expression_grammar.specs.Width.{Width};
 ghost use Rattle.scop_roles.specs.declared.formula.Role.TheVariants as role;
 ghost use Rattle.scop_roles.specs.Faults.{called, faults, first, first_of, told};
-ghost use Rattle.scop_roles.specs.Forms.{is_signed};
+ghost use Rattle.scop_roles.specs.Forms.{has_name, is_long, is_signed, keeps_type};
 ghost use Rattle.scop_roles.specs.Formula.{Formula as Tree, bare_call, call, cast, constant, index, name};
 ghost use Rattle.scop_roles.specs.Formula.{unary};
 ghost use Rattle.scop_roles.specs.Judgement.{HasForm, IsFormOf, IsJudgement, is_zero, one_less};
@@ -13,10 +14,11 @@ use crate::formula::{Meaning, Role};
 use crate::judgement::{Faults, Judgement};
 use crate::pairs::both;
 use crate::roles::{
-    MOST_CONSTANT, called, cast_role, is_between, is_number, is_plain, named, operand_role,
-    own_call, own_cast, own_constant, own_index, own_name, own_unary, rank,
+    MOST_CONSTANT, called, cast_role, is_between, is_long_constant, is_narrow_array,
+    is_narrow_width, is_number, is_plain, keeps_type, named, operand_role, own_call, own_cast,
+    own_constant, own_index, own_name, own_unary, rank,
 };
-use expression_grammar::token::{Sign, Suffix};
+use expression_grammar::token::{Sign, Suffix, Width};
 use scop_syntax::tree::Aff;
 use std::alloc::{AllocError, Global};
 
@@ -50,7 +52,7 @@ fn form_of_constant(
 {
     match suffix {
         Suffix::Present => Ok(None),
-        Suffix::Absent => {
+        Suffix::Absent(_) => {
             if MOST_CONSTANT < value {
                 return Ok(None);
             }
@@ -79,9 +81,13 @@ pub(crate) fn of_constant(
     Ok(Judgement {
         place: at,
         signed: is_plain(suffix),
+        narrow: false,
+        long: is_long_constant(suffix, value),
         named: false,
+        narrow_cells: false,
         constant: is_plain(suffix),
         count: is_between(suffix, value, 0, 63),
+        narrow_count: is_between(suffix, value, 0, 31),
         lacking: Some(0),
         place_fault: None,
         faults: Faults {
@@ -106,7 +112,7 @@ fn form_of_name(alloc: Global, meaning: Meaning, entries: usize) -> Result<Optio
             let form = variable_form(alloc, entries, variable)?;
             Ok(Some(form))
         }
-        Meaning::Unknown | Meaning::Closed | Meaning::Array(_, _) => Ok(None),
+        Meaning::Unknown | Meaning::Closed | Meaning::Array(_, _, _) => Ok(None),
     }
 }
 
@@ -129,9 +135,13 @@ pub(crate) fn of_name(
     Ok(Judgement {
         place: at,
         signed: is_number(meaning),
+        narrow: false,
+        long: is_number(meaning),
         named: true,
+        narrow_cells: is_narrow_array(meaning),
         constant: false,
         count: false,
+        narrow_count: false,
         lacking: Some(rank(meaning)),
         place_fault: told(at, named(meaning)),
         faults: Faults {
@@ -164,9 +174,13 @@ fn indexed(place: &Judgement, subscript: &Judgement) -> Judgement
     Judgement {
         place: place.place,
         signed: false,
+        narrow: place.narrow_cells,
+        long: false,
         named: true,
+        narrow_cells: place.narrow_cells,
         constant: false,
         count: false,
+        narrow_count: false,
         lacking: one_less(place.lacking),
         place_fault: first_of(place.place_fault, subscript.faults.affine),
         faults: Faults {
@@ -208,9 +222,13 @@ fn called_with(part: Option<Fault>, at: usize) -> Judgement
     Judgement {
         place: at,
         signed: false,
+        narrow: false,
+        long: false,
         named: true,
+        narrow_cells: false,
         constant: false,
         count: false,
+        narrow_count: false,
         lacking: Some(0),
         place_fault: None,
         faults: Faults {
@@ -294,6 +312,22 @@ fn is_signed_under(sign: Sign, operand: &Judgement) -> bool
     }
 }
 
+fn is_narrow_under(sign: Sign, operand: &Judgement) -> bool
+    ensures { result ≡ (keeps_type sign && operand.now.narrow) }
+{
+    keeps_type(sign) && operand.narrow
+}
+
+fn is_long_under(sign: Sign, operand: &Judgement) -> bool
+    ensures { (f : Tree) (at : ℕ) → operand.now.signed ≡ is_signed f → operand.now.named ≡ has_name f
+        → result ≡ is_long (unary sign f at) }
+{
+    match sign {
+        Sign::Minus => operand.signed && operand.named,
+        Sign::Complement | Sign::Not => false,
+    }
+}
+
 // An operand under a sign.
 fn under_sign(
     alloc: Global,
@@ -310,9 +344,13 @@ fn under_sign(
     Ok(Judgement {
         place: at,
         signed: is_signed_under(sign, operand),
+        narrow: is_narrow_under(sign, operand),
+        long: is_long_under(sign, operand),
         named: operand.named,
+        narrow_cells: false,
         constant: false,
         count: false,
+        narrow_count: false,
         lacking: Some(0),
         place_fault: None,
         faults: Faults {
@@ -350,22 +388,27 @@ pub(crate) fn of_unary(
 
 // The first fault of a cast over its operand.
 fn cast_fault(role: Role, operand: &Judgement, at: usize) -> Option<Fault>
-    ensures { (n : ℕ) (f : Tree) → IsJudgement n f operand.now → result ≡ first (faults n role (cast f at)) }
+    ensures { (n : ℕ) (w : Width) (f : Tree) → IsJudgement n f operand.now
+        → result ≡ first (faults n role (cast w f at)) }
 {
     let part = operand.faults.in_role(cast_role(role));
     part_or_own(part, at, own_cast(role))
 }
 
 // An operand under a cast.
-fn under_cast(operand: &Judgement, at: usize) -> Judgement
-    ensures { (n : ℕ) (f : Tree) → IsJudgement n f operand.now → IsJudgement n (cast f at) result }
+fn under_cast(width: Width, operand: &Judgement, at: usize) -> Judgement
+    ensures { (n : ℕ) (f : Tree) → IsJudgement n f operand.now → IsJudgement n (cast width f at) result }
 {
     Judgement {
         place: at,
         signed: false,
+        narrow: is_narrow_width(width),
+        long: false,
         named: operand.named,
+        narrow_cells: false,
         constant: false,
         count: false,
+        narrow_count: false,
         lacking: Some(0),
         place_fault: None,
         faults: Faults {
@@ -381,15 +424,16 @@ fn under_cast(operand: &Judgement, at: usize) -> Judgement
 }
 
 pub(crate) fn of_cast(
+    width: Width,
     operand: Result<Judgement, AllocError>,
     at: usize,
 ) -> Result<Judgement, AllocError>
-    ensures { (n : ℕ) (f : Tree) → IfOk operand (IsJudgement n f) → IfOk result (IsJudgement n (cast f at)) }
+    ensures { (n : ℕ) (f : Tree) → IfOk operand (IsJudgement n f) → IfOk result (IsJudgement n (cast width f at)) }
 {
     match operand {
         Err(_) => Err(AllocError),
         Ok(operand) => {
-            let whole = under_cast(&operand, at);
+            let whole = under_cast(width, &operand, at);
             drop(operand);
             Ok(whole)
         }

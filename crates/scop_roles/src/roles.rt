@@ -2,18 +2,20 @@
 ghost use Rattle.std.specs.Prelude.{◌≡◌, ℕ, ◌+◌, ◌==◌};
 ghost use Rattle.scop_roles.specs.Faults.{called, cast_role, is_count, is_plain_constant, joins_condition, named};
 ghost use Rattle.scop_roles.specs.Faults.{operand_role, only_where, or_else, other_role, own, own_loose_operator};
-ghost use Rattle.scop_roles.specs.Faults.{own_operator, rank, side_role, term_role};
+ghost use Rattle.scop_roles.specs.Faults.{last_count, own_bits, own_operator, rank, side_role, term_role};
 ghost use Rattle.scop_roles.specs.Formula.{Formula as Tree, bare_call, call, cast, constant, index, meaning_of, name};
 ghost use Rattle.scop_roles.specs.Formula.{subscripts, unary};
 ghost use Rattle.scop_roles.specs.Forms.{is_and, is_comparison, is_minus, is_number, is_product, is_shift, is_signed};
-ghost use Rattle.scop_roles.specs.Forms.{is_sum_or_product};
+ghost use Rattle.scop_roles.specs.Forms.{greatest, is_joining, is_long, is_narrow_array, is_narrow_width};
+ghost use Rattle.scop_roles.specs.Forms.{is_sum_or_product, keeps_type, makes_narrow};
 ghost use Rattle.scop_roles.specs.Judgement.{own_joined};
+ghost use Rattle.expression_grammar.specs.Width.{Width};
 ghost use Rattle.scop_roles.specs.declared.fault.Kind.TheVariants as kind;
 ghost use Rattle.scop_roles.specs.declared.formula.Meaning.{Meaning};
 
 use crate::fault::{Kind, only_where};
 use crate::formula::{Meaning, Role};
-use expression_grammar::token::{Op, Sign, Suffix};
+use expression_grammar::token::{Base, Op, Sign, Suffix, Width};
 
 /// The largest constant of an affine form, in absolute value.
 pub const MOST_CONSTANT: u64 = 1 << 20;
@@ -67,6 +69,90 @@ pub(crate) fn is_minus(sign: Sign) -> bool
     }
 }
 
+// + - * & | ^
+fn is_joining(op: Op) -> bool
+    ensures { result ≡ is_joining op }
+{
+    match op {
+        Op::BitAnd | Op::BitXor | Op::BitOr => true,
+        _ => is_sum_or_product(op),
+    }
+}
+
+// Whether what an operator makes has 32 bits, from whether its sides have and whether they are signed.
+pub(crate) fn makes_narrow(
+    op: Op,
+    left: bool,
+    right: bool,
+    left_signed: bool,
+    right_signed: bool,
+) -> bool
+    ensures { result ≡ makes_narrow op left right left_signed right_signed }
+{
+    if is_shift(op) {
+        left
+    } else {
+        is_joining(op) && ((left && (right || right_signed)) || (left_signed && right))
+    }
+}
+
+// Whether a sign keeps its operand's type.
+pub(crate) fn keeps_type(sign: Sign) -> bool
+    ensures { result ≡ keeps_type sign }
+{
+    match sign {
+        Sign::Minus | Sign::Complement => true,
+        Sign::Not => false,
+    }
+}
+
+/// Whether a width is that of `uint32_t`, in place of `uint64_t`.
+pub fn is_narrow_width(width: Width) -> bool
+    ensures { result ≡ is_narrow_width width }
+{
+    match width {
+        Width::Narrow => true,
+        Width::Full => false,
+    }
+}
+
+/// Whether a name is that of an array of 32 bits.
+pub fn is_narrow_array(meaning: Meaning) -> bool
+    ensures { result ≡ is_narrow_array meaning }
+{
+    match meaning {
+        Meaning::Array(_, _, narrow) => narrow,
+        _ => false,
+    }
+}
+
+/// The greatest count of a shift, by whether what is shifted has 32 bits.
+pub fn last_count(narrow: bool) -> u64
+    ensures { result ≡ last_count narrow }
+{
+    if narrow { 31 } else { 63 }
+}
+
+// The greatest constant of a base that has no more than 32 bits by its type.
+fn greatest(base: Base) -> u64
+    ensures { result ≡ greatest base }
+{
+    match base {
+        Base::Decimal => (1 << 31) - 1,
+        Base::Hexadecimal => (1 << 32) - 1,
+    }
+}
+
+// Whether a constant has no suffix and more than 32 bits by its type.
+pub(crate) fn is_long_constant(suffix: Suffix, value: u64) -> bool
+    ensures { (at : ℕ) → result ≡ is_long (constant suffix value at) }
+{
+    match suffix {
+        Suffix::Absent(base) => greatest(base) < value,
+        Suffix::Present => false,
+    }
+}
+
 /// Whether an operator compares: `<`, `<=`, `>`, `>=` or `==`.
 pub fn is_comparison(op: Op) -> bool
     ensures { result ≡ is_comparison op }
@@ -88,7 +174,7 @@ pub(crate) fn is_plain(suffix: Suffix) -> bool
     ensures { (v at : ℕ) → result ≡ is_plain_constant (constant suffix v at) }
 {
     match suffix {
-        Suffix::Absent => true,
+        Suffix::Absent(_) => true,
         Suffix::Present => false,
     }
 }
@@ -98,7 +184,7 @@ pub(crate) fn is_between(suffix: Suffix, value: u64, low: u64, high: u64) -> boo
     ensures { (at : ℕ) → result ≡ is_count low high (constant suffix value at) }
 {
     match suffix {
-        Suffix::Absent => low <= value && value <= high,
+        Suffix::Absent(_) => low <= value && value <= high,
         Suffix::Present => false,
     }
 }
@@ -109,7 +195,7 @@ pub(crate) fn is_number(meaning: Meaning) -> bool
 {
     match meaning {
         Meaning::Variable(_) | Meaning::Closed => true,
-        Meaning::Unknown | Meaning::Array(_, _) => false,
+        Meaning::Unknown | Meaning::Array(_, _, _) => false,
     }
 }
 
@@ -118,7 +204,7 @@ pub(crate) fn rank(meaning: Meaning) -> usize
     ensures { result ≡ rank meaning }
 {
     match meaning {
-        Meaning::Array(_, rank) => rank,
+        Meaning::Array(_, rank, _) => rank,
         _ => 0,
     }
 }
@@ -211,7 +297,7 @@ pub(crate) fn own_constant(role: Role, suffix: Suffix, value: u64) -> Option<Kin
 {
     match (role, suffix) {
         (Role::Affine | Role::Signed, Suffix::Present) => Some(Kind::NotAffine),
-        (Role::Affine | Role::Signed, Suffix::Absent) => {
+        (Role::Affine | Role::Signed, Suffix::Absent(_)) => {
             only_where(MOST_CONSTANT < value, Kind::Coefficient)
         }
         (Role::Condition, _) => Some(Kind::Condition),
@@ -224,7 +310,7 @@ pub(crate) fn own_name(role: Role, meaning: Meaning) -> Option<Kind>
 {
     match role {
         Role::Affine | Role::Signed => match meaning {
-            Meaning::Array(_, _) => Some(Kind::NotAffine),
+            Meaning::Array(_, _, _) => Some(Kind::NotAffine),
             Meaning::Unknown | Meaning::Closed | Meaning::Variable(_) => None,
         },
         Role::Condition => Some(Kind::Condition),
@@ -269,7 +355,7 @@ pub(crate) fn own_unary(role: Role, sign: Sign, signed: bool) -> Option<Kind>
 }
 
 pub(crate) fn own_cast(role: Role) -> Option<Kind>
-    ensures { (n at : ℕ) (f : Tree) → result ≡ own n role (cast f at) }
+    ensures { (n at : ℕ) (w : Width) (f : Tree) → result ≡ own n role (cast w f at) }
 {
     match role {
         Role::Affine | Role::Signed => Some(Kind::NotAffine),
@@ -278,12 +364,31 @@ pub(crate) fn own_cast(role: Role) -> Option<Kind>
     }
 }
 
-// `signed`: both sides are; `constants`: both are constants without suffix; `count`: the right one is a count below 64.
-fn own_operator(op: Op, left: bool, right: bool, constants: bool, count: bool) -> Option<Kind>
-    ensures { result ≡ own_operator op left right constants count }
+// `signed`: both sides are; `mixes`: a signed part that may not stand beside 32 bits does.
+fn own_bits(signed: bool, mixes: bool) -> Option<Kind>
+    ensures { result ≡ own_bits signed mixes }
+{
+    if signed {
+        Some(Kind::SignedValue)
+    } else {
+        only_where(mixes, Kind::Width)
+    }
+}
+
+// `left`, `right`: the sides are signed; `constants`: both are constants without suffix; `count`: the right one is a
+// count of the left one's shifts; `mixes`: a signed part that may not stand beside 32 bits does.
+fn own_operator(
+    op: Op,
+    left: bool,
+    right: bool,
+    constants: bool,
+    count: bool,
+    mixes: bool,
+) -> Option<Kind>
+    ensures { result ≡ own_operator op left right constants count mixes }
 {
     match op {
-        Op::BitAnd | Op::BitXor | Op::BitOr => only_where(left && right, Kind::SignedValue),
+        Op::BitAnd | Op::BitXor | Op::BitOr => own_bits(left && right, mixes),
         Op::ShiftLeft | Op::ShiftRight => {
             if left {
                 Some(Kind::SignedValue)
@@ -298,7 +403,7 @@ fn own_operator(op: Op, left: bool, right: bool, constants: bool, count: bool) -
                 Some(Kind::Division)
             }
         }
-        Op::Comma => None,
+        Op::Comma => Some(Kind::Call),
         _ => Some(Kind::Condition),
     }
 }
@@ -333,19 +438,20 @@ pub(crate) fn own_joined(
     right: bool,
     constants: bool,
     count: bool,
+    mixes: bool,
 ) -> Option<Kind>
-    ensures { result ≡ own_joined affine role op left right constants count }
+    ensures { result ≡ own_joined affine role op left right constants count mixes }
 {
     match role {
         Role::Affine => affine,
         Role::Signed => own_signed(affine, constants),
         Role::Value => {
             if !is_sum_or_product(op) {
-                own_operator(op, left, right, constants, count)
+                own_operator(op, left, right, constants, count, mixes)
             } else if left && right {
                 own_signed(affine, constants)
             } else {
-                None
+                only_where(mixes, Kind::Width)
             }
         }
         Role::Condition => only_where(!joins_condition(op), Kind::Condition),

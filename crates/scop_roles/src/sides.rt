@@ -3,7 +3,7 @@ ghost use Rattle.std.specs.Prelude.{◌&&◌, ◌||◌, ◌≡◌, ℕ, IfOk, No
 ghost use Rattle.scop_syntax.specs.Kernel.{IsAffine};
 ghost use Rattle.scop_roles.specs.declared.fault.Kind.TheVariants as kind;
 ghost use Rattle.scop_roles.specs.Faults.{faults, first};
-ghost use Rattle.scop_roles.specs.Forms.{combined_forms, is_product, is_sum_or_product, is_within};
+ghost use Rattle.scop_roles.specs.Forms.{combined_forms, is_product, is_sum_or_product, is_within, makes_narrow};
 ghost use Rattle.scop_roles.specs.Formula.{Formula as Tree, binary};
 ghost use Rattle.scop_roles.specs.Judgement.{HasForm, IsJoined, IsJudgement, IsOwnAffine};
 
@@ -12,7 +12,7 @@ use crate::forms::{is_within, multiple, sum};
 use crate::formula::Role;
 use crate::judgement::{Faults, Judgement};
 use crate::pairs::both;
-use crate::roles::{is_product, is_sum_or_product, own_joined, side_role};
+use crate::roles::{is_product, is_sum_or_product, makes_narrow, own_joined, side_role};
 use expression_grammar::token::Op;
 use scop_syntax::tree::Aff;
 use std::alloc::{AllocError, Global};
@@ -145,6 +145,37 @@ fn joins_signed(op: Op, left: &Judgement, right: &Judgement) -> bool
     is_sum_or_product(op) && are_signed(left, right)
 }
 
+fn joins_narrow(op: Op, left: &Judgement, right: &Judgement) -> bool
+    ensures { result ≡ makes_narrow op left.now.narrow right.now.narrow left.now.signed right.now.signed }
+{
+    makes_narrow(op, left.narrow, right.narrow, left.signed, right.signed)
+}
+
+fn joins_long(op: Op, left: &Judgement, right: &Judgement) -> bool
+    ensures { result ≡ ((is_sum_or_product op && (left.now.signed && right.now.signed))
+        && (left.now.named || right.now.named)) }
+{
+    joins_signed(op, left, right) && is_either_named(left, right)
+}
+
+// Whether the right side is a count of the left one's shifts.
+fn is_counted(left: &Judgement, right: &Judgement) -> bool
+    ensures { result ≡ (if left.now.narrow then right.now.narrow_count else right.now.count) }
+{
+    if left.narrow {
+        right.narrow_count
+    } else {
+        right.count
+    }
+}
+
+// Whether a signed part that may not stand beside 32 bits does.
+fn mixes(left: &Judgement, right: &Judgement) -> bool
+    ensures { result ≡ ((left.now.narrow && right.now.long) || (left.now.long && right.now.narrow)) }
+{
+    (left.narrow && right.long) || (left.long && right.narrow)
+}
+
 // The first fault of an operator over its sides.
 fn binary_fault(
     role: Role,
@@ -160,6 +191,8 @@ fn binary_fault(
     let side = side_role(op, are_signed(left, right), role);
     let part = first_of(left.faults.in_role(side), right.faults.in_role(side));
     let constants = are_constants(left, right);
+    let count = is_counted(left, right);
+    let mixed = mixes(left, right);
     let own = own_joined(
         affine,
         role,
@@ -167,7 +200,8 @@ fn binary_fault(
         left.signed,
         right.signed,
         constants,
-        right.count,
+        count,
+        mixed,
     );
     part_or_own(part, at, own)
 }
@@ -191,9 +225,13 @@ fn over_sides(
     Ok(Judgement {
         place: at,
         signed: joins_signed(op, left, right),
+        narrow: joins_narrow(op, left, right),
+        long: joins_long(op, left, right),
         named: is_either_named(left, right),
+        narrow_cells: false,
         constant: false,
         count: false,
+        narrow_count: false,
         lacking: Some(0),
         place_fault: None,
         faults: Faults {

@@ -1,29 +1,31 @@
 //! What a formula without faults stands for: a value, a cell, or the comparisons of a condition.
-ghost use Rattle.std.specs.Prelude.{[], ◌++◌, ◌∷◌, ◌≡◌, ◌≤◌, ℕ, IfOk, List, None, OnOk, false, map, true, unsigned_abs};
+ghost use Rattle.std.specs.Prelude.{[], ◌++◌, ◌∷◌, ◌≡◌, ◌≤◌, ◌&&◌, ℕ, IfOk, List, None, OnOk, false, map, true};
+ghost use Rattle.std.specs.Prelude.{unsigned_abs};
 ghost use Rattle.std.specs.List.{fold};
 ghost use Rattle.whole_numbers.specs.Affine.{Affine};
 ghost use Rattle.scop_syntax.specs.Kernel.{IsAffine};
 ghost use Rattle.scop_syntax.specs.Tree as scop;
-ghost use Rattle.scop_syntax.specs.Tree.{Expression, affine, read};
-ghost use Rattle.scop_syntax.specs.View.{expression_of, operator_of, test_of};
+ghost use Rattle.scop_syntax.specs.Tree.{Expression, affine, implied, read};
+ghost use Rattle.scop_syntax.specs.View.{expression_of, narrowing_of, operator_of, test_of};
 ghost use Rattle.scop_roles.specs.declared.formula.Role.TheVariants as role;
 ghost use Rattle.scop_roles.specs.Faults.{faults, first, is_count, place_faults};
 ghost use Rattle.scop_roles.specs.Formula.{Formula as Tree, argument_of, binary, cast, formula_of, index};
 ghost use Rattle.scop_roles.specs.Formula.{name, unary, with_argument};
-ghost use Rattle.scop_roles.specs.Forms.{form, is_and, is_shift, is_signed};
-ghost use Rattle.scop_roles.specs.Values.{IsValueOf, access, array_number, asked, combined, comparison, count};
-ghost use Rattle.scop_roles.specs.Values.{difference, expression, operator, read_places, signed_value, subscript_forms};
-ghost use Rattle.scop_roles.specs.Values.{tests};
+ghost use Rattle.scop_roles.specs.Forms.{form, has_name, is_and, is_long, is_narrow, is_shift, is_signed};
+ghost use Rattle.scop_roles.specs.Values.{IsSideOf, IsValueOf, access, array_number, asked, cast_to, combined};
+ghost use Rattle.scop_roles.specs.Values.{comparison, count, difference, expression, narrowed_where, operator};
+ghost use Rattle.scop_roles.specs.Values.{read_places, signed_value, subscript_forms, tests};
 
 use crate::forms::{constant_form, multiple, plus_constant, sum, variable_form};
 use crate::formula::{Argument, Formula, Meaning, meaning_of, place};
 use crate::judgement::affine_form;
 use crate::pairs::{both, boxed, in_box, push_behind};
 use crate::roles::{
-    is_and, is_between, is_minus, is_number, is_plain, is_shift, is_sum_or_product,
+    is_and, is_between, is_long_constant, is_minus, is_narrow_array, is_narrow_width, is_number,
+    is_plain, is_shift, is_sum_or_product, keeps_type, makes_narrow,
 };
-use expression_grammar::token::{Op, Sign};
-use scop_syntax::tree::{Access, Aff, Expr, Operator, Test};
+use expression_grammar::token::{Op, Sign, Width};
+use scop_syntax::tree::{Access, Aff, Expr, Narrowing, Operator, Test};
 use std::alloc::{AllocError, Global};
 
 /// Whether a formula is signed: a constant without suffix, a parameter, an iterator, or a sum, a difference, a product
@@ -42,6 +44,52 @@ pub fn is_signed(formula: &Formula) -> bool
     }
 }
 
+// Whether a formula is unsigned with 32 bits: a cell of such an array, a cast to `uint32_t`, or what operators make of
+// such.
+fn is_narrow(formula: &Formula) -> bool
+    ensures { result ≡ is_narrow (formula_of formula.now) }
+{
+    match formula {
+        Formula::Index(_, _, _) => is_narrow_array(meaning_of(formula)),
+        Formula::Unary(sign, operand, _) => keeps_type(*sign) && is_narrow(operand),
+        Formula::Cast(width, _, _) => is_narrow_width(*width),
+        Formula::Binary(op, left, right, _) => makes_narrow(
+            *op,
+            is_narrow(left),
+            is_narrow(right),
+            is_signed(left),
+            is_signed(right),
+        ),
+        _ => false,
+    }
+}
+
+// Whether a name stands in a formula that is signed.
+fn has_name(formula: &Formula) -> bool
+    ensures { is_signed (formula_of formula.now) ≡ true → result ≡ has_name (formula_of formula.now) }
+{
+    match formula {
+        Formula::Constant(_, _, _) => false,
+        Formula::Unary(_, operand, _) => has_name(operand),
+        Formula::Binary(_, left, right, _) => has_name(left) || has_name(right),
+        _ => true,
+    }
+}
+
+/// Whether a formula is a signed part that may not stand beside 32 bits: a name stands in it, or it is a constant of
+/// more.
+pub fn is_long(formula: &Formula) -> bool
+    ensures { result ≡ is_long (formula_of formula.now) }
+{
+    match formula {
+        Formula::Constant(suffix, value, _) => is_long_constant(*suffix, *value),
+        Formula::Name(meaning, _) => is_number(*meaning),
+        Formula::Unary(_, _, _) => is_signed(formula) && has_name(formula),
+        Formula::Binary(_, _, _, _) => is_signed(formula) && has_name(formula),
+        _ => false,
+    }
+}
+
 /// Whether a formula is a constant without suffix, from the one number up to the other.
 pub fn is_count(formula: &Formula, low: u64, high: u64) -> bool
     ensures { result ≡ is_count low high (formula_of formula.now) }
@@ -56,7 +104,7 @@ fn array_number(meaning: Meaning) -> usize
     ensures { result ≡ array_number meaning }
 {
     match meaning {
-        Meaning::Array(array, _) => array,
+        Meaning::Array(array, _, _) => array,
         _ => 0,
     }
 }
@@ -203,7 +251,7 @@ fn name_form(alloc: Global, meaning: Meaning, entries: usize) -> Result<Aff, All
 {
     match meaning {
         Meaning::Variable(variable) => variable_form(alloc, entries, variable),
-        Meaning::Unknown | Meaning::Closed | Meaning::Array(_, _) => constant_form(
+        Meaning::Unknown | Meaning::Closed | Meaning::Array(_, _, _) => constant_form(
             alloc, entries, 0,
         ),
     }
@@ -235,19 +283,46 @@ fn signed_part(alloc: Global, formula: &Formula, entries: usize) -> Result<Expr,
     Ok(Expr::Affine(form))
 }
 
-// A shifted value.
-fn shifted(alloc: Global, op: Op, value: Expr, count: u8) -> Result<Expr, AllocError>
-    requires { is_shift op ≡ true }
-    ensures { IfOk result (λ e. (d : Expression) → expression_of e ≡ combined op (expression_of value) d count) }
+/// A value, kept to 32 bits where this is so.
+pub fn narrowed_where(
+    alloc: Global,
+    narrow: bool,
+    narrowing: Narrowing,
+    value: Expr,
+) -> Result<Expr, AllocError>
+    ensures { IfOk result (λ e. expression_of e
+        ≡ narrowed_where narrow (narrowing_of narrowing) (expression_of value)) }
 {
-    let value = match in_box(alloc, value) {
-        Err(_) => return Err(AllocError),
-        Ok(value) => value,
-    };
+    if !narrow {
+        return Ok(value);
+    }
+    match in_box(alloc, value) {
+        Err(_) => Err(AllocError),
+        Ok(value) => Ok(Expr::Narrowed(narrowing, value)),
+    }
+}
+
+// A shift of a value.
+fn shift(op: Op, value: Box<Expr>, count: u8) -> Expr
+    requires { is_shift op ≡ true }
+    ensures { (d : Expression) → expression_of result ≡ combined op (expression_of value.value) d count }
+{
     match op {
-        Op::ShiftLeft => Ok(Expr::ShiftedLeft(value, count)),
-        Op::ShiftRight => Ok(Expr::ShiftedRight(value, count)),
+        Op::ShiftLeft => Expr::ShiftedLeft(value, count),
+        Op::ShiftRight => Expr::ShiftedRight(value, count),
         _ => unreachable!(),
+    }
+}
+
+// A shifted value, kept to 32 bits where this is so.
+fn shifted(alloc: Global, op: Op, narrow: bool, value: Expr, count: u8) -> Result<Expr, AllocError>
+    requires { is_shift op ≡ true }
+    ensures { IfOk result (λ e. (d : Expression) → expression_of e
+        ≡ narrowed_where narrow implied (combined op (expression_of value) d count)) }
+{
+    match in_box(alloc, value) {
+        Err(_) => Err(AllocError),
+        Ok(value) => narrowed_where(alloc, narrow, Narrowing::Implied, shift(op, value, count)),
     }
 }
 
@@ -255,31 +330,40 @@ fn shifted(alloc: Global, op: Op, value: Expr, count: u8) -> Result<Expr, AllocE
 fn shift_value(
     alloc: Global,
     op: Op,
+    narrow: bool,
     left: Result<Expr, AllocError>,
     right: &Formula,
 ) -> Result<Expr, AllocError>
     requires { is_shift op ≡ true }
     ensures { (n : ℕ) (f : Tree) (at : ℕ) → is_signed (binary op f (formula_of right.now) at) ≡ false
-        → IfOk left (λ e. IsValueOf n f (expression_of e))
+        → narrow ≡ is_narrow (binary op f (formula_of right.now) at)
+        → IfOk left (λ e. IsSideOf n narrow f (expression_of e))
         → IfOk result (λ e. IsValueOf n (binary op f (formula_of right.now) at) (expression_of e)) }
 {
     match left {
         Err(_) => Err(AllocError),
-        Ok(left) => shifted(alloc, op, left, count(right)),
+        Ok(left) => shifted(alloc, op, narrow, left, count(right)),
     }
 }
 
 // The opposite of a value, or its complement.
-fn signed_value(alloc: Global, sign: Sign, value: Expr) -> Result<Expr, AllocError>
-    ensures { IfOk result (λ e. expression_of e ≡ signed_value sign (expression_of value)) }
+fn under_sign(sign: Sign, value: Box<Expr>) -> Expr
+    ensures { expression_of result ≡ signed_value sign (expression_of value.value) }
 {
-    let value = match in_box(alloc, value) {
-        Err(_) => return Err(AllocError),
-        Ok(value) => value,
-    };
     match sign {
-        Sign::Minus => Ok(Expr::Negated(value)),
-        Sign::Complement | Sign::Not => Ok(Expr::Complemented(value)),
+        Sign::Minus => Expr::Negated(value),
+        Sign::Complement | Sign::Not => Expr::Complemented(value),
+    }
+}
+
+// The same, kept to 32 bits where this is so.
+fn signed_value(alloc: Global, sign: Sign, narrow: bool, value: Expr) -> Result<Expr, AllocError>
+    ensures { IfOk result (λ e. expression_of e
+        ≡ narrowed_where narrow implied (signed_value sign (expression_of value))) }
+{
+    match in_box(alloc, value) {
+        Err(_) => Err(AllocError),
+        Ok(value) => narrowed_where(alloc, narrow, Narrowing::Implied, under_sign(sign, value)),
     }
 }
 
@@ -287,48 +371,95 @@ fn signed_value(alloc: Global, sign: Sign, value: Expr) -> Result<Expr, AllocErr
 fn unary_value(
     alloc: Global,
     sign: Sign,
+    narrow: bool,
     operand: Result<Expr, AllocError>,
 ) -> Result<Expr, AllocError>
     ensures { (n : ℕ) (f : Tree) (at : ℕ) → is_signed (unary sign f at) ≡ false
-        → IfOk operand (λ e. IsValueOf n f (expression_of e))
+        → narrow ≡ is_narrow (unary sign f at) → IfOk operand (λ e. IsValueOf n f (expression_of e))
         → IfOk result (λ e. IsValueOf n (unary sign f at) (expression_of e)) }
 {
     match operand {
         Err(_) => Err(AllocError),
-        Ok(operand) => signed_value(alloc, sign, operand),
+        Ok(operand) => signed_value(alloc, sign, narrow, operand),
     }
 }
 
 // A value under a cast.
-fn under_cast(alloc: Global, value: Expr) -> Result<Expr, AllocError>
-    ensures { IfOk result (λ e. expression_of e ≡ scop.cast (expression_of value)) }
+fn under_cast(alloc: Global, width: Width, value: Expr) -> Result<Expr, AllocError>
+    ensures { IfOk result (λ e. expression_of e ≡ cast_to width (expression_of value)) }
 {
     match in_box(alloc, value) {
         Err(_) => Err(AllocError),
-        Ok(value) => Ok(Expr::Cast(value)),
+        Ok(value) => match width {
+            Width::Narrow => Ok(Expr::Narrowed(Narrowing::Explicit, value)),
+            Width::Full => Ok(Expr::Cast(value)),
+        },
     }
 }
 
 // The value of an operand under a cast.
-fn cast_value(alloc: Global, operand: Result<Expr, AllocError>) -> Result<Expr, AllocError>
+fn cast_value(
+    alloc: Global,
+    width: Width,
+    operand: Result<Expr, AllocError>,
+) -> Result<Expr, AllocError>
     ensures { (n : ℕ) (f : Tree) (at : ℕ) → IfOk operand (λ e. IsValueOf n f (expression_of e))
-        → IfOk result (λ e. IsValueOf n (cast f at) (expression_of e)) }
+        → IfOk result (λ e. IsValueOf n (cast width f at) (expression_of e)) }
 {
     match operand {
         Err(_) => Err(AllocError),
-        Ok(operand) => under_cast(alloc, operand),
+        Ok(operand) => under_cast(alloc, width, operand),
     }
 }
 
-// Two values joined by an operator.
-fn joined(alloc: Global, op: Op, left: Expr, right: Expr) -> Result<Expr, AllocError>
-    requires { is_shift op ≡ false }
-    ensures { IfOk result (λ e. (k : ℕ) → expression_of e
-        ≡ combined op (expression_of left) (expression_of right) k) }
+fn over_sides(op: Op, left: Box<Expr>, right: Box<Expr>) -> Expr
+    ensures { expression_of result
+        ≡ scop.binary (operator op) (expression_of left.value) (expression_of right.value) }
+{
+    Expr::Binary(operator(op), left, right)
+}
+
+// Two values joined by an operator, kept to 32 bits where this is so.
+fn joined(alloc: Global, op: Op, narrow: bool, left: Expr, right: Expr) -> Result<Expr, AllocError>
+    ensures { IfOk result (λ e. expression_of e ≡ narrowed_where narrow implied
+        (scop.binary (operator op) (expression_of left) (expression_of right))) }
 {
     match boxed(alloc, left, right) {
         Err(_) => Err(AllocError),
-        Ok((left, right)) => Ok(Expr::Binary(operator(op), left, right)),
+        Ok((left, right)) => narrowed_where(
+            alloc,
+            narrow,
+            Narrowing::Implied,
+            over_sides(op, left, right),
+        ),
+    }
+}
+
+// Whether a side is converted: a signed one of an operator of 32 bits.
+fn is_converted(narrow: bool, side: &Formula) -> bool
+    ensures { result ≡ (narrow && is_signed (formula_of side.now)) }
+{
+    narrow && is_signed(side)
+}
+
+// The value of an operator's side, converted where it is to be.
+fn side_value(
+    alloc: Global,
+    narrow: bool,
+    side: &Formula,
+    value: Result<Expr, AllocError>,
+) -> Result<Expr, AllocError>
+    ensures { (n : ℕ) → IfOk value (λ e. IsValueOf n (formula_of side.now) (expression_of e))
+        → IfOk result (λ e. IsSideOf n narrow (formula_of side.now) (expression_of e)) }
+{
+    match value {
+        Err(_) => Err(AllocError),
+        Ok(value) => narrowed_where(
+            alloc,
+            is_converted(narrow, side),
+            Narrowing::Converted,
+            value,
+        ),
     }
 }
 
@@ -336,17 +467,19 @@ fn joined(alloc: Global, op: Op, left: Expr, right: Expr) -> Result<Expr, AllocE
 fn sides_value(
     alloc: Global,
     op: Op,
+    narrow: bool,
     left: Result<Expr, AllocError>,
     right: Result<Expr, AllocError>,
 ) -> Result<Expr, AllocError>
     requires { is_shift op ≡ false }
     ensures { (n : ℕ) (f g : Tree) (at : ℕ) → is_signed (binary op f g at) ≡ false
-        → IfOk left (λ e. IsValueOf n f (expression_of e)) → IfOk right (λ e. IsValueOf n g (expression_of e))
+        → narrow ≡ is_narrow (binary op f g at) → IfOk left (λ e. IsSideOf n narrow f (expression_of e))
+        → IfOk right (λ e. IsSideOf n narrow g (expression_of e))
         → IfOk result (λ e. IsValueOf n (binary op f g at) (expression_of e)) }
 {
     match both(left, right) {
         Err(_) => Err(AllocError),
-        Ok((left, right)) => joined(alloc, op, left, right),
+        Ok((left, right)) => joined(alloc, op, narrow, left, right),
     }
 }
 
@@ -364,7 +497,7 @@ fn arguments_value(
     let mut left = first;
     for other in others {
         let right = value(alloc, &other.value, entries);
-        left = sides_value(alloc, Op::Comma, left, right);
+        left = sides_value(alloc, Op::Comma, false, left, right);
     }
     left
 }
@@ -379,35 +512,35 @@ fn value(alloc: Global, formula: &Formula, entries: usize) -> Result<Expr, Alloc
         Formula::Constant(_, value, _) => Ok(Expr::Constant(*value)),
         Formula::Name(meaning, _) => name_value(alloc, *meaning, entries),
         Formula::Index(_, _, _) => place_value(alloc, formula, entries),
-        Formula::BareCall(_, _) => Ok(Expr::Constant(0)),
-        Formula::Call(_, _, _) => Ok(Expr::Constant(0)),
+        Formula::BareCall(_, _) | Formula::Call(_, _, _) => Ok(Expr::Constant(0)),
         Formula::Unary(sign, operand, _) => {
             if is_signed(formula) {
                 return signed_part(alloc, formula, entries);
             }
             let operand = value(alloc, operand, entries);
-            unary_value(alloc, *sign, operand)
+            unary_value(alloc, *sign, is_narrow(formula), operand)
         }
-        Formula::Cast(operand, _) => {
+        Formula::Cast(width, operand, _) => {
             let operand = value(alloc, operand, entries);
-            cast_value(alloc, operand)
+            cast_value(alloc, *width, operand)
         }
         Formula::Commas(first, between, last, _) => {
             let first = value(alloc, first, entries);
             let left = arguments_value(alloc, between, first, entries);
             let last = value(alloc, last, entries);
-            sides_value(alloc, Op::Comma, left, last)
+            sides_value(alloc, Op::Comma, false, left, last)
         }
         Formula::Binary(op, left, right, _) => {
             if is_signed(formula) {
                 return signed_part(alloc, formula, entries);
             }
-            let left = value(alloc, left, entries);
+            let narrow = is_narrow(formula);
+            let left_value = side_value(alloc, narrow, left, value(alloc, left, entries));
             if is_shift(*op) {
-                return shift_value(alloc, *op, left, right);
+                return shift_value(alloc, *op, narrow, left_value, right);
             }
-            let right = value(alloc, right, entries);
-            sides_value(alloc, *op, left, right)
+            let right_value = side_value(alloc, narrow, right, value(alloc, right, entries));
+            sides_value(alloc, *op, narrow, left_value, right_value)
         }
     }
 }
@@ -528,7 +661,7 @@ fn add_tests(
         Formula::BareCall(_, _) => Ok(()),
         Formula::Call(_, _, _) => Ok(()),
         Formula::Unary(_, _, _) => Ok(()),
-        Formula::Cast(_, _) => Ok(()),
+        Formula::Cast(_, _, _) => Ok(()),
         Formula::Commas(_, _, _, _) => Ok(()),
     }
 }
@@ -571,7 +704,7 @@ pub fn push_read_places(formula: &Formula, places: &mut Vec<usize>) -> Result<()
     match formula {
         Formula::Index(inner, _, _) => push_behind(places, place(inner)),
         Formula::Unary(_, operand, _) => push_read_places(operand, places),
-        Formula::Cast(operand, _) => push_read_places(operand, places),
+        Formula::Cast(_, operand, _) => push_read_places(operand, places),
         Formula::Commas(first, between, last, _) => {
             match push_read_places(first, places) {
                 Err(_) => return Err(AllocError),

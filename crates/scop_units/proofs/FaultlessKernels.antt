@@ -1,6 +1,7 @@
 -- A kernel without faults stands for a program within the limits.
-use Rattle.std.proofs.Common.{◌≡◌, ℕ, zero, suc, ◌+◌, ◌-◌, ◌≤◌, List, [], ◌∷◌, ◌++◌, length, map, refl, sym, ap, subst}
-use Rattle.std.proofs.Common.{◌∙◌, arith, inl, inr, length-append, append_assoc, append-nil, ℤ, All, nat_le, nat_lt}
+use Rattle.std.proofs.Common.{◌≡◌, ℕ, zero, suc, ◌+◌, ◌-◌, ◌≤◌, Bool, List, [], ◌∷◌, ◌++◌, length, map, refl, sym, ap}
+use Rattle.std.proofs.Common.{subst, ◌∙◌, arith, inl, inr, length-append, append_assoc, append-nil, ℤ, All, nat_le}
+use Rattle.std.proofs.Common.{nat_lt}
 use Rattle.std.proofs.lemmas.List.{length-map, map-append}
 use Rattle.std.proofs.lemmas.List.Elements.{All-nil, All-cons, All-map}
 use Rattle.whole_numbers.specs.Affine.{Affine}
@@ -8,7 +9,8 @@ use Rattle.whole_numbers.specs.Lists.{zeros}
 use Rattle.whole_numbers.proofs.Dot.{length-zeros}
 use Rattle.expression_grammar.specs.Tree.{Tree, size}
 use Rattle.kernel_grammar.specs.Kernel.{Parameter, number, array, Kernel, parameter_elements}
-use Rattle.scop_syntax.specs.Kernel.{AreAtMost, IsAffine, IsDeclaration, AreTrees, ranks_of, IsKernel}
+use Rattle.scop_syntax.specs.Kernel.{AreAtMost, IsAffine, IsDeclaration, AreTrees, KeepWidths, ranks_of, narrow_arrays}
+use Rattle.scop_syntax.specs.Kernel.{IsKernel}
 use Rattle.scop_syntax.specs.Members.{In, Sorted}
 use Rattle.scop_syntax.specs.Tree.{Declaration}
 use Rattle.scop_syntax.specs.Tree as scop
@@ -18,17 +20,18 @@ use Rattle.scop_roles.specs.declared.fault.Kind.TheVariants as kind
 use Rattle.scop_roles.specs.declared.formula.Role.TheVariants as role
 use Rattle.scop_roles.specs.Formula.{Formula}
 use Rattle.scop_roles.specs.Faults.{first, told, faults, only_where}
-use Rattle.scop_roles.specs.Forms.{form}
-use Rattle.scop_lexer.specs.Bytes.{Text}
+use Rattle.scop_roles.specs.Forms.{form, is_narrow_width}
 use Rattle.scop_units.specs.Words.{Words, HasWorth}
-use Rattle.scop_units.specs.Scopes.{Scope, Ranked, no_scope, with_iterator, with_array, entries}
+use Rattle.scop_units.specs.Scopes.{Scope, Ranked, no_scope, with_iterator, entries}
 use Rattle.scop_units.specs.Units.{name_faults, extent_faults, array_of, padded, declared_over, kernel_name_faults}
 use Rattle.scop_units.specs.Judging.{width, extents_in, parameter_faults, behind_parameter, parameters_faults}
 use Rattle.scop_units.specs.Judging.{behind_parameters, behind_names, names_end, declared_faults, behind_declared}
 use Rattle.scop_units.specs.Judging.{others_at, declared_at, items_at, first_scope, header_scope, body_scope, faults_of}
 use Rattle.scop_units.specs.Programs.{array_in, arrays_in, arrays_of, all_trees, program_spelled}
 use Rattle.scop_units.proofs.FaultlessUnits.{RoleLaws, parts_none, fewer, at_most}
-use Rattle.scop_units.proofs.FaultlessItems.{ranks_in, items_stand, stand_trees, items_few, items_count}
+use Rattle.scop_units.specs.View.{ranked}
+use Rattle.scop_units.proofs.FaultlessItems.{ranks_among, widths_among, ranks_in, items_stand, stand_trees}
+use Rattle.scop_units.proofs.FaultlessItems.{stand_widths, items_few, items_count}
 
 -- forms over more entries
 
@@ -106,15 +109,12 @@ rows_sorted n a b (d ∷ ds) h =
     (λ y m. rows_in n d.parameters_before b ds y h.2 m, rows_sorted n d.parameters_before b ds h.2)
 
 -- what parameters add to a scope without loops
-abbrev pub rank_of : Declaration → ℕ
-rank_of d = length d.extents
-
 pub record Declares (s t : Scope) (ds : List Declaration) : Type 0 where
   pub rows : Rows (length s.parameters) (length t.parameters) ds
   pub few_parameters : length t.parameters ≤ 4
   pub few_arrays : length t.arrays ≤ 16
   pub loops : t.open_loops ≡ []
-  pub ranks : ranks_in t ≡ ranks_in s ++ map rank_of ds
+  pub arrays : t.arrays ≡ s.arrays ++ map ranked ds
 
 declares_then : (s t u : Scope) (ds es : List Declaration) → Declares s t ds → Declares t u es
     → Declares s u (ds ++ es)
@@ -124,9 +124,9 @@ declares_then s t u ds es x y =
       few_parameters = y.few_parameters;
       few_arrays = y.few_arrays;
       loops = y.loops;
-      ranks = y.ranks ∙ (ap (λ (rs : List ℕ). rs ++ map rank_of es) x.ranks
-          ∙ (append_assoc (ranks_in s) (map rank_of ds) (map rank_of es)
-          ∙ ap (λ (rs : List ℕ). ranks_in s ++ rs) (sym (map-append rank_of ds es))));
+      arrays = y.arrays ∙ (ap (λ (xs : List Ranked). xs ++ map ranked es) x.arrays
+          ∙ (append_assoc s.arrays (map ranked ds) (map ranked es)
+          ∙ ap (λ (xs : List Ranked). s.arrays ++ xs) (sym (map-append ranked ds es))));
     }
 
 extents_affine : (laws : RoleLaws) (n : ℕ) (fs : List Formula) → extent_faults n fs ≡ []
@@ -142,9 +142,6 @@ pub extents_length : (words : Words) (s : Scope) (at : ℕ) (xs : List Tree)
 extents_length words s at [] = refl
 extents_length words s at (x ∷ xs) = let m = extents_length words s (at + 1 + size x + 1) xs in omega (arith, m)
 
-ranks_more : (s : Scope) (w : Text) (r : ℕ) → ranks_in (with_array s w r) ≡ ranks_in s ++ r ∷ []
-ranks_more s w r = map-append (λ (a : Ranked). a.rank) s.arrays (record { name = w; rank = r } ∷ [])
-
 pub parameter_declares : (laws : RoleLaws) (words : Words) (s : Scope) (at : ℕ) (p : Parameter) → s.open_loops ≡ []
     → length s.parameters ≤ 4 → length s.arrays ≤ 16 → parameter_faults words s at p ≡ []
     → Declares s (behind_parameter words s at p) (array_in words s at p)
@@ -157,12 +154,14 @@ parameter_declares laws words s at number closed few arrays e =
       few_parameters = omega (arith, long, room);
       few_arrays = arrays;
       loops = closed;
-      ranks = sym (append-nil (ranks_in s));
+      arrays = sym (append-nil s.arrays);
     }
-parameter_declares laws words s at (array x xs) closed few arrays e =
+parameter_declares laws words s at (array w x xs) closed few arrays e =
     let n = entries s in
     let fs = extents_in words s (at + 1 + 1) (x ∷ xs) in
-    let d = array_of words s (at + 1) fs in
+    let d = array_of words s (at + 1) w fs in
+    let one : ℕ → Ranked =
+    λ r. record { name = words.spelling (at + 1); rank = r; narrow = is_narrow_width w } in
     let named = parts_none (name_faults words s (at + 1)) _ e in
     let ranked = parts_none (told (at + 1) (only_where (nat_lt 4 (length fs)) kind.Rank)) _ named.1 in
     let counted = parts_none (told (at + 1) (only_where (nat_le 16 (length s.arrays)) kind.Arrays)) _ ranked.1 in
@@ -173,7 +172,7 @@ parameter_declares laws words s at (array x xs) closed few arrays e =
     let ranks_same : length (x ∷ xs) ≡ length (map (form n) fs) = sym same ∙ sym formed in
     let none = ap length closed in
     let over : n ≡ length s.parameters = omega (arith, none) in
-    let long = length-append s.arrays (record { name = words.spelling (at + 1); rank = length (x ∷ xs) } ∷ []) in
+    let long = length-append s.arrays (one (length (x ∷ xs)) ∷ []) in
     let is : IsDeclaration (length s.parameters) d =
     record {
       place = omega arith;
@@ -186,8 +185,7 @@ parameter_declares laws words s at (array x xs) closed few arrays e =
       few_parameters = few;
       few_arrays = omega (arith, long, room);
       loops = closed;
-      ranks = ranks_more s (words.spelling (at + 1)) (length (x ∷ xs))
-          ∙ ap (λ (r : ℕ). ranks_in s ++ r ∷ []) ranks_same;
+      arrays = ap (λ (r : ℕ). s.arrays ++ one r ∷ []) ranks_same;
     }
 
 pub parameters_declare : (laws : RoleLaws) (words : Words) (s : Scope) (at : ℕ) (ps : List Parameter)
@@ -199,7 +197,7 @@ parameters_declare laws words s at [] closed few arrays e =
       few_parameters = few;
       few_arrays = arrays;
       loops = closed;
-      ranks = sym (append-nil (ranks_in s));
+      arrays = sym (append-nil s.arrays);
     }
 parameters_declare laws words s at (p ∷ ps) closed few arrays e =
     let t = behind_parameter words s (at + 1) p in
@@ -225,11 +223,18 @@ changes_nothing words s at (k ∷ ks) =
     let b = changes_nothing words (behind_names words t (at + 1 + 1) k) (names_end (at + 1 + 1) k + 1) ks in
     (b.0 ∙ a.0, b.1 ∙ a.1, b.2 ∙ a.2)
 
-ranks_over : (n : ℕ) (ds : List Declaration) → map rank_of (map (declared_over n) ds) ≡ map rank_of ds
+-- over all parameters the arrays have the ranks and the widths of the scope
+ranks_over : (n : ℕ) (ds : List Declaration)
+    → ranks_among (map ranked ds) ≡ map (λ (d : Declaration). length d.extents) (map (declared_over n) ds)
 ranks_over n [] = refl
 ranks_over n (d ∷ ds) =
-    ap (λ (r : ℕ). r ∷ map rank_of (map (declared_over n) ds)) (length-map d.extents (padded n))
-    ∙ ap (λ (rs : List ℕ). length d.extents ∷ rs) (ranks_over n ds)
+    ap (λ (r : ℕ). r ∷ ranks_among (map ranked ds)) (sym (length-map d.extents (padded n)))
+    ∙ ap (λ (rs : List ℕ). length (map (padded n) d.extents) ∷ rs) (ranks_over n ds)
+
+widths_over : (n : ℕ) (ds : List Declaration)
+    → widths_among (map ranked ds) ≡ map (λ (d : Declaration). d.narrow) (map (declared_over n) ds)
+widths_over n [] = refl
+widths_over n (d ∷ ds) = ap (λ (bs : List Bool). d.narrow ∷ bs) (widths_over n ds)
 
 -- the trees of the items, over the names of the header
 trees_same : (ranks rs : List ℕ) (n m l c : ℕ) (ts : List scop.Tree) → ranks ≡ rs → n ≡ m → l ≡ 0 → c ≡ 0
@@ -262,23 +267,26 @@ kernel_stands laws words k worth e =
     let none = ap length (keeps.2 ∙ all.loops) in
     let same = ap length keeps.0 in
     let over : entries body ≡ n = omega (arith, none, same) in
-    let ranks : ranks_in body ≡ ranks_of (program_spelled words k) =
-    ap (λ (xs : List Ranked). map (λ (x : Ranked). x.rank) xs) keeps.1 ∙ (all.ranks ∙ sym (ranks_over n ds)) in
+    let arrays : body.arrays ≡ map ranked ds = keeps.1 ∙ all.arrays in
+    let ranks : ranks_in body ≡ ranks_of (program_spelled words k) = ap ranks_among arrays ∙ ranks_over n ds in
+    let widths : widths_among body.arrays ≡ narrow_arrays (program_spelled words k) =
+    ap widths_among arrays ∙ widths_over n ds in
     let stand = items_stand laws words worth body 0 0 (items_at k) k.items inner.1 in
     let few = items_few laws words worth body 0 0 (items_at k) k.items inner.1 (omega arith) in
     let count = items_count words body (items_at k) k.items in
     let many = length-map ds (declared_over n) in
-    let long = ap length all.ranks in
-    let left = length-map header.arrays (λ (x : Ranked). x.rank) in
-    let right = length-map ds rank_of in
+    let long = ap length all.arrays in
+    let right = length-map ds ranked in
     let most = all.few_arrays in
     record {
       few_parameters = all.few_parameters;
-      few_arrays = omega (arith, many, long, left, right, most);
+      few_arrays = omega (arith, many, long, right, most);
       few_statements = omega (arith, few, count);
       declarations = rows_all n 0 ds all.rows;
       in_order = rows_sorted n 0 n ds all.rows;
       body = trees_same (ranks_in body) (ranks_of (program_spelled words k)) (entries body) n (length body.open_loops)
           0 ts
-          ranks over none refl (stand_trees (ranks_in body) (entries body) (length body.open_loops) 0 ts stand);
+          ranks over none refl (stand_trees body.arrays (entries body) (length body.open_loops) 0 ts stand);
+      widths = subst (λ (bs : List Bool). KeepWidths bs (trees_of ts)) widths
+          (stand_widths body.arrays (entries body) (length body.open_loops) 0 ts stand);
     }

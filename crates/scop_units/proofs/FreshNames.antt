@@ -10,6 +10,7 @@ use Rattle.scop_syntax.specs.Members.{In}
 use Rattle.scop_roles.specs.declared.fault.Kind.TheVariants as kind
 use Rattle.scop_roles.specs.declared.formula.Meaning.{Meaning}
 use Rattle.scop_roles.specs.declared.formula.Meaning.TheVariants as meaning
+use Rattle.scop_roles.specs.Forms.{is_narrow_width}
 use Rattle.scop_units.specs.Words.{Words}
 use Rattle.scop_units.specs.Scopes.{Scope, Ranked, with_parameter, with_array, with_iterator, number_from, number_of}
 use Rattle.scop_units.specs.Scopes.{variable_or, array_in, outer_meaning, meaning_in, is_known, is_reserved}
@@ -87,7 +88,7 @@ unknown_if false m n h e = (refl, e)
 array_none : (k : ℕ) (w : Text) (xs : List Ranked) → is_known (array_in k w xs) ≡ false → In w (array_names xs) → ⊥
 array_none k w [] e m = m
 array_none k w (a ∷ xs) e m =
-    let parts = unknown_if (bytes_eq a.name w) (meaning.Array k a.rank) (array_in (k + 1) w xs) refl e in
+    let parts = unknown_if (bytes_eq a.name w) (meaning.Array k a.rank a.narrow) (array_in (k + 1) w xs) refl e in
     elim m [
       | inl same ↦ not_equal a.name w parts.0 same
       | inr rest ↦ array_none (k + 1) w xs parts.1 rest
@@ -150,11 +151,12 @@ parameter_distinct s w d fresh =
       );
     }
 
-array_distinct : (s : Scope) (w : Text) (r : ℕ) → IsDistinct s → IsFresh s w → IsDistinct (with_array s w r)
-array_distinct s w r d fresh =
+array_distinct : (s : Scope) (w : Text) (r : ℕ) (narrow : Bool) → IsDistinct s → IsFresh s w
+    → IsDistinct (with_array s w r narrow)
+array_distinct s w r narrow d fresh =
     let names = array_names s.arrays in
-    let more_names : array_names (with_array s w r).arrays ≡ names ++ w ∷ [] =
-    map-append (λ (a : Ranked). a.name) s.arrays (record { name = w; rank = r } ∷ []) in
+    let more_names : array_names (with_array s w r narrow).arrays ≡ names ++ w ∷ [] =
+    map-append (λ (a : Ranked). a.name) s.arrays (record { name = w; rank = r; narrow = narrow } ∷ []) in
     record {
       parameters = d.parameters;
       arrays = subst AreDistinct (sym more_names) (distinct_push names w d.arrays fresh.arrays);
@@ -199,8 +201,8 @@ pub parameter_keeps : (words : Words) (s : Scope) (at : ℕ) (p : Parameter) →
 parameter_keeps words s at number d e =
     parameter_distinct s (words.spelling (at + 1)) d
     (name_fresh words s (at + 1) (parts_none (name_faults words s (at + 1)) _ e).0)
-parameter_keeps words s at (array x xs) d e =
-    array_distinct s (words.spelling (at + 1)) (length (x ∷ xs)) d
+parameter_keeps words s at (array w x xs) d e =
+    array_distinct s (words.spelling (at + 1)) (length (x ∷ xs)) (is_narrow_width w) d
     (name_fresh words s (at + 1) (parts_none (name_faults words s (at + 1)) _ e).0)
 
 pub parameters_keep : (words : Words) (s : Scope) (at : ℕ) (ps : List Parameter) → IsDistinct s

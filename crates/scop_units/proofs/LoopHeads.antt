@@ -139,13 +139,13 @@ entry_form n (name (meaning.Variable j) at) e =
     ap (λ k. form_of (set (zeros (n + 1)) k (pos 1)) (pos 0)) (eqb-true j n e)
 entry_form n (name meaning.Unknown at) e = absurd (cc)
 entry_form n (name meaning.Closed at) e = absurd (cc)
-entry_form n (name (meaning.Array k r) at) e = absurd (cc)
+entry_form n (name (meaning.Array k r narrow) at) e = absurd (cc)
 entry_form n (constant s v at) e = absurd (cc)
 entry_form n (index p i) e = absurd (cc)
 entry_form n (bare_call m at) e = absurd (cc)
 entry_form n (call m f at) e = absurd (cc)
 entry_form n (unary s f at) e = absurd (cc)
-entry_form n (cast f at) e = absurd (cc)
+entry_form n (cast w f at) e = absurd (cc)
 entry_form n (binary o f g at) e = absurd (cc)
 
 -- a multiple of a form in which an entry is 0
@@ -179,13 +179,13 @@ unnamed m n (name (meaning.Variable j) at) e =
     get_or-set_other (zeros m) j n (pos 1) (pos 0) (not_equal j n e) ∙ get_or-zeros m n
 unnamed m n (name meaning.Unknown at) e = get_or-zeros m n
 unnamed m n (name meaning.Closed at) e = get_or-zeros m n
-unnamed m n (name (meaning.Array k r) at) e = get_or-zeros m n
+unnamed m n (name (meaning.Array k r narrow) at) e = get_or-zeros m n
 unnamed m n (index p i) e = get_or-zeros m n
 unnamed m n (bare_call c at) e = get_or-zeros m n
 unnamed m n (call c f at) e = get_or-zeros m n
 unnamed m n (unary sign.Minus f at) e = multiple_none n (negsuc 0) (form m f) (unnamed m n f e)
 unnamed m n (unary _ f at) e = get_or-zeros m n
-unnamed m n (cast f at) e = get_or-zeros m n
+unnamed m n (cast w f at) e = get_or-zeros m n
 unnamed m n (binary o f g at) e =
     let b = both_false (names_entry n f) (names_entry n g) e in
     combined_none n o (has_name f) (form m f) (form m g) (unnamed m n f b.0) (unnamed m n g b.1)

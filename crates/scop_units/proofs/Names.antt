@@ -14,6 +14,7 @@ use Rattle.scop_syntax.specs.View.{trees_of}
 use Rattle.scop_roles.specs.declared.formula.Meaning.{Meaning}
 use Rattle.scop_roles.specs.declared.formula.Meaning.TheVariants as meaning
 use Rattle.scop_roles.specs.Faults.{told, judged}
+use Rattle.scop_roles.specs.Forms.{is_narrow_width}
 use Rattle.scop_units.specs.Words.{Words}
 use Rattle.scop_units.specs.Scopes.{Scope, Ranked, no_scope, number_of, variable_or, array_in, meaning_in}
 use Rattle.scop_units.specs.Scopes.{taken, iterator_fault}
@@ -45,12 +46,12 @@ fresh_name s w a b c =
 not_closed_array : (k : ℕ) (w : Text) (xs : List Ranked) → array_in k w xs ≡ meaning.Closed → ⊥
 not_closed_array k w [] e = absurd (cc)
 not_closed_array k w (a ∷ xs) e =
-    by_test (bytes_eq a.name w) k a.rank (array_in (k + 1) w xs) (not_closed_array (k + 1) w xs) e
+    by_test (bytes_eq a.name w) k a.rank a.narrow (array_in (k + 1) w xs) (not_closed_array (k + 1) w xs) e
   where
-    by_test : (b : Bool) (j r : ℕ) (m : Meaning) → (m ≡ meaning.Closed → ⊥)
-        → (if b then meaning.Array j r else m) ≡ meaning.Closed → ⊥
-    by_test true j r m h f = absurd (cc)
-    by_test false j r m h f = h f
+    by_test : (b : Bool) (j r : ℕ) (narrow : Bool) (m : Meaning) → (m ≡ meaning.Closed → ⊥)
+        → (if b then meaning.Array j r narrow else m) ≡ meaning.Closed → ⊥
+    by_test true j r narrow m h f = absurd (cc)
+    by_test false j r narrow m h f = h f
 
 not_closed_variable : (n : ℕ) (o : Option ℕ) (m : Meaning) → (m ≡ meaning.Closed → ⊥)
     → variable_or n o m ≡ meaning.Closed → ⊥
@@ -61,7 +62,7 @@ taken_closed : (m : Meaning) → taken m ≡ None → m ≡ meaning.Closed
 taken_closed meaning.Closed e = refl
 taken_closed meaning.Unknown e = absurd (cc)
 taken_closed (meaning.Variable k) e = absurd (cc)
-taken_closed (meaning.Array k r) e = absurd (cc)
+taken_closed (meaning.Array k r narrow) e = absurd (cc)
 
 closed_parts : (n : ℕ) (o : Option ℕ) (b : Bool) (m : Meaning) → (m ≡ meaning.Closed → ⊥)
     → variable_or n o (if b then meaning.Closed else m) ≡ meaning.Closed → (o ≡ None) × (b ≡ true)
@@ -153,9 +154,9 @@ parameter_names : (words : Words) (s : Scope) (at : ℕ) (p : Parameter)
     → array_names (behind_parameter words s at p).arrays
     ≡ array_names s.arrays ++ map named (programs.array_in words s at p)
 parameter_names words s at number = sym (append-nil (array_names s.arrays))
-parameter_names words s at (array x xs) =
+parameter_names words s at (array w x xs) =
     map-append (λ (a : Ranked). a.name) s.arrays
-    (record { name = words.spelling (at + 1); rank = length (x ∷ xs) } ∷ [])
+    (record { name = words.spelling (at + 1); rank = length (x ∷ xs); narrow = is_narrow_width w } ∷ [])
 
 parameters_names : (words : Words) (s : Scope) (at : ℕ) (ps : List Parameter)
     → array_names (behind_parameters words s at ps).arrays
@@ -178,7 +179,7 @@ over_names n (d ∷ ds) = ap (λ (ns : List Text). d.name ∷ ns) (over_names n 
 parameter_loops : (words : Words) (s : Scope) (at : ℕ) (p : Parameter)
     → (behind_parameter words s at p).open_loops ≡ s.open_loops
 parameter_loops words s at number = refl
-parameter_loops words s at (array x xs) = refl
+parameter_loops words s at (array w x xs) = refl
 
 parameters_loops : (words : Words) (s : Scope) (at : ℕ) (ps : List Parameter)
     → (behind_parameters words s at ps).open_loops ≡ s.open_loops

@@ -1,7 +1,8 @@
 -- The first fault of a unit by those of its parts, and what is clean where a unit is.
-use Rattle.std.proofs.Common.{◌≡◌, ℕ, suc, ◌+◌, ◌<◌, Bool, true, false, ℤ, List, [], ◌∷◌, ◌++◌, length, map, get_or}
-use Rattle.std.proofs.Common.{drop, refl, sym, ap, ◌∙◌, append_assoc, add-one, drop-cons}
+use Rattle.std.proofs.Common.{◌≡◌, ℕ, suc, ◌+◌, ◌<◌, ◌≤◌, Bool, true, false, ℤ, List, [], ◌∷◌, ◌++◌, length, map}
+use Rattle.std.proofs.Common.{get_or, drop, refl, sym, ap, ◌∙◌, append_assoc, add-one, drop-cons}
 use Rattle.std.specs.Prelude.{Option, Some, None, not, nat_le, nat_lt, slice_get, is_some}
+use Rattle.expression_grammar.specs.Assign.{Assign}
 use Rattle.expression_grammar.specs.Assign.TheVariants as assigns
 use Rattle.scop_roles.specs.declared.fault.Fault.{Fault}
 use Rattle.scop_roles.specs.declared.fault.Kind.{Kind}
@@ -9,16 +10,18 @@ use Rattle.scop_roles.specs.declared.fault.Kind.TheVariants as kind
 use Rattle.scop_roles.specs.declared.formula.Role.TheVariants as role
 use Rattle.whole_numbers.specs.Affine.{Affine}
 use Rattle.scop_roles.specs.Forms.{form}
+use Rattle.scop_roles.specs.Values.{count}
 use Rattle.scop_roles.specs.declared.formula.Formula.{Formula as CodeFormula}
 use Rattle.scop_roles.specs.Formula.{Formula, place, formula_of}
-use Rattle.scop_roles.specs.Faults.{first, first_of, told, judged, faults, place_faults, own_rank, only_where, is_count}
+use Rattle.scop_roles.specs.Faults.{first, first_of, told, judged, faults, place_faults, own_rank, only_where}
 use Rattle.scop_roles.proofs.Firsts.{first-append, first_of-assoc, first_of_none, some_first}
 use Rattle.scop_units.specs.Words.{Words}
 use Rattle.scop_units.specs.Scopes.{Scope, entries, iterator_fault}
 use Rattle.scop_units.specs.Loops.{LoopHead, rises, goes, is_form, change_faults, part_faults, loop_faults}
-use Rattle.scop_units.specs.Units.{Stored, or_fault, own_cell, cell_faults, own_assign, reads_of, read_limit}
-use Rattle.scop_units.specs.Units.{name_faults, number_faults, extent_faults, array_faults, stored_faults}
+use Rattle.scop_units.specs.Units.{Stored, or_fault, own_cell, cell_faults, is_narrow_cell, own_assign, reads_of}
+use Rattle.scop_units.specs.Units.{read_limit, name_faults, number_faults, extent_faults, array_faults, stored_faults}
 use Rattle.scop_units.specs.Units.{statement_faults}
+use Rattle.scop_units.proofs.FaultlessUnits.{any_count}
 
 next_item : (i : ℕ) (xs : List CodeFormula) (x : CodeFormula) → i < length xs → x ≡ get_or xs i x
     → drop i xs ≡ x ∷ drop (i + 1) xs
@@ -72,9 +75,9 @@ cell_parts n f =
 
 pub stored_parts : (n : ℕ) (s : Stored) → first (stored_faults n s)
     ≡ or_fault (first_of (first (cell_faults n s.cell)) (first (faults n role.Value s.value)))
-    (first (told s.assign_at (own_assign s.assign s.value)))
+    (first (told s.assign_at (own_assign (is_narrow_cell s.cell) s.assign s.value)))
 stored_parts n s =
-    let own = told s.assign_at (own_assign s.assign s.value) in
+    let own = told s.assign_at (own_assign (is_narrow_cell s.cell) s.assign s.value) in
     judged_first (cell_faults n s.cell ++ faults n role.Value s.value) own
     ∙ ap (λ (f : Option Fault). or_fault f (first own))
     (first-append (cell_faults n s.cell) (faults n role.Value s.value))
@@ -90,7 +93,7 @@ statement_parts n comparisons before s =
 
 stored_clean : (n : ℕ) (s : Stored) → first (stored_faults n s) ≡ None
     → (first (place_faults n s.cell) ≡ None) × (first (faults n role.Value s.value) ≡ None)
-    × (first (told s.assign_at (own_assign s.assign s.value)) ≡ None)
+    × (first (told s.assign_at (own_assign (is_narrow_cell s.cell) s.assign s.value)) ≡ None)
 stored_clean n s e =
     let outer = or_none _ _ (sym (stored_parts n s) ∙ e) in
     let sides = first_of_none _ _ outer.0 in
@@ -103,19 +106,24 @@ cell_clean n s e = (stored_clean n s e).0
 pub value_clean : (n : ℕ) (s : Stored) → first (stored_faults n s) ≡ None → first (faults n role.Value s.value) ≡ None
 value_clean n s e = (stored_clean n s e).1
 
-is_counted : (b : Bool) (at : ℕ) → first (told at (only_where (not b) kind.ShiftCount)) ≡ None → b ≡ true
-is_counted true at e = refl
-is_counted false at e = absurd (cc)
+told_clean : (at : ℕ) (k : Option Kind) → first (told at k) ≡ None → k ≡ None
+told_clean at None e = refl
+told_clean at (Some k) e = absurd (cc)
+
+own_clean : (n : ℕ) (s : Stored) (a : Assign) → first (stored_faults n s) ≡ None → s.assign ≡ a
+    → own_assign (is_narrow_cell s.cell) a s.value ≡ None
+own_clean n s a e is =
+    told_clean s.assign_at (own_assign (is_narrow_cell s.cell) a s.value)
+    (ap (λ x. first (told s.assign_at (own_assign (is_narrow_cell s.cell) x s.value))) (sym is)
+    ∙ (stored_clean n s e).2)
 
 pub count_clean_left : (n : ℕ) (s : Stored) → first (stored_faults n s) ≡ None → s.assign ≡ assigns.ShiftLeft
-    → is_count 0 63 s.value ≡ true
-count_clean_left n s e a = is_counted (is_count 0 63 s.value) s.assign_at
-    (ap (λ x. first (told s.assign_at (own_assign x s.value))) (sym a) ∙ (stored_clean n s e).2)
+    → count s.value ≤ 63
+count_clean_left n s e is = any_count (is_narrow_cell s.cell) s.value (own_clean n s assigns.ShiftLeft e is)
 
 pub count_clean_right : (n : ℕ) (s : Stored) → first (stored_faults n s) ≡ None → s.assign ≡ assigns.ShiftRight
-    → is_count 0 63 s.value ≡ true
-count_clean_right n s e a = is_counted (is_count 0 63 s.value) s.assign_at
-    (ap (λ x. first (told s.assign_at (own_assign x s.value))) (sym a) ∙ (stored_clean n s e).2)
+    → count s.value ≤ 63
+count_clean_right n s e is = any_count (is_narrow_cell s.cell) s.value (own_clean n s assigns.ShiftRight e is)
 
 is_formed : (b : Bool) (at : ℕ) → first (told at (only_where (not b) kind.LoopForm)) ≡ None → b ≡ true
 is_formed true at e = refl
@@ -219,11 +227,11 @@ pub cell_by : (n : ℕ) (f : Formula) (p : ℕ) (o r : Option Kind) (parts rank 
     → all ≡ first (cell_faults n f)
 cell_by n f p o r parts rank name node all e g h i j k l m = rw (m, l, k, j, i, h, g, e) (sym (cell_parts n f))
 
-pub stored_by : (n : ℕ) (s : Stored) (oa : Option Kind) (cell value own sides all : Option Fault)
+pub stored_by : (n : ℕ) (s : Stored) (b : Bool) (oa : Option Kind) (cell value own sides all : Option Fault)
     → cell ≡ first (cell_faults n s.cell) → value ≡ first (faults n role.Value s.value)
-    → oa ≡ own_assign s.assign s.value → own ≡ first (told s.assign_at oa) → sides ≡ first_of cell value
-    → all ≡ or_fault sides own → all ≡ first (stored_faults n s)
-stored_by n s oa cell value own sides all e f g h i j = rw (j, i, h, g, e, f) (sym (stored_parts n s))
+    → b ≡ is_narrow_cell s.cell → oa ≡ own_assign b s.assign s.value → own ≡ first (told s.assign_at oa)
+    → sides ≡ first_of cell value → all ≡ or_fault sides own → all ≡ first (stored_faults n s)
+stored_by n s b oa cell value own sides all e f k g h i j = rw (j, i, h, g, k, e, f) (sym (stored_parts n s))
 
 pub statement_by : (n comparisons before : ℕ) (s : Stored) (p : ℕ)
     (parts reads deep many inner outer all : Option Fault)

@@ -44,14 +44,14 @@ spell_elements words at es fs h = subst (SpellFrom words at) (spelled_append es 
 parameter_spelled : (words : Words) (at : ℕ) (p : Parameter) (ts : List Token)
     → SpellFrom words at (spelled (parameter_elements p) ++ ts) → IsName (words.spelling (at + 1))
 parameter_spelled words at number ts h = h 1 refl
-parameter_spelled words at (array x xs) ts h = h 1 refl
+parameter_spelled words at (array w x xs) ts h = h 1 refl
 
 parameter_names : (words : Words) (s : Scope) (at : ℕ) (p : Parameter) → IsName (words.spelling (at + 1))
     → All IsName s.parameters → All IsName (behind_parameter words s at p).parameters
 parameter_names words s at number named names =
     All-append IsName s.parameters (words.spelling (at + 1) ∷ []) names
     (All-cons IsName (words.spelling (at + 1)) [] named (All-nil IsName))
-parameter_names words s at (array x xs) named names = names
+parameter_names words s at (array w x xs) named names = names
 
 abbrev HasName : Declaration → Type 0
 HasName d = IsName d.name
@@ -59,7 +59,7 @@ HasName d = IsName d.name
 array_named : (words : Words) (s : Scope) (at : ℕ) (p : Parameter) → IsName (words.spelling (at + 1))
     → All HasName (array_in words s at p)
 array_named words s at number named = All-nil HasName
-array_named words s at (array x xs) named = All-cons HasName _ [] named (All-nil HasName)
+array_named words s at (array w x xs) named = All-cons HasName _ [] named (All-nil HasName)
 
 -- so it is for parameters behind others
 abbrev AreNamed : Words → Scope → ℕ → List Parameter → Type 0

@@ -11,6 +11,7 @@ use Rattle.scop_roles.specs.declared.fault.Fault.{Fault}
 use Rattle.scop_roles.specs.declared.formula.Role.TheVariants as role
 use Rattle.scop_roles.specs.Formula.{Formula, Lookup, formula, name}
 use Rattle.scop_roles.specs.Faults.{faults}
+use Rattle.scop_roles.specs.Forms.{is_narrow_width}
 use Rattle.scop_roles.specs.Values.{tests}
 use Rattle.scop_units.specs.Words.{Words}
 use Rattle.scop_units.specs.Scopes.{Scope, no_scope, with_parameter, with_array, with_iterator, with_loop, entries}
@@ -38,12 +39,13 @@ extents_in words s at (x ∷ xs) = formula_in words s (at + 1) x ∷ extents_in 
 -- the faults of a parameter that begins at a place
 abbrev pub parameter_faults : Words → Scope → ℕ → Parameter → List Fault
 parameter_faults words s at number = number_faults words s (at + 1)
-parameter_faults words s at (array x xs) = array_faults words s (at + 1) (extents_in words s (at + 1 + 1) (x ∷ xs))
+parameter_faults words s at (array w x xs) = array_faults words s (at + 1) (extents_in words s (at + 1 + 1) (x ∷ xs))
 
 -- the scope behind a parameter
 abbrev pub behind_parameter : Words → Scope → ℕ → Parameter → Scope
 behind_parameter words s at number = with_parameter s (words.spelling (at + 1))
-behind_parameter words s at (array x xs) = with_array s (words.spelling (at + 1)) (length (x ∷ xs))
+behind_parameter words s at (array w x xs) =
+    with_array s (words.spelling (at + 1)) (length (x ∷ xs)) (is_narrow_width w)
 
 -- the parameters from a place on, which is that of the sign behind the one before
 abbrev pub parameters_faults : Words → Scope → ℕ → List Parameter → List Fault

@@ -56,7 +56,7 @@ names_entry k (index p i) = names_entry k p || names_entry k i
 names_entry k (bare_call m at) = false
 names_entry k (call m f at) = names_entry k f
 names_entry k (unary s f at) = names_entry k f
-names_entry k (cast f at) = names_entry k f
+names_entry k (cast w f at) = names_entry k f
 names_entry k (binary o f g at) = names_entry k f || names_entry k g
 
 -- the iterator alone on one side, and not on the other; up: whether it rises where it stands on the left

@@ -18,7 +18,7 @@ use Rattle.scop_units.specs.Judging.{others_at, items_at, first_scope, header_sc
 -- the array that a parameter is, if it is one
 abbrev pub array_in : Words → Scope → ℕ → Parameter → List Declaration
 array_in words s at number = []
-array_in words s at (array x xs) = array_of words s (at + 1) (extents_in words s (at + 1 + 1) (x ∷ xs)) ∷ []
+array_in words s at (array w x xs) = array_of words s (at + 1) w (extents_in words s (at + 1 + 1) (x ∷ xs)) ∷ []
 
 -- the arrays among the parameters behind the first
 abbrev pub arrays_in : Words → Scope → ℕ → List Parameter → List Declaration

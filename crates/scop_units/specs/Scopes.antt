@@ -12,10 +12,11 @@ use Rattle.scop_roles.specs.Formula.{Lookup}
 use Rattle.scop_roles.specs.Faults.{only_where}
 use Rattle.scop_units.specs.Words.{Words}
 
--- an array: its name, and how many extents it has
+-- an array: its name, how many extents it has, and whether its cells have 32 bits
 pub record Ranked : Type 0 where
   pub name : Text
   pub rank : ℕ
+  pub narrow : Bool
 
 -- the names in scope, each list in the order of the text
 pub record Scope : Type 0 where
@@ -34,9 +35,9 @@ no_scope = record { parameters = []; arrays = []; declared = λ v. false; open_l
 abbrev pub with_parameter : Scope → Text → Scope
 with_parameter s w = record s { parameters = s.parameters ++ w ∷ [] }
 
--- with one array more, of so many extents
-abbrev pub with_array : Scope → Text → ℕ → Scope
-with_array s w r = record s { arrays = s.arrays ++ record { name = w; rank = r } ∷ [] }
+-- with one array more, of so many extents and this width
+abbrev pub with_array : Scope → Text → ℕ → Bool → Scope
+with_array s w r narrow = record s { arrays = s.arrays ++ record { name = w; rank = r; narrow = narrow } ∷ [] }
 
 -- with one iterator more that is declared at the start
 abbrev pub with_iterator : Scope → Text → Scope
@@ -76,7 +77,8 @@ variable_or n None otherwise = otherwise
 -- the array of a name among arrays whose first has number k
 abbrev pub array_in : ℕ → Text → List Ranked → Meaning
 array_in k w [] = meaning.Unknown
-array_in k w (a ∷ arrays) = if bytes_eq a.name w then meaning.Array k a.rank else array_in (k + 1) w arrays
+array_in k w (a ∷ arrays) =
+    if bytes_eq a.name w then meaning.Array k a.rank a.narrow else array_in (k + 1) w arrays
 
 -- what a name means outside of all loops
 abbrev pub outer_meaning : Scope → Text → Meaning
@@ -109,7 +111,7 @@ abbrev pub taken : Meaning → Option Kind
 taken meaning.Unknown = Some kind.UnknownName
 taken meaning.Closed = None
 taken (meaning.Variable k) = Some kind.IteratorOutside
-taken (meaning.Array k r) = Some kind.Rank
+taken (meaning.Array k r narrow) = Some kind.Rank
 
 -- the name of a loop's iterator; new: the loop declares it
 abbrev pub iterator_fault : Bool → Scope → Text → Option Kind

@@ -1,12 +1,14 @@
 -- What is judged at once: a declared name, an array with its extents, a statement.
-use Rattle.std.specs.Prelude.{ℕ, ◌-◌, Bool, true, false, not, nat_le, nat_lt, List, [], ◌∷◌, ◌++◌, length, map}
+use Rattle.std.specs.Prelude.{ℕ, ◌-◌, Bool, true, false, ◌&&◌, not, nat_le, nat_lt, List, [], ◌∷◌, ◌++◌, length, map}
 use Rattle.std.specs.Prelude.{slice_get, Option, Some, None}
 use Rattle.whole_numbers.specs.Affine.{Affine, form_of}
 use Rattle.whole_numbers.specs.Lists.{zeros}
 use Rattle.expression_grammar.specs.Assign.{Assign}
 use Rattle.expression_grammar.specs.Assign.TheVariants as assigns
-use Rattle.scop_syntax.specs.Tree.{plus, minus, times, bits_and, bits_or, bits_xor, Right, assigned, combined}
-use Rattle.scop_syntax.specs.Tree.{moved_left, moved_right, Statement, Declaration}
+use Rattle.expression_grammar.specs.Width.{Width}
+use Rattle.scop_syntax.specs.Tree.{Operator, plus, minus, times, bits_and, bits_or, bits_xor, implied, converted, Right}
+use Rattle.scop_syntax.specs.Tree.{assigned, combined, combined_narrow, moved_left, moved_left_narrow, moved_right}
+use Rattle.scop_syntax.specs.Tree.{Statement, Declaration}
 use Rattle.scop_roles.specs.declared.fault.Kind.{Kind}
 use Rattle.scop_roles.specs.declared.fault.Kind.TheVariants as kind
 use Rattle.scop_roles.specs.declared.fault.Fault.{Fault}
@@ -14,9 +16,9 @@ use Rattle.scop_roles.specs.declared.formula.Meaning.{Meaning}
 use Rattle.scop_roles.specs.declared.formula.Meaning.TheVariants as meaning
 use Rattle.scop_roles.specs.declared.formula.Role.TheVariants as role
 use Rattle.scop_roles.specs.Formula.{Formula, place, meaning_of}
-use Rattle.scop_roles.specs.Faults.{told, judged, faults, place_faults, own_rank, is_count, only_where}
-use Rattle.scop_roles.specs.Forms.{form}
-use Rattle.scop_roles.specs.Values.{access, expression, read_places, count}
+use Rattle.scop_roles.specs.Faults.{told, judged, faults, place_faults, own_rank, is_count, last_count, only_where}
+use Rattle.scop_roles.specs.Forms.{form, is_signed, is_long, is_narrow_array, is_narrow_width}
+use Rattle.scop_roles.specs.Values.{access, expression, narrowed_where, read_places, count}
 use Rattle.scop_units.specs.Words.{Words}
 use Rattle.scop_units.specs.Scopes.{Scope, entries, is_reserved, redeclared}
 
@@ -46,11 +48,12 @@ array_faults words s at fs =
     ++ (told at (only_where (nat_le 16 (length s.arrays)) kind.Arrays) ++ extent_faults (entries s) fs))
 
 -- the array with its extents over the parameters before it
-abbrev pub array_of : Words → Scope → ℕ → List Formula → Declaration
-array_of words s at fs =
+abbrev pub array_of : Words → Scope → ℕ → Width → List Formula → Declaration
+array_of words s at w fs =
     record {
       name = words.spelling at;
       parameters_before = length s.parameters;
+      narrow = is_narrow_width w;
       extents = map (form (entries s)) fs;
     }
 
@@ -71,7 +74,7 @@ pub record Stored : Type 0 where
 
 -- a name means an array
 abbrev pub is_array : Meaning → Bool
-is_array (meaning.Array k r) = true
+is_array (meaning.Array k r narrow) = true
 is_array _ = false
 
 -- only an array has cells: an iterator or a parameter is none, with subscripts or without; of an unknown name
@@ -83,13 +86,18 @@ own_cell f = only_where (not (is_array (meaning_of f))) kind.IteratorOutside
 abbrev pub cell_faults : ℕ → Formula → List Fault
 cell_faults n f = told (place f) (own_cell f) ++ judged (place_faults n f) (told (place f) (own_rank f))
 
--- an operator that assigns, with its right side
-abbrev pub own_assign : Assign → Formula → Option Kind
-own_assign assigns.ShiftLeft f = only_where (not (is_count 0 63 f)) kind.ShiftCount
-own_assign assigns.ShiftRight f = only_where (not (is_count 0 63 f)) kind.ShiftCount
-own_assign assigns.Divide f = Some kind.Division
-own_assign assigns.Remainder f = Some kind.Division
-own_assign _ f = None
+-- the place has 32 bits
+abbrev pub is_narrow_cell : Formula → Bool
+is_narrow_cell f = is_narrow_array (meaning_of f)
+
+-- an operator that assigns to a place, by whether that has 32 bits, with its right side
+abbrev pub own_assign : Bool → Assign → Formula → Option Kind
+own_assign narrow assigns.Set f = None
+own_assign narrow assigns.ShiftLeft f = only_where (not (is_count 0 (last_count narrow) f)) kind.ShiftCount
+own_assign narrow assigns.ShiftRight f = only_where (not (is_count 0 (last_count narrow) f)) kind.ShiftCount
+own_assign narrow assigns.Divide f = Some kind.Division
+own_assign narrow assigns.Remainder f = Some kind.Division
+own_assign narrow _ f = only_where (narrow && is_long f) kind.Width
 
 -- a compound operator reads its own place first
 abbrev pub own_read : Assign → ℕ → List ℕ
@@ -108,7 +116,8 @@ read_limit None = []
 -- the cell, the value, and where both have none the operator
 abbrev pub stored_faults : ℕ → Stored → List Fault
 stored_faults n s =
-    judged (cell_faults n s.cell ++ faults n role.Value s.value) (told s.assign_at (own_assign s.assign s.value))
+    judged (cell_faults n s.cell ++ faults n role.Value s.value)
+    (told s.assign_at (own_assign (is_narrow_cell s.cell) s.assign s.value))
 
 -- the faults of a statement over n entries, with so many comparisons round it and so many statements in front
 abbrev pub statement_faults : ℕ → ℕ → ℕ → Stored → List Fault
@@ -118,21 +127,32 @@ statement_faults n comparisons before s =
     ++ (told (place s.cell) (only_where (nat_lt 16 comparisons) kind.Depth)
     ++ told (place s.cell) (only_where (nat_le 32 before) kind.Statements)))
 
--- what stands on the right of a place, by the operator and the value
-abbrev pub right_of : ℕ → Assign → Formula → Right
-right_of n assigns.Plus f = combined plus (expression n f)
-right_of n assigns.Minus f = combined minus (expression n f)
-right_of n assigns.Times f = combined times (expression n f)
-right_of n assigns.And f = combined bits_and (expression n f)
-right_of n assigns.Or f = combined bits_or (expression n f)
-right_of n assigns.Xor f = combined bits_xor (expression n f)
-right_of n assigns.ShiftLeft f = moved_left (count f)
-right_of n assigns.ShiftRight f = moved_right (count f)
-right_of n _ f = assigned (expression n f)
+-- what a compound operator stores in a place, by whether that has 32 bits: a signed right side is then converted
+abbrev pub combined_as : Bool → Operator → ℕ → Formula → Right
+combined_as true o n f = combined_narrow o (narrowed_where (is_signed f) converted (expression n f))
+combined_as false o n f = combined o (expression n f)
+
+-- what <<= stores there
+abbrev pub moved_left_as : Bool → ℕ → Right
+moved_left_as true k = moved_left_narrow k
+moved_left_as false k = moved_left k
+
+-- what stands on the right of a place, by whether that has 32 bits, the operator and the value
+abbrev pub right_of : ℕ → Bool → Assign → Formula → Right
+right_of n narrow assigns.Plus f = combined_as narrow plus n f
+right_of n narrow assigns.Minus f = combined_as narrow minus n f
+right_of n narrow assigns.Times f = combined_as narrow times n f
+right_of n narrow assigns.And f = combined_as narrow bits_and n f
+right_of n narrow assigns.Or f = combined_as narrow bits_or n f
+right_of n narrow assigns.Xor f = combined_as narrow bits_xor n f
+right_of n narrow assigns.ShiftLeft f = moved_left_as narrow (count f)
+right_of n narrow assigns.ShiftRight f = moved_right (count f)
+right_of n narrow _ f = assigned (narrowed_where narrow implied (expression n f))
 
 -- the statement of a program that a faultless one stands for, over n entries
 abbrev pub statement_of : ℕ → Stored → Statement
-statement_of n s = record { place = access n s.cell; right = right_of n s.assign s.value }
+statement_of n s =
+    record { place = access n s.cell; right = right_of n (is_narrow_cell s.cell) s.assign s.value }
 
 -- the first fault of a node: that of its parts, else its own
 abbrev pub or_fault : Option Fault → Option Fault → Option Fault

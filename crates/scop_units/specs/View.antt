@@ -26,9 +26,9 @@ tokens_in w = tokens_at w.text.now w.starts.now
 abbrev pub words_in : CodeWords → Words
 words_in w = words_of w.text.now (tokens_in w)
 
--- an array's name, and how many extents it has
+-- an array's name, how many extents it has, and whether its cells have 32 bits
 abbrev pub ranked : Declaration → Ranked
-ranked a = record { name = a.name; rank = length a.extents }
+ranked a = record { name = a.name; rank = length a.extents; narrow = a.narrow }
 
 -- the names that a scope of the code holds
 abbrev pub scope_of : CodeScope → Scope

@@ -111,7 +111,7 @@ fn names_entry(entry: usize, formula: &Formula) -> bool
         Formula::BareCall(_, _) => false,
         Formula::Call(_, arguments, _) => names_entry(entry, arguments),
         Formula::Unary(_, operand, _) => names_entry(entry, operand),
-        Formula::Cast(operand, _) => names_entry(entry, operand),
+        Formula::Cast(_, operand, _) => names_entry(entry, operand),
         Formula::Commas(first, between, last, _) => one_of(
             names_entry(entry, first),
             names_in_arguments(entry, between),
@@ -162,7 +162,7 @@ fn stride_of(up: bool, formula: &Formula) -> Option<i64>
     ensures { result ≡ stride_of up (formula_of formula.now) }
 {
     match formula {
-        Formula::Constant(Suffix::Absent, value, _) => {
+        Formula::Constant(Suffix::Absent(_), value, _) => {
             if 1 <= *value && *value <= 16 {
                 Some(by_count(up, *value))
             } else {

@@ -39,6 +39,7 @@ fn declared_over(alloc: Global, array: &Array, count: usize) -> Result<Array, Al
     Ok(Array {
         name: copied(alloc, &array.name)?,
         parameters_before: array.parameters_before,
+        narrow: array.narrow,
         extents: padded_all(alloc, &array.extents, count)?,
     })
 }

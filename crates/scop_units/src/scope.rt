@@ -46,7 +46,7 @@ fn array_in(word: &[u8], arrays: &[Array]) -> Meaning
     let mut at = 0;
     for array in arrays {
         if array.name.as_slice() == word {
-            return Meaning::Array(at, array.extents.len());
+            return Meaning::Array(at, array.extents.len(), array.narrow);
         }
         at += 1;
     }
@@ -178,7 +178,7 @@ impl Scope {
             Meaning::Unknown => Some(Kind::UnknownName),
             Meaning::Closed => None,
             Meaning::Variable(_) => Some(Kind::IteratorOutside),
-            Meaning::Array(_, _) => Some(Kind::Rank),
+            Meaning::Array(_, _, _) => Some(Kind::Rank),
         }
     }
 }

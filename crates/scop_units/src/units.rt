@@ -1,25 +1,30 @@
 //! What is judged at once: a declared name, an array with its extents, a statement.
 
-ghost use Rattle.std.specs.Prelude.{◌≡◌, IfOk, None, map, slice_get, true};
+ghost use Rattle.std.specs.Prelude.{◌≡◌, ◌≤◌, IfOk, None, map, slice_get};
 ghost use Rattle.scop_roles.specs.declared.formula.Role.TheVariants as role;
-ghost use Rattle.scop_roles.specs.Faults.{first, is_count, only_where, own_rank, told};
+ghost use Rattle.scop_roles.specs.Faults.{first, only_where, own_rank, told};
 ghost use Rattle.scop_roles.specs.Formula.{formula_of};
-ghost use Rattle.scop_roles.specs.Values.{count};
-ghost use Rattle.scop_syntax.specs.View.{right_of as code_right, statement_of as code_statement};
+ghost use Rattle.scop_roles.specs.Values.{count, expression, narrowed_where};
+ghost use Rattle.scop_syntax.specs.Tree.{assigned, implied};
+ghost use Rattle.scop_syntax.specs.View.{operator_of, right_of as code_right, statement_of as code_statement};
 ghost use Rattle.scop_units.specs.Scopes.{entries};
-ghost use Rattle.scop_units.specs.Units.{array_faults, array_of, cell_faults, extent_faults, kernel_name_faults};
-ghost use Rattle.scop_units.specs.Units.{name_faults, number_faults, or_fault, own_assign, own_cell, read_limit};
-ghost use Rattle.scop_units.specs.Units.{reads_of, right_of, statement_faults, statement_of, stored_faults};
+ghost use Rattle.scop_units.specs.Units.{array_faults, array_of, cell_faults, combined_as, extent_faults};
+ghost use Rattle.scop_units.specs.Units.{is_narrow_cell, kernel_name_faults, moved_left_as, name_faults};
+ghost use Rattle.scop_units.specs.Units.{number_faults, or_fault, own_assign, own_cell, read_limit, reads_of};
+ghost use Rattle.scop_units.specs.Units.{right_of, statement_faults, statement_of, stored_faults};
 ghost use Rattle.scop_units.specs.View.{scope_of, stored_of, words_in};
 
 use crate::scope::{Scope, copied, is_reserved};
 use crate::words::Words;
-use expression_grammar::token::Assign;
+use expression_grammar::token::{Assign, Width};
 use scop_roles::fault::{Fault, Kind, first_of};
 use scop_roles::formula::{Formula, Meaning, Role, has_subscripts, meaning_of, place};
 use scop_roles::judgement::{fault, form, place_fault};
-use scop_roles::values::{access, expression, is_count, push_read_places};
-use scop_syntax::tree::{Array, Operator, Right, Stmt};
+use scop_roles::roles::{is_narrow_array, is_narrow_width, last_count};
+use scop_roles::values::{
+    access, expression, is_count, is_long, is_signed, narrowed_where, push_read_places,
+};
+use scop_syntax::tree::{Array, Narrowing, Operator, Right, Stmt};
 use std::alloc::{AllocError, Global};
 
 const MOST_PARAMETERS: usize = 4;
@@ -132,11 +137,12 @@ pub fn array_of(
     words: &Words,
     scope: &Scope,
     at: usize,
+    width: Width,
     extents: &[Formula],
 ) -> Result<Array, AllocError>
     requires { first (extent_faults (entries (scope_of scope.now)) (map formula_of extents.now)) ≡ None }
     ensures { IfOk result (λ a. a
-        ≡ array_of (words_in words.now) (scope_of scope.now) at (map formula_of extents.now)) }
+        ≡ array_of (words_in words.now) (scope_of scope.now) at width (map formula_of extents.now)) }
 {
     let mut forms = Vec::new(alloc);
     for extent in extents {
@@ -145,6 +151,7 @@ pub fn array_of(
     Ok(Array {
         name: copied(alloc, words.spelling(at))?,
         parameters_before: scope.parameters.len(),
+        narrow: is_narrow_width(width),
         extents: forms,
     })
 }
@@ -163,7 +170,7 @@ fn own_cell(cell: &Formula) -> Option<Kind>
     ensures { result ≡ own_cell (formula_of cell.now) }
 {
     match meaning_of(cell) {
-        Meaning::Array(_, _) => None,
+        Meaning::Array(_, _, _) => None,
         _ => Some(Kind::IteratorOutside),
     }
 }
@@ -173,7 +180,7 @@ fn own_rank(cell: &Formula) -> Option<Kind>
     ensures { result ≡ own_rank (formula_of cell.now) }
 {
     let rank = match meaning_of(cell) {
-        Meaning::Array(_, rank) => rank,
+        Meaning::Array(_, rank, _) => rank,
         _ => 0,
     };
     if has_subscripts(cell, rank) {
@@ -194,20 +201,34 @@ fn cell_fault(alloc: Global, entries: usize, cell: &Formula) -> Result<Option<Fa
     Ok(first_of(name, or_fault(parts, rank)))
 }
 
-// An operator that assigns, with its right side.
-fn own_assign(assign: Assign, value: &Formula) -> Option<Kind>
-    ensures { result ≡ own_assign assign (formula_of value.now) }
+// The place has 32 bits.
+fn is_narrow_cell(cell: &Formula) -> bool
+    ensures { result ≡ is_narrow_cell (formula_of cell.now) }
+{
+    is_narrow_array(meaning_of(cell))
+}
+
+// An operator that assigns to a place, by whether that has 32 bits, with its right side.
+fn own_assign(narrow: bool, assign: Assign, value: &Formula) -> Option<Kind>
+    ensures { result ≡ own_assign narrow assign (formula_of value.now) }
 {
     match assign {
+        Assign::Set => None,
         Assign::ShiftLeft | Assign::ShiftRight => {
-            if is_count(value, 0, 63) {
+            if is_count(value, 0, last_count(narrow)) {
                 None
             } else {
                 Some(Kind::ShiftCount)
             }
         }
         Assign::Divide | Assign::Remainder => Some(Kind::Division),
-        _ => None,
+        _ => {
+            if narrow && is_long(value) {
+                Some(Kind::Width)
+            } else {
+                None
+            }
+        }
     }
 }
 
@@ -236,7 +257,11 @@ fn stored_fault(alloc: Global, entries: usize, stored: &Stored) -> Result<Option
 {
     let cell = cell_fault(alloc, entries, &stored.cell)?;
     let value = fault(alloc, &stored.value, entries, Role::Value)?;
-    let own = told(stored.assign_at, own_assign(stored.assign, &stored.value));
+    let narrow = is_narrow_cell(&stored.cell);
+    let own = told(
+        stored.assign_at,
+        own_assign(narrow, stored.assign, &stored.value),
+    );
     Ok(or_fault(first_of(cell, value), own))
 }
 
@@ -261,7 +286,7 @@ pub fn statement_fault(
 
 // The number that a constant is.
 fn count(value: &Formula) -> u8
-    requires { is_count 0 63 (formula_of value.now) ≡ true }
+    requires { count (formula_of value.now) ≤ 63 }
     ensures { result ≡ count (formula_of value.now) }
 {
     match value {
@@ -270,26 +295,67 @@ fn count(value: &Formula) -> u8
     }
 }
 
+// What a compound operator stores.
+fn combined(
+    alloc: Global,
+    entries: usize,
+    operator: Operator,
+    stored: &Stored,
+) -> Result<Right, AllocError>
+    requires { first (stored_faults entries (stored_of stored.now)) ≡ None }
+    ensures { IfOk result (λ r. code_right r ≡ combined_as (is_narrow_cell (stored_of stored.now).cell)
+        (operator_of operator) entries (stored_of stored.now).value) }
+{
+    let value = expression(alloc, &stored.value, entries)?;
+    if is_narrow_cell(&stored.cell) {
+        let side = narrowed_where(alloc, is_signed(&stored.value), Narrowing::Converted, value)?;
+        return Ok(Right::CombinedNarrow(operator, side));
+    }
+    Ok(Right::Combined(operator, value))
+}
+
+// What is stored as it is.
+fn assigned(alloc: Global, entries: usize, stored: &Stored) -> Result<Right, AllocError>
+    requires { first (stored_faults entries (stored_of stored.now)) ≡ None }
+    ensures { IfOk result (λ r. code_right r ≡ assigned (narrowed_where (is_narrow_cell (stored_of stored.now).cell)
+        implied (expression entries (stored_of stored.now).value))) }
+{
+    let value = expression(alloc, &stored.value, entries)?;
+    let narrow = is_narrow_cell(&stored.cell);
+    let kept = narrowed_where(alloc, narrow, Narrowing::Implied, value)?;
+    Ok(Right::Assigned(kept))
+}
+
+// What `<<=` stores.
+fn moved_left(narrow: bool, count: u8) -> Right
+    ensures { code_right result ≡ moved_left_as narrow count }
+{
+    if narrow {
+        Right::ShiftedLeftNarrow(count)
+    } else {
+        Right::ShiftedLeft(count)
+    }
+}
+
 fn right_of(alloc: Global, entries: usize, stored: &Stored) -> Result<Right, AllocError>
     requires { first (stored_faults entries (stored_of stored.now)) ≡ None }
-    ensures { IfOk result (λ r. code_right r ≡ right_of entries (stored_of stored.now).assign
-        (stored_of stored.now).value) }
+    ensures { IfOk result (λ r. code_right r ≡ right_of entries (is_narrow_cell (stored_of stored.now).cell)
+        (stored_of stored.now).assign (stored_of stored.now).value) }
 {
     match stored.assign {
-        Assign::ShiftLeft => return Ok(Right::ShiftedLeft(count(&stored.value))),
-        Assign::ShiftRight => return Ok(Right::ShiftedRight(count(&stored.value))),
-        _ => {}
+        Assign::Plus => combined(alloc, entries, Operator::Plus, stored),
+        Assign::Minus => combined(alloc, entries, Operator::Minus, stored),
+        Assign::Times => combined(alloc, entries, Operator::Times, stored),
+        Assign::And => combined(alloc, entries, Operator::And, stored),
+        Assign::Or => combined(alloc, entries, Operator::Or, stored),
+        Assign::Xor => combined(alloc, entries, Operator::Xor, stored),
+        Assign::ShiftLeft => {
+            let narrow = is_narrow_cell(&stored.cell);
+            Ok(moved_left(narrow, count(&stored.value)))
+        }
+        Assign::ShiftRight => Ok(Right::ShiftedRight(count(&stored.value))),
+        _ => assigned(alloc, entries, stored),
     }
-    let value = expression(alloc, &stored.value, entries)?;
-    Ok(match stored.assign {
-        Assign::Plus => Right::Combined(Operator::Plus, value),
-        Assign::Minus => Right::Combined(Operator::Minus, value),
-        Assign::Times => Right::Combined(Operator::Times, value),
-        Assign::And => Right::Combined(Operator::And, value),
-        Assign::Or => Right::Combined(Operator::Or, value),
-        Assign::Xor => Right::Combined(Operator::Xor, value),
-        _ => Right::Assigned(value),
-    })
 }
 
 /// The statement that one without faults stands for.

@@ -2,6 +2,7 @@ use Rattle.std.proofs.Common.{rules, ◌<◌, ◌≤◌, [], length, fold, ap, s
 use Rattle.std.proofs.lemmas.List.{drop_all}
 use Rattle.expression_grammar.specs.Tree.{size}
 use Rattle.expression_grammar.specs.declared.node.Node.TheVariants as node
+use Rattle.expression_grammar.specs.Base.TheVariants as base
 use Rattle.expression_grammar.specs.Suffix.TheVariants as suffix
 use Rattle.scop_roles.specs.Resolving.{built, held, top}
 use Rattle.scop_roles.proofs.FormulaStack.{AreBelow, place_below, places_below, read_next}
@@ -13,7 +14,8 @@ joined-requires g c =
     let all : AreBelow (size t) c.args.nodes.now =
     subst (λ ns. AreBelow (size t) ns) (sym c.requires.nodes_are) (places_below 0 (size t) t (omega arith)) in
     let less : c.loop-node.node-index < length c.args.nodes.now = search rules in
-    let small = place_below (size t) c.args.nodes.now c.loop-node.node-index (node.Constant suffix.Absent 0) all less in
+    let small = place_below (size t) c.args.nodes.now c.loop-node.node-index
+    (node.Constant (suffix.Absent base.Decimal) 0) all less in
     let room = c.requires.room in
     omega arith
 
@@ -23,7 +25,8 @@ loop-node-preserved g c =
     let l = c.loop-node in
     read_next look c.args.first (held l.stack.items) (held c.push.new.stack.items)
     (fold (built look c.args.first) [] c.args.nodes.now) c.args.nodes.now l.node-index
-    (node.Constant suffix.Absent 0) c.loop-node-test.true (c.in-Ok-push.ensures ∙ c.in-Ok.ensures) l.invariant
+    (node.Constant (suffix.Absent base.Decimal) 0) c.loop-node-test.true (c.in-Ok-push.ensures ∙ c.in-Ok.ensures)
+    l.invariant
 
 pub returns : goal.returns
 returns g c =

@@ -37,9 +37,10 @@ judge-returns-in-Unary t c =
 
 pub judge-returns-in-Cast : goal.judge-returns-in-Cast
 judge-returns-in-Cast t c =
+    let w = c.in-Cast.width in
     let at = c.in-Cast.at in
-    let e = ap formula_of c.in-Cast.is ∙ formula_cast c.in-Cast.operand at
-    ∙ ap (λ v. cast (formula_of v) at) (sym c.deref-in-Cast.ensures) in
+    let e = ap formula_of c.in-Cast.is ∙ formula_cast w c.in-Cast.operand at
+    ∙ ap (λ v. cast w (formula_of v) at) (sym c.deref-in-Cast.ensures) in
     subst (λ f. IfOk c.of_cast.result (IsJudgement c.args.entries f)) (sym e)
     (c.of_cast.ensures c.args.entries (formula_of c.deref-in-Cast.result.now) c.judge-operand-in-Cast.ensures)
 
@@ -67,8 +68,8 @@ judge-returns-in-Commas t c =
     let there = subst (λ gs. IfOk c.judge_arguments-left.result
     (IsJudgement n (fold with_argument f (map argument_of gs))))
     c.deref-in-Commas-2.ensures.value (c.judge_arguments-left.ensures.judged f here) in
-    let last = subst (λ v. IfOk c.judge-last-in-Commas.result (IsJudgement n (formula_of v))) c.deref-in-Commas-3.ensures
-    c.judge-last-in-Commas.ensures in
+    let last = subst (λ v. IfOk c.judge-last-in-Commas.result (IsJudgement n (formula_of v)))
+    c.deref-in-Commas-3.ensures c.judge-last-in-Commas.ensures in
     rw e (c.of_binary.ensures.judged left (formula_of c.in-Commas.last.value) there last)
 
 pub judge_subscripts-loop-subscript-preserved : goal.judge_subscripts-loop-subscript-preserved
@@ -76,7 +77,8 @@ judge_subscripts-loop-subscript-preserved t c p h =
     let n = c.args.entries in
     let l = c.loop-subscript in
     let subscript = c.subscript-item.result in
-    makes_next formula_of index (λ q. IfOk l.place (IsJudgement n q)) (λ q. IfOk c.of_index-place.result (IsJudgement n q))
+    makes_next formula_of index (λ q. IfOk l.place (IsJudgement n q))
+    (λ q. IfOk c.of_index-place.result (IsJudgement n q))
     c.args.subscripts.now l.subscript-index subscript (fold index p (map formula_of c.args.subscripts.now))
     c.subscript-item.is c.loop-subscript-test.true
     (λ q judged. c.of_index-place.ensures n q (formula_of subscript) judged c.judge-subscript.ensures) (l.invariant p h)

@@ -11,9 +11,13 @@ returns-clause-bare c n m e =
     record {
       place = refl;
       signed = refl;
+      narrow = refl;
+      long = refl;
       named = refl;
+      narrow_cells = refl;
       constant = refl;
       count = refl;
+      narrow_count = refl;
       lacking = refl;
       place_fault = refl;
       affine = rw (c.part_or_own.ensures, c.own_call.ensures.bare n c.args.at m, e)
@@ -37,9 +41,13 @@ returns-clause-call c n m f e =
     record {
       place = refl;
       signed = refl;
+      narrow = refl;
+      long = refl;
       named = refl;
+      narrow_cells = refl;
       constant = refl;
       count = refl;
+      narrow_count = refl;
       lacking = refl;
       place_fault = refl;
       affine = rw (c.part_or_own.ensures, c.own_call.ensures.call n c.args.at m f, e)

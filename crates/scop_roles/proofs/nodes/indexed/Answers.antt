@@ -13,9 +13,13 @@ returns c n p i h g =
     record {
       place = h.place;
       signed = refl;
+      narrow = h.narrow_cells;
+      long = refl;
       named = refl;
+      narrow_cells = h.narrow_cells;
       constant = refl;
       count = refl;
+      narrow_count = refl;
       lacking = c.one_less.ensures ∙ ap one_less h.lacking;
       place_fault = rw (c.first_of.ensures, h.place_fault, g.affine)
           (sym (first-append (place_faults n p) (faults n role.Affine i)));

@@ -6,9 +6,13 @@ returns c =
     record {
       place = refl;
       signed = search rules;
+      narrow = refl;
+      long = c.is_long_constant.ensures c.args.at;
       named = refl;
+      narrow_cells = refl;
       constant = search rules;
       count = search rules;
+      narrow_count = search rules;
       lacking = refl;
       place_fault = refl;
       affine = c.constant_fault.ensures c.args.entries;

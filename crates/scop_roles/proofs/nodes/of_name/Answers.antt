@@ -1,4 +1,5 @@
-use Rattle.std.proofs.Common.{rules, refl}
+use Rattle.std.proofs.Common.{rules, ◌∙◌, refl}
+use Rattle.scop_roles.proofs.NodeForms.{long_name}
 use Rattle.scop_roles.proofs.nodes.of_name.Goals as goal
 
 pub returns : goal.returns
@@ -6,9 +7,13 @@ returns c =
     record {
       place = refl;
       signed = search rules;
+      narrow = refl;
+      long = c.is_number-2.ensures ∙ long_name c.args.meaning c.args.at;
       named = refl;
+      narrow_cells = search rules;
       constant = refl;
       count = refl;
+      narrow_count = refl;
       lacking = search rules;
       place_fault = search rules;
       affine = c.name_fault.ensures c.args.entries;

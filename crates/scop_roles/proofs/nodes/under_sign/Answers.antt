@@ -6,9 +6,13 @@ returns c f h =
     record {
       place = refl;
       signed = c.is_signed_under.ensures f c.args.at h.signed;
+      narrow = rw (c.is_narrow_under.ensures, h.narrow) refl;
+      long = c.is_long_under.ensures f c.args.at h.signed h.named;
       named = h.named;
+      narrow_cells = refl;
       constant = refl;
       count = refl;
+      narrow_count = refl;
       lacking = refl;
       place_fault = refl;
       affine = c.unary_fault.ensures c.args.entries f h;

@@ -7,6 +7,8 @@ returns c n f g h i is =
       c.part_or_own.ensures,
       c.own_joined-own.ensures,
       c.are_constants-constants.ensures,
+      c.is_counted-count.ensures,
+      c.mixes-mixed.ensures,
       c.first_of-part.ensures,
       c.in_role.ensures,
       c.in_role-2.ensures,

@@ -15,5 +15,6 @@ over_sides-whole-requires-clause-right c =
 pub returns-in-Ok-clause-judged : goal.returns-in-Ok-clause-judged
 returns-in-Ok-clause-judged c f g h i =
     let n = c.args.entries in
-    if_ok c.over_sides-whole.result (λ j judged. judged f g (subst (λ r. IfOk r (IsJudgement n f)) c.in-Ok.ensures.first h)
+    if_ok c.over_sides-whole.result
+    (λ j judged. judged f g (subst (λ r. IfOk r (IsJudgement n f)) c.in-Ok.ensures.first h)
     (subst (λ r. IfOk r (IsJudgement n g)) c.in-Ok.ensures.second i)) c.over_sides-whole.ensures.judged

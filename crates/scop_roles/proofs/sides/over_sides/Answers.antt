@@ -1,4 +1,5 @@
 use Rattle.std.proofs.Common.{refl}
+use Rattle.scop_roles.proofs.NodeForms.{long_sides}
 use Rattle.scop_roles.proofs.sides.over_sides.Goals as goal
 
 pub returns-clause-judged : goal.returns-clause-judged
@@ -7,9 +8,13 @@ returns-clause-judged c f g h i =
     record {
       place = refl;
       signed = rw (c.joins_signed.ensures, h.signed, i.signed) refl;
+      narrow = rw (c.joins_narrow.ensures, h.narrow, i.narrow, h.signed, i.signed) refl;
+      long = rw (c.joins_long.ensures, h.signed, i.signed, h.named, i.named) (long_sides c.args.op f g c.args.at);
       named = rw (c.is_either_named.ensures, h.named, i.named) refl;
+      narrow_cells = refl;
       constant = refl;
       count = refl;
+      narrow_count = refl;
       lacking = refl;
       place_fault = refl;
       affine = c.binary_fault.ensures c.args.entries f g h i joined.own;

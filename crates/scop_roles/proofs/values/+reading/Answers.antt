@@ -43,7 +43,7 @@ pub push_read_places-returns-in-Cast : goal.push_read_places-returns-in-Cast
 push_read_places-returns-in-Cast t c =
     let old = c.args.places.now.items in
     let new = c.push_read_places-in-Cast.new.places.items in
-    let e = ap formula_of c.in-Cast.is ∙ formula_cast c.in-Cast.operand c.in-Cast.field-1 in
+    let e = ap formula_of c.in-Cast.is ∙ formula_cast c.in-Cast.field-0 c.in-Cast.operand c.in-Cast.field-2 in
     on_ok c.push_read_places-in-Cast.result
     (λ all. subst (λ v. new ≡ old ++ read_places (formula_of v)) c.deref-in-Cast.ensures all
     ∙ ap (λ f. old ++ read_places f) (sym e)) c.push_read_places-in-Cast.ensures

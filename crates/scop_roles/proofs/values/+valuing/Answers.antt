@@ -3,7 +3,7 @@ use Rattle.std.specs.Prelude.{IfOk}
 use Rattle.scop_syntax.specs.View.{expression_of}
 use Rattle.expression_grammar.specs.Op.TheVariants as op
 use Rattle.scop_roles.specs.Formula.{argument_of, formula_of, index, unary, cast, binary, with_argument}
-use Rattle.scop_roles.specs.Forms.{is_signed}
+use Rattle.scop_roles.specs.Forms.{is_signed, is_narrow}
 use Rattle.scop_roles.specs.Values.{IsValueOf}
 use Rattle.scop_roles.proofs.Views.{formula_index, formula_unary, formula_cast, formula_commas, formula_binary}
 use Rattle.scop_roles.proofs.FormulaValues.{if_ok, read_value, signed_unary_value, signed_binary_value}
@@ -36,14 +36,15 @@ value-returns-else-is_signed t c =
     ∙ ap (λ v. unary s (formula_of v) at) (sym c.deref.ensures) in
     let unsigned = subst (λ f. is_signed f ≡ false) e (sym c.is_signed.ensures ∙ c.if-is_signed.false) in
     if_ok c.unary_value.result (λ x x_is. subst (λ f. IsValueOf n f (expression_of x)) (sym e) x_is)
-    (c.unary_value.ensures n f at unsigned c.value-operand.ensures)
+    (c.unary_value.ensures n f at unsigned (c.is_narrow.ensures ∙ ap is_narrow e) c.value-operand.ensures)
 
 pub value-returns-in-Cast : goal.value-returns-in-Cast
 value-returns-in-Cast t c =
     let n = c.args.entries in
-    let at = c.in-Cast.field-1 in
-    let e = ap formula_of c.in-Cast.is ∙ formula_cast c.in-Cast.operand at
-    ∙ ap (λ v. cast (formula_of v) at) (sym c.deref-in-Cast.ensures) in
+    let w = c.in-Cast.width in
+    let at = c.in-Cast.field-2 in
+    let e = ap formula_of c.in-Cast.is ∙ formula_cast w c.in-Cast.operand at
+    ∙ ap (λ v. cast w (formula_of v) at) (sym c.deref-in-Cast.ensures) in
     if_ok c.cast_value.result (λ x x_is. subst (λ f. IsValueOf n f (expression_of x)) (sym e) x_is)
     (c.cast_value.ensures n (formula_of c.deref-in-Cast.result.now) at c.value-operand-in-Cast.ensures)
 
@@ -62,7 +63,7 @@ value-returns-in-Commas t c =
     (λ x. IsValueOf n (fold with_argument f (map argument_of gs)) (expression_of x)))
     c.deref-in-Commas-2.ensures.value (c.arguments_value-left.ensures f here) in
     if_ok c.sides_value.result (λ x x_is. subst (λ f. IsValueOf n f (expression_of x)) (sym e) x_is)
-    (c.sides_value.ensures n left (formula_of c.deref-in-Commas-3.result.now) at refl there c.value-last.ensures)
+    (c.sides_value.ensures n left (formula_of c.deref-in-Commas-3.result.now) at refl refl there c.value-last.ensures)
 
 pub value-returns-then-is_signed-2 : goal.value-returns-then-is_signed-2
 value-returns-then-is_signed-2 t c =
@@ -76,29 +77,37 @@ value-returns-then-is_signed-2 t c =
 pub value-returns-then-is_shift : goal.value-returns-then-is_shift
 value-returns-then-is_shift t c =
     let n = c.args.entries in
+    let o = c.in-Binary.op in
     let at = c.in-Binary.field-3 in
-    let f = formula_of c.in-Binary.left.value in
-    let e = ap formula_of c.in-Binary.is ∙ formula_binary c.in-Binary.op c.in-Binary.left c.in-Binary.right at
-    ∙ ap (λ v. binary c.in-Binary.op f (formula_of v) at) (sym c.deref-then-is_shift.ensures) in
+    let f = formula_of c.deref-in-Binary.result.now in
+    let e = ap formula_of c.in-Binary.is ∙ formula_binary o c.in-Binary.left c.in-Binary.right at
+    ∙ ap (λ v. binary o (formula_of v) (formula_of c.in-Binary.right.value) at) (sym c.deref-in-Binary.ensures)
+    ∙ ap (λ v. binary o f (formula_of v) at) (sym c.deref-then-is_shift.ensures) in
     let unsigned = subst (λ f. is_signed f ≡ false) e (sym c.is_signed-in-Binary.ensures ∙ c.if-is_signed-2.false) in
-    let here = subst (λ v. IfOk c.value-left.result (λ x. IsValueOf n (formula_of v) (expression_of x)))
-    c.deref-in-Binary.ensures c.value-left.ensures in
+    let here = subst (λ v. IfOk c.value.result (λ x. IsValueOf n (formula_of v) (expression_of x)))
+    (c.deref-in-Binary-2.ensures ∙ sym c.deref-in-Binary.ensures) c.value.ensures in
     if_ok c.shift_value.result (λ x x_is. subst (λ f. IsValueOf n f (expression_of x)) (sym e) x_is)
-    (c.shift_value.ensures n f at unsigned here)
+    (c.shift_value.ensures n f at unsigned (c.is_narrow-narrow.ensures ∙ ap is_narrow e)
+    (c.side_value-left_value.ensures n here))
 
 pub value-returns-else-is_shift : goal.value-returns-else-is_shift
 value-returns-else-is_shift t c =
     let n = c.args.entries in
+    let o = c.in-Binary.op in
     let at = c.in-Binary.field-3 in
-    let f = formula_of c.in-Binary.left.value in
-    let e = ap formula_of c.in-Binary.is ∙ formula_binary c.in-Binary.op c.in-Binary.left c.in-Binary.right at
-    ∙ ap (λ v. binary c.in-Binary.op f (formula_of v) at) (sym c.deref-in-Binary-2.ensures) in
+    let f = formula_of c.deref-in-Binary.result.now in
+    let g = formula_of c.deref-in-Binary-3.result.now in
+    let e = ap formula_of c.in-Binary.is ∙ formula_binary o c.in-Binary.left c.in-Binary.right at
+    ∙ ap (λ v. binary o (formula_of v) (formula_of c.in-Binary.right.value) at) (sym c.deref-in-Binary.ensures)
+    ∙ ap (λ v. binary o f (formula_of v) at) (sym c.deref-in-Binary-3.ensures) in
     let unsigned = subst (λ f. is_signed f ≡ false) e (sym c.is_signed-in-Binary.ensures ∙ c.if-is_signed-2.false) in
-    let here = subst (λ v. IfOk c.value-left.result (λ x. IsValueOf n (formula_of v) (expression_of x)))
-    c.deref-in-Binary.ensures c.value-left.ensures in
+    let here = subst (λ v. IfOk c.value.result (λ x. IsValueOf n (formula_of v) (expression_of x)))
+    (c.deref-in-Binary-2.ensures ∙ sym c.deref-in-Binary.ensures) c.value.ensures in
+    let there = subst (λ v. IfOk c.value-in-Binary.result (λ x. IsValueOf n (formula_of v) (expression_of x)))
+    (c.deref-in-Binary-4.ensures ∙ sym c.deref-in-Binary-3.ensures) c.value-in-Binary.ensures in
     if_ok c.sides_value-in-Binary.result (λ x x_is. subst (λ f. IsValueOf n f (expression_of x)) (sym e) x_is)
-    (c.sides_value-in-Binary.ensures n f (formula_of c.deref-in-Binary-2.result.now) at unsigned here
-    c.value-right.ensures)
+    (c.sides_value-in-Binary.ensures n f g at unsigned (c.is_narrow-narrow.ensures ∙ ap is_narrow e)
+    (c.side_value-left_value.ensures n here) (c.side_value-right_value.ensures n there))
 
 pub arguments_value-loop-other-preserved : goal.arguments_value-loop-other-preserved
 arguments_value-loop-other-preserved t c f h =
@@ -108,7 +117,7 @@ arguments_value-loop-other-preserved t c f h =
     makes_next argument_of with_argument (λ q. IfOk l.left (λ x. IsValueOf n q (expression_of x)))
     (λ q. IfOk c.sides_value-left.result (λ x. IsValueOf n q (expression_of x))) c.args.others.now l.other-index other
     (fold with_argument f (map argument_of c.args.others.now)) c.other-item.is c.loop-other-test.true
-    (λ q here. c.sides_value-left.ensures n q (formula_of other.value) other.comma refl here c.value-right.ensures)
+    (λ q here. c.sides_value-left.ensures n q (formula_of other.value) other.comma refl refl here c.value-right.ensures)
     (l.invariant f h)
 
 pub arguments_value-loop-other-init : goal.arguments_value-loop-other-init

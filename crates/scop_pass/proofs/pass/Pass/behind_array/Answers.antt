@@ -18,7 +18,7 @@ pub returns : goal.returns
 returns c =
     let words = words_in c.args.words.now in
     let fs = map formula_of c.args.extents.now in
-    let old = expects (state_of c.args.self.now) (machine.extents c.args.name_at fs) in
+    let old = expects (state_of c.args.self.now) (machine.extents c.args.width c.args.name_at fs) in
     let new = state_of c.idle_step.new.self in
     let p = mark_at c.args.mark c.args.at in
     steps_of c.idle_step.result words old new p
