@@ -20,7 +20,7 @@ no_comma look at (tree.index t i) w r =
 no_comma look at tree.bare_call w r = tt
 no_comma look at (tree.call t) w r = tt
 no_comma look at (tree.unary s t) w r = no_comma look (at + 1) t w.1 (let high = w.0 in omega arith)
-no_comma look at (tree.cast t) w r = no_comma look (at + 1 + 1 + 1) t w.1 (let high = w.0 in omega arith)
+no_comma look at (tree.cast k t) w r = no_comma look (at + 1 + 1 + 1) t w.1 (let high = w.0 in omega arith)
 no_comma look at (tree.binary op.Comma a b) w r = absurd (omega arith)
 no_comma look at (tree.binary o a b) w r = (
   no_comma look at a w.2 (let high = w.0 in omega arith),

@@ -21,8 +21,8 @@ use Rattle.scop_roles.proofs.Firsts.{part_or_own_none}
 use Rattle.scop_roles.proofs.NodeFaults.{unary_first}
 use Rattle.scop_roles.proofs.Parts.{judged_none, condition_sides, comparison_sides}
 use Rattle.scop_units.proofs.FaultlessUnits.{only_none}
-use Rattle.source_arithmetic.specs.Arithmetic.{whole, Holds, HasWhole, HasTruth}
-use Rattle.source_arithmetic.proofs.Wholes.{form_value, has_whole}
+use Rattle.source_arithmetic.specs.Arithmetic.{whole, Holds}
+use Rattle.source_arithmetic.proofs.Wholes.{form_value}
 
 difference_value : (f g : Affine) (k : ℤ) (p : List ℤ)
     → value_of (difference f g k) p ≡ (value_of f p -ℤ value_of g p) +ℤ k
@@ -103,7 +103,7 @@ no_condition n (call m f at) o h =
     absurd (cc (judged_none (told at (called m) ++ faults n role.Free f) at (Some kind.Condition) h).1)
 no_condition n (unary s f at) o h =
     absurd (cc (part_or_own_none _ at (Some kind.Condition) (unary_first n role.Condition s f at ∙ h)).1)
-no_condition n (cast f at) o h = absurd (cc (judged_none (faults n role.Free f) at (Some kind.Condition) h).1)
+no_condition n (cast w f at) o h = absurd (cc (judged_none (faults n role.Free f) at (Some kind.Condition) h).1)
 no_condition n (binary o f g at) none h = absurd none
 
 -- the tests of a condition
@@ -119,25 +119,3 @@ tests_value n (binary op.LogicalAnd f g at) p long h =
     )
 tests_value n (binary o f g at) p long h = alone n o f g at p refl long h
 tests_value n f p long h = absurd (no_condition n f tt h)
-
--- it is a condition that is true or not
-pub compared_truth : (o : Op) (f g : Formula) (at : ℕ) → is_comparison o ≡ true → HasWhole f → HasWhole g
-    → HasTruth (binary o f g at)
-compared_truth op.Less f g at c x y = (x, y)
-compared_truth op.AtMost f g at c x y = (x, y)
-compared_truth op.Greater f g at c x y = (x, y)
-compared_truth op.AtLeast f g at c x y = (x, y)
-compared_truth op.Equal f g at c x y = (x, y)
-compared_truth _ f g at c x y = absurd (cc)
-
-alone_truth : (n : ℕ) (o : Op) (f g : Formula) (at : ℕ) → is_and o ≡ false
-    → first (faults n role.Condition (binary o f g at)) ≡ None → HasTruth (binary o f g at)
-alone_truth n o f g at a h =
-    let sides = comparison_sides n o f g at a h in
-    compared_truth o f g at (is_compared n o f g at a h) (has_whole n f sides.0) (has_whole n g sides.1)
-
-pub has_truth : (n : ℕ) (f : Formula) → first (faults n role.Condition f) ≡ None → HasTruth f
-has_truth n (binary op.LogicalAnd f g at) h =
-    let sides = condition_sides n op.LogicalAnd f g at refl h in (has_truth n f sides.0, has_truth n g sides.1)
-has_truth n (binary o f g at) h = alone_truth n o f g at refl h
-has_truth n f h = absurd (no_condition n f tt h)

@@ -1,11 +1,14 @@
--- What has no fault in its role is an expression that the definitions speak of.
-use Rattle.std.proofs.Common.{◌≡◌, ℕ, ◌+◌, ◌≤◌, ◌==◌, Bool, true, false, ◌&&◌, List, [], ◌++◌, All}
-use Rattle.std.proofs.Common.{◌∙◌, refl, arith, nat_le}
+-- What an expression without faults has of what the definitions ask: counts, and sides that may stand together.
+use Rattle.std.proofs.Common.{◌≡◌, ℕ, ◌-◌, ◌≤◌, ◌==◌, ◌^◌, Bool, true, false, ◌&&◌, ◌||◌, List, [], All}
+use Rattle.std.proofs.Common.{ap, sym, ◌∙◌, refl, arith, nat_le}
 use Rattle.std.specs.Prelude.{Some, None}
-use Rattle.std.proofs.lemmas.Bool.{and_parts, leb-true, eqb-true}
+use Rattle.std.proofs.lemmas.Bool.{and_parts, or_parts, leb-true, eqb-true, not-true}
+use Rattle.std.proofs.Math.Bool.{and_comm}
 use Rattle.std.proofs.lemmas.List.Elements.{All-get_or}
 use Rattle.expression_grammar.specs.Assign.{Assign}
 use Rattle.expression_grammar.specs.Assign.TheVariants as assigns
+use Rattle.expression_grammar.specs.Base.{Base}
+use Rattle.expression_grammar.specs.Base.TheVariants as base
 use Rattle.expression_grammar.specs.Op.{Op}
 use Rattle.expression_grammar.specs.Op.TheVariants as op
 use Rattle.expression_grammar.specs.declared.token.Sign.TheVariants as sign
@@ -14,65 +17,130 @@ use Rattle.scop_roles.specs.declared.fault.Kind.TheVariants as kind
 use Rattle.scop_roles.specs.declared.formula.Meaning.{Meaning}
 use Rattle.scop_roles.specs.declared.formula.Meaning.TheVariants as meaning
 use Rattle.scop_roles.specs.declared.formula.Role.TheVariants as role
-use Rattle.scop_roles.specs.Faults.{first, told, faults, place_faults, called, own, own_rank, rank, is_count, side_role}
-use Rattle.scop_roles.specs.Faults.{operand_role}
-use Rattle.scop_roles.specs.Forms.{is_shift, is_signed}
-use Rattle.scop_roles.specs.Formula.{Formula, constant, name, index, bare_call, call, unary, cast, binary}
-use Rattle.scop_roles.specs.Formula.{meaning_of, subscripts}
-use Rattle.scop_roles.specs.Scope.{IsArray, IsArrayName, IsInScope}
-use Rattle.scop_roles.proofs.Affines.{ranked_array}
+use Rattle.scop_roles.specs.Faults.{first, told, faults, own_rank, is_count}
+use Rattle.scop_roles.specs.Faults.{last_count, only_where}
+use Rattle.scop_roles.specs.Forms.{is_joining, is_shift, is_signed, is_narrow, is_bare, is_long, mixes}
+use Rattle.scop_roles.specs.Forms.{has_name, greatest as longest}
+use Rattle.scop_roles.specs.Formula.{Formula, constant, name, unary, binary}
+use Rattle.scop_roles.specs.Scope.{IsInScope}
+use Rattle.scop_roles.proofs.Firsts.{first_none}
 use Rattle.scop_roles.proofs.NodeFaults.{signed_is_affine}
-use Rattle.scop_roles.proofs.Parts.{judged_none, place_parts, index_value, cast_value, unary_value, signed_unary}
-use Rattle.scop_roles.proofs.Parts.{signed_binary, binary_value, shift_count}
+use Rattle.scop_roles.proofs.Parts.{judged_none, signed_unary}
+use Rattle.scop_roles.proofs.Parts.{signed_binary, binary_value, shift_counted}
+use Rattle.scop_roles.proofs.Widths.{value_apart, bare_there}
 use Rattle.scop_units.specs.Units.{own_assign}
-use Rattle.scop_units.proofs.FaultlessUnits.{only_none}
-use Rattle.source_arithmetic.specs.Arithmetic.{HasWhole, HasCell, HasWord, HasStored, IsCount, HasNoComma, has_sign}
-use Rattle.source_arithmetic.proofs.Wholes.{has_whole}
-use Rattle.source_arithmetic.proofs.Signs.{comma_sides, sign_same}
-
--- a place of an array is a cell
-array_cell : (m : Meaning) (at : ℕ) → IsArrayName m → HasCell (name m at)
-array_cell (meaning.Array k r) at a = tt
-array_cell meaning.Unknown at a = absurd a
-array_cell meaning.Closed at a = absurd a
-array_cell (meaning.Variable k) at a = absurd a
-
-pub has_cell : (n : ℕ) (f : Formula) → IsArray f → first (place_faults n f) ≡ None → HasCell f
-has_cell n (name m at) a h = array_cell m at a
-has_cell n (index q i) a h =
-    let parts = place_parts n q i h in (has_cell n q a parts.0, has_whole n i parts.1)
-has_cell n _ a h = absurd a
+use Rattle.scop_units.proofs.FaultlessUnits.{only_none, where_false, both_false, at_most}
+use Rattle.source_arithmetic.specs.Arithmetic.{HasWhole, HasWord, HasStored, IsCount, IsShort, MayStandBeside}
+use Rattle.source_arithmetic.specs.Arithmetic.{MayJoin, HasNoComma, Class, signed, narrow, class, is_signed_class}
+use Rattle.source_arithmetic.specs.Arithmetic.{has_sign, greatest}
+use Rattle.source_arithmetic.proofs.Wholes.{has_whole, affine_sides}
+use Rattle.source_arithmetic.proofs.Classes.{comma_sides, type_by, signed_class, class_same, sign_same}
 
 -- counts
-pub has_count : (f : Formula) → is_count 0 63 f ≡ true → IsCount f
-has_count (constant suffix.Absent v at) e =
+pub has_count : (b : Bool) (f : Formula) → is_count 0 (last_count b) f ≡ true → IsCount (type_by false b) f
+has_count true (constant (suffix.Absent k) v at) e =
+    let small = leb-true v 31 (and_parts (nat_le 0 v) (nat_le v 31) e).1 in omega arith
+has_count false (constant (suffix.Absent k) v at) e =
     let small = leb-true v 63 (and_parts (nat_le 0 v) (nat_le v 63) e).1 in omega arith
-has_count _ e = absurd (cc)
+has_count b _ e = absurd (cc)
 
--- a whole number has a word
-whole_word : (f : Formula) → HasWhole f → HasWord f
-whole_word (constant s v at) h = tt
-whole_word (name m at) h = h
-whole_word (unary sign.Minus f at) h = whole_word f h
-whole_word (binary op.Plus f g at) h = (whole_word f h.0, whole_word g h.1)
-whole_word (binary op.Minus f g at) h = (whole_word f h.0, whole_word g h.1)
-whole_word (binary op.Times f g at) h = (whole_word f h.0, whole_word g h.1)
-whole_word _ h = absurd h
+-- what is signed and may stand beside 32 bits is short
+constant_short : (b : Base) (v : ℕ) → v ≤ 2 ^ 20 → v ≤ greatest b
+constant_short base.Decimal v h = omega arith
+constant_short base.Hexadecimal v h = omega arith
 
--- an operator of unsigned values
-unsigned_word : (n : ℕ) (o : Op) (f g : Formula) (at : ℕ) → has_sign (binary o f g at) ≡ false
-    → own n role.Value (binary o f g at) ≡ None → HasNoComma (binary o f g at)
-    → (is_shift o ≡ true → is_count 0 63 g ≡ true) → HasWord f → HasWord g → HasWord (binary o f g at)
-unsigned_word n op.Plus f g at u e c shift x y = (x, y)
-unsigned_word n op.Minus f g at u e c shift x y = (x, y)
-unsigned_word n op.Times f g at u e c shift x y = (x, y)
-unsigned_word n op.BitAnd f g at u e c shift x y = (u, x, y)
-unsigned_word n op.BitOr f g at u e c shift x y = (u, x, y)
-unsigned_word n op.BitXor f g at u e c shift x y = (u, x, y)
-unsigned_word n op.ShiftLeft f g at u e c shift x y = (u, x, has_count g (shift refl))
-unsigned_word n op.ShiftRight f g at u e c shift x y = (u, x, has_count g (shift refl))
-unsigned_word n op.Comma f g at u e c shift x y = absurd c
-unsigned_word n _ f g at u e c shift x y = absurd (cc)
+whole_short : (n : ℕ) (f : Formula) → HasWhole f → first (faults n role.Affine f) ≡ None → has_name f ≡ false
+    → IsShort f
+whole_short n (constant (suffix.Absent b) v at) w h e =
+    constant_short b v (at_most at (2 ^ 20) v kind.Coefficient (first_none _ h))
+whole_short n (unary sign.Minus f at) w h e = whole_short n f w (judged_none (faults n role.Affine f) at None h).0 e
+whole_short n (binary op.Plus f g at) w h e =
+    let parts = affine_sides n op.Plus f g at h in
+    let b = both_false (has_name f) (has_name g) e in
+    (whole_short n f w.0 parts.2 b.0, whole_short n g w.1 parts.3 b.1)
+whole_short n (binary op.Minus f g at) w h e =
+    let parts = affine_sides n op.Minus f g at h in
+    let b = both_false (has_name f) (has_name g) e in
+    (whole_short n f w.0 parts.2 b.0, whole_short n g w.1 parts.3 b.1)
+whole_short n (binary op.Times f g at) w h e =
+    let parts = affine_sides n op.Times f g at h in
+    let b = both_false (has_name f) (has_name g) e in
+    (whole_short n f w.0 parts.2 b.0, whole_short n g w.1 parts.3 b.1)
+whole_short n (name (meaning.Variable k) at) w h e = absurd (cc)
+whole_short n _ w h e = absurd w
+
+summand_short : (n : ℕ) (f : Formula) → first (faults n role.Signed f) ≡ None → has_name f ≡ false → IsShort f
+summand_short n f h e = let a = signed_is_affine n f h in whole_short n f (has_whole n f a) a e
+
+base_short : (b : Base) (v : ℕ) → nat_le v (longest b) ≡ true → v ≤ greatest b
+base_short base.Decimal v h = leb-true v (2 ^ 31 - 1) h
+base_short base.Hexadecimal v h = leb-true v (2 ^ 32 - 1) h
+
+bare_short : (n : ℕ) (f : Formula) → first (faults n role.Value f) ≡ None → is_signed f ≡ true → is_bare f ≡ true
+    → IsShort f
+bare_short n (constant (suffix.Absent b) v at) h s e = base_short b v e
+bare_short n (unary o f at) h s e =
+    summand_short n (unary o f at) (signed_unary n o f at s h) (not-true (has_name f) e)
+bare_short n (binary o f g at) h s e =
+    summand_short n (binary o f g at) (signed_binary n o f g at s h) (not-true (has_name f || has_name g) e)
+bare_short n _ h s e = absurd (cc)
+
+-- a conjunction that is false, of which the first part holds
+right_false : (a b : Bool) → a ≡ true → (a && b) ≡ false → b ≡ false
+right_false true b e h = h
+right_false false b e h = absurd (cc)
+
+may_stand : (n : ℕ) (c : Class) (f : Formula) → has_sign f ≡ is_signed f → first (faults n role.Value f) ≡ None
+    → (c ≡ narrow → is_long f ≡ false) → MayStandBeside c f
+may_stand n c f sign h apart e s =
+    let there = sym sign ∙ ap is_signed_class s in
+    bare_short n f h there (bare_there (is_signed f) (is_bare f) there (apart e))
+
+type_narrow : (s n : Bool) → type_by s n ≡ narrow → n ≡ true
+type_narrow true n e = absurd (cc)
+type_narrow false true e = refl
+type_narrow false false e = absurd (cc)
+
+may_join : (n : ℕ) (f g : Formula) → HasNoComma f → HasNoComma g → first (faults n role.Value f) ≡ None
+    → first (faults n role.Value g) ≡ None → mixes f g ≡ false → MayJoin f g
+may_join n f g c d h k apart =
+    let parts = or_parts (is_narrow f && is_long g) (is_long f && is_narrow g) apart in (
+      may_stand n (class f) g (sign_same n g d k) k
+          (λ e. right_false (is_narrow f) (is_long g)
+          (type_narrow (is_signed f) (is_narrow f) (sym (class_same n f c h) ∙ e)) parts.0),
+      may_stand n (class g) f (sign_same n f c h) h
+          (λ e. right_false (is_narrow g) (is_long f)
+          (type_narrow (is_signed g) (is_narrow g) (sym (class_same n g d k) ∙ e))
+          (and_comm (is_narrow g) (is_long f) ∙ parts.1)),
+    )
+
+pub signed_joins : (f g : Formula) → class f ≡ signed → class g ≡ signed → MayJoin f g
+signed_joins f g c d = (λ e s. absurd (cc), λ e s. absurd (cc))
+
+-- an operator of unsigned values: its sides may stand beside each other, or the right one is a count
+pub value_joins : (n : ℕ) (o : Op) (f g : Formula) (at : ℕ) → HasNoComma (binary o f g at)
+    → is_signed (binary o f g at) ≡ false → first (faults n role.Value (binary o f g at)) ≡ None
+    → is_joining o ≡ true → MayJoin f g
+value_joins n o f g at c u h j = by_sign (is_signed f && is_signed g) refl
+  where
+    by_sign : (b : Bool) → (is_signed f && is_signed g) ≡ b → MayJoin f g
+    by_sign true e =
+        let both = and_parts (is_signed f) (is_signed g) e in
+        signed_joins f g (signed_class f both.0) (signed_class g both.1)
+    by_sign false e =
+        let plain = comma_sides o f g at c in
+        let sides = binary_value n o f g at u h in
+        may_join n f g plain.0 plain.1 sides.0 sides.1 (value_apart n o f g at j e h)
+
+pub value_counts : (n : ℕ) (o : Op) (f g : Formula) (at : ℕ) → HasNoComma (binary o f g at)
+    → first (faults n role.Value (binary o f g at)) ≡ None → is_shift o ≡ true → IsCount (class f) g
+value_counts n op.ShiftLeft f g at c h s =
+    rw (class_same n (binary op.ShiftLeft f g at) c h)
+    (has_count (is_narrow f) g (shift_counted n op.ShiftLeft f g at s h))
+value_counts n op.ShiftRight f g at c h s =
+    rw (class_same n (binary op.ShiftRight f g at) c h)
+    (has_count (is_narrow f) g (shift_counted n op.ShiftRight f g at s h))
+value_counts n _ f g at c h s = absurd (cc)
 
 -- a name that is a value is a number's: every array has an extent
 pub name_word : (ranks : List ℕ) (n : ℕ) (m : Meaning) (at : ℕ) → All (λ r. 1 ≤ r) ranks → IsInScope ranks (name m at)
@@ -82,62 +150,25 @@ name_word ranks n meaning.Unknown at some s h =
     absurd (cc (judged_none (told at (Some kind.UnknownName)) at None h).0)
 name_word ranks n meaning.Closed at some s h =
     absurd (cc (judged_none (told at (Some kind.IteratorOutside)) at None h).0)
-name_word ranks n (meaning.Array k r) at some s h =
-    let own_none = (judged_none [] at (own_rank (name (meaning.Array k r) at)) h).1 in
+name_word ranks n (meaning.Array k r b) at some s h =
+    let own_none = (judged_none [] at (own_rank (name (meaning.Array k r b) at)) h).1 in
     let zero_is = eqb-true r 0 (only_none (r == 0) kind.Rank own_none) in
     let there = All-get_or (λ (i : ℕ). 1 ≤ i) ranks k 0 s.0 some in
     let same = s.1 in
     absurd (omega arith)
 
-pub has_word : (ranks : List ℕ) (n : ℕ) (f : Formula) → All (λ r. 1 ≤ r) ranks → IsInScope ranks f → HasNoComma f
-    → first (faults n role.Value f) ≡ None → HasWord f
-has_word ranks n (constant t v at) some s c h = tt
-has_word ranks n (name m at) some s c h = name_word ranks n m at some s h
-has_word ranks n (index q i) some s c h =
-    let parts = index_value n q i h in
-    let same = eqb-true (rank (meaning_of q)) (subscripts q + 1)
-    (only_none (rank (meaning_of q) == (subscripts q + 1)) kind.Rank parts.1) in
-    has_cell n (index q i) (ranked_array (meaning_of q) (subscripts q) same) parts.0
-has_word ranks n (bare_call m at) some s c h =
-    absurd (cc (judged_none (told at (called m)) at (Some kind.Call) h).1)
-has_word ranks n (call m f at) some s c h =
-    absurd (cc (judged_none (told at (called m) ++ faults n role.Free f) at (Some kind.Call) h).1)
-has_word ranks n (unary sign.Minus f at) some s c h =
-    by_sign (is_signed f) refl (λ u. has_word ranks n f some s c (unary_value n sign.Minus f at u h))
-  where
-    by_sign : (b : Bool) → is_signed f ≡ b → (is_signed f ≡ false → HasWord f) → HasWord f
-    by_sign true e ih =
-        whole_word f (has_whole n (unary sign.Minus f at)
-        (signed_is_affine n (unary sign.Minus f at) (signed_unary n sign.Minus f at e h)))
-    by_sign false e ih = ih e
-has_word ranks n (unary sign.Complement f at) some s c h = (
-  sign_same n (unary sign.Complement f at) c h,
-  has_word ranks n f some s c (unary_value n sign.Complement f at refl h),
-)
-has_word ranks n (unary sign.Not f at) some s c h =
-    absurd (cc (judged_none (faults n (operand_role sign.Not (is_signed f) role.Value) f) at (Some kind.Condition) h).1)
-has_word ranks n (cast f at) some s c h = has_word ranks n f some s c (cast_value n f at h)
-has_word ranks n (binary o f g at) some s c h =
-    by_sign (is_signed (binary o f g at)) refl
-    (λ u. has_word ranks n f some s.0 (comma_sides o f g at c).0 (binary_value n o f g at u h).0)
-    (λ u. has_word ranks n g some s.1 (comma_sides o f g at c).1 (binary_value n o f g at u h).1)
-  where
-    by_sign : (b : Bool) → is_signed (binary o f g at) ≡ b → (is_signed (binary o f g at) ≡ false → HasWord f)
-        → (is_signed (binary o f g at) ≡ false → HasWord g) → HasWord (binary o f g at)
-    by_sign true e left right =
-        whole_word (binary o f g at) (has_whole n (binary o f g at)
-        (signed_is_affine n (binary o f g at) (signed_binary n o f g at e h)))
-    by_sign false e left right =
-        let side = side_role o (is_signed f && is_signed g) role.Value in
-        let own_none =
-        (judged_none (faults n side f ++ faults n side g) at (own n role.Value (binary o f g at)) h).1 in
-        unsigned_word n o f g at (sign_same n (binary o f g at) c h ∙ e) own_none c
-        (λ t. shift_count n o f g at t h) (left e) (right e)
+-- an operator that assigns, and its value; b: to a place of 32 bits
+stored_stands : (n : ℕ) (b : Bool) (f : Formula) → HasNoComma f → first (faults n role.Value f) ≡ None
+    → only_where (b && is_long f) kind.Width ≡ None → MayStandBeside (type_by false b) f
+stored_stands n b f c h e =
+    may_stand n (type_by false b) f (sign_same n f c h) h
+    (λ t. right_false b (is_long f) (type_narrow false b t) (where_false (b && is_long f) kind.Width e))
 
--- an operator that assigns, and its value
-pub has_stored : (a : Assign) (f : Formula) → own_assign a f ≡ None → HasWord f → HasStored a f
-has_stored assigns.Divide f e w = absurd (cc)
-has_stored assigns.Remainder f e w = absurd (cc)
-has_stored assigns.ShiftLeft f e w = has_count f (only_none (is_count 0 63 f) kind.ShiftCount e)
-has_stored assigns.ShiftRight f e w = has_count f (only_none (is_count 0 63 f) kind.ShiftCount e)
-has_stored _ f e w = w
+pub has_stored : (n : ℕ) (b : Bool) (a : Assign) (f : Formula) → HasNoComma f → first (faults n role.Value f) ≡ None
+    → own_assign b a f ≡ None → HasWord f → HasStored (type_by false b) a f
+has_stored n b assigns.Set f c h e w = w
+has_stored n b assigns.Divide f c h e w = absurd (cc)
+has_stored n b assigns.Remainder f c h e w = absurd (cc)
+has_stored n b assigns.ShiftLeft f c h e w = has_count b f (only_none (is_count 0 (last_count b) f) kind.ShiftCount e)
+has_stored n b assigns.ShiftRight f c h e w = has_count b f (only_none (is_count 0 (last_count b) f) kind.ShiftCount e)
+has_stored n b _ f c h e w = (w, stored_stands n b f c h e)

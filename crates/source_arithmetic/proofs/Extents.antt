@@ -5,6 +5,7 @@ use Rattle.std.specs.Prelude.{nat_le, nat_lt}
 use Rattle.std.proofs.lemmas.List.Elements.{All-nil, All-cons}
 use Rattle.whole_numbers.specs.Affine.{Affine, value_of}
 use Rattle.whole_numbers.proofs.Dot.{dot-padded, dot-past}
+use Rattle.expression_grammar.specs.Width.{Width}
 use Rattle.scop_syntax.specs.Cells.{values}
 use Rattle.scop_roles.specs.declared.fault.Kind.TheVariants as kind
 use Rattle.scop_roles.specs.declared.formula.Role.TheVariants as role
@@ -54,8 +55,8 @@ pub array_whole : (words : Words) (s : Scope) (at : ℕ) (fs : List Formula) →
     → All HasWhole fs
 array_whole words s at fs e = extents_whole (entries s) fs (clean words s at fs e)
 
-pub array_extents : (affine : AreAffine) (words : Words) (s : Scope) (at : ℕ) (fs : List Formula) (n : ℕ)
+pub array_extents : (affine : AreAffine) (words : Words) (s : Scope) (at : ℕ) (w : Width) (fs : List Formula) (n : ℕ)
     (p later : List ℤ) → length p ≡ entries s → array_faults words s at fs ≡ []
-    → values (declared_over n (array_of words s at fs)).extents (p ++ later) ≡ map (λ f. whole p f) fs
-array_extents affine words s at fs n p later long e =
+    → values (declared_over n (array_of words s at w fs)).extents (p ++ later) ≡ map (λ f. whole p f) fs
+array_extents affine words s at w fs n p later long e =
     extents_value affine (entries s) n fs p later long (clean words s at fs e)

@@ -18,9 +18,9 @@ use Rattle.scop_roles.specs.declared.formula.Meaning.{Meaning}
 use Rattle.scop_roles.specs.declared.formula.Meaning.TheVariants as meaning
 use Rattle.scop_roles.specs.declared.formula.Role.TheVariants as role
 use Rattle.scop_roles.specs.Faults.{first, told, faults, place_faults, called, own, own_rank, rank, only_where}
-use Rattle.scop_roles.specs.Faults.{or_else, is_count, side_role, operand_role, are_plain_constants}
-use Rattle.scop_roles.specs.Forms.{is_sum_or_product, is_product, is_comparison, is_and, is_shift, is_signed, has_name}
-use Rattle.scop_roles.specs.Forms.{form, is_within}
+use Rattle.scop_roles.specs.Faults.{or_else, side_role, operand_role, are_plain_constants}
+use Rattle.scop_roles.specs.Forms.{is_sum_or_product, is_product, is_comparison, is_and, is_shift, is_joining}
+use Rattle.scop_roles.specs.Forms.{is_signed, has_name, form, is_within}
 use Rattle.scop_roles.specs.Formula.{Formula, constant, name, index, bare_call, call, unary, cast, binary, place}
 use Rattle.scop_roles.specs.Formula.{meaning_of, subscripts}
 use Rattle.scop_roles.specs.Scope.{IsArray, IsArrayName, IsInScope}
@@ -28,20 +28,22 @@ use Rattle.scop_roles.proofs.Affines.{ranked_array}
 use Rattle.scop_roles.proofs.Firsts.{first_none}
 use Rattle.scop_roles.proofs.NodeFaults.{signed_is_affine, sum_sides}
 use Rattle.scop_roles.proofs.Parts.{judged_none, append_none, place_parts, index_value, cast_value, unary_value}
-use Rattle.scop_roles.proofs.Parts.{signed_unary, signed_binary, binary_value, shift_count, condition_sides}
+use Rattle.scop_roles.proofs.Parts.{signed_unary, signed_binary, binary_value, condition_sides}
 use Rattle.scop_roles.proofs.Parts.{comparison_sides}
-use Rattle.scop_units.specs.Units.{Stored, own_cell, cell_faults, stored_faults, extent_faults}
+use Rattle.scop_units.specs.Units.{Stored, own_cell, is_narrow_cell, cell_faults, stored_faults, extent_faults}
 use Rattle.scop_units.proofs.FaultlessUnits.{parts_none, told_none, only_none, where_false}
 use Rattle.scop_units.proofs.FaultlessUnits as standing
-use Rattle.source_arithmetic.specs.Arithmetic.{whole, has_sign, HasNoComma, HasWhole}
+use Rattle.source_arithmetic.specs.Arithmetic.{class, is_signed_class, has_sign, whole, HasNoComma, HasWhole}
+use Rattle.source_arithmetic.specs.Arithmetic.{MayJoin, IsCount, cell_class, HasCell, HasTruth, HasWord, HasStored}
 use Rattle.source_arithmetic.specs.Limits.{IsSmall, IsLinear, IsLinearTruth, JoinsNoConstants, IsSummand, IsLinearPlace}
 use Rattle.source_arithmetic.specs.Limits.{IsFitWord, IsFitStored}
-use Rattle.source_arithmetic.proofs.Wholes.{AreAffine, form_value, affine_sides, own_parts}
+use Rattle.source_arithmetic.proofs.Wholes.{AreAffine, form_value, affine_sides, own_parts, has_whole}
 use Rattle.source_arithmetic.proofs.Conditions.{is_compared, no_condition}
-use Rattle.source_arithmetic.proofs.Signs.{comma_sides, signed_has, sign_same, signed_parts}
-use Rattle.source_arithmetic.proofs.DefinedExpressions.{has_count, has_stored, has_word, name_word}
+use Rattle.source_arithmetic.proofs.Classes.{comma_sides, cell_type, signed_class, sign_same, signed_parts}
+use Rattle.source_arithmetic.proofs.DefinedExpressions.{signed_joins, value_joins, value_counts, name_word}
+use Rattle.source_arithmetic.proofs.DefinedExpressions.{has_stored}
 use Rattle.source_arithmetic.proofs.Stores.{stored_parts}
-use Rattle.source_arithmetic.proofs.MeaningfulExpressions.{at_zeros, at_unit}
+use Rattle.source_arithmetic.proofs.MeaningfulExpressions.{at_zeros, at_unit, linear_sign}
 
 -- affine expressions
 small_of : (affine : AreAffine) (n : ℕ) (f : Formula) → first (faults n role.Affine f) ≡ None → IsSmall n f
@@ -58,39 +60,28 @@ small_of affine n f h =
           rw same (at_most_at 16 (form n f).coefficients k is.coefficients);
     }
 
-sum_linear : (n : ℕ) (o : Op) (f g : Formula) (at : ℕ) → is_sum_or_product o ≡ true
-    → (is_product o && (has_name f && has_name g)) ≡ false → IsLinear n f → IsLinear n g → IsSmall n (binary o f g at)
-    → IsLinear n (binary o f g at)
-sum_linear n op.Plus f g at s e x y small = (x, y, small)
-sum_linear n op.Minus f g at s e x y small = (x, y, small)
-sum_linear n op.Times f g at s e x y small = (x, y, e, small)
-sum_linear n _ f g at s e x y small = absurd (cc)
+-- of a whole number
+linear : (affine : AreAffine) (n : ℕ) (f : Formula) → HasWhole f → first (faults n role.Affine f) ≡ None → IsLinear n f
+linear affine n (constant (suffix.Absent b) v at) w h =
+    standing.at_most at (2 ^ 20) v kind.Coefficient (first_none _ h)
+linear affine n (name (meaning.Variable k) at) w h = tt
+linear affine n (unary sign.Minus f at) w h = linear affine n f w (judged_none (faults n role.Affine f) at None h).0
+linear affine n (binary op.Plus f g at) w h =
+    let parts = affine_sides n op.Plus f g at h in
+    let small = small_of affine n (binary op.Plus f g at) h in
+    (linear affine n f w.0 parts.2, linear affine n g w.1 parts.3, small)
+linear affine n (binary op.Minus f g at) w h =
+    let parts = affine_sides n op.Minus f g at h in
+    let small = small_of affine n (binary op.Minus f g at) h in
+    (linear affine n f w.0 parts.2, linear affine n g w.1 parts.3, small)
+linear affine n (binary op.Times f g at) w h =
+    let parts = affine_sides n op.Times f g at h in
+    let small = small_of affine n (binary op.Times f g at) h in
+    (linear affine n f w.0 parts.2, linear affine n g w.1 parts.3, parts.1, small)
+linear affine n _ w h = absurd w
 
 pub linear_of : (affine : AreAffine) (n : ℕ) (f : Formula) → first (faults n role.Affine f) ≡ None → IsLinear n f
-linear_of affine n (constant suffix.Absent v at) h =
-    standing.at_most at (2 ^ 20) v kind.Coefficient (first_none _ h)
-linear_of affine n (constant suffix.Present v at) h = absurd (cc (judged_none [] at (Some kind.NotAffine) h).1)
-linear_of affine n (name (meaning.Variable k) at) h = tt
-linear_of affine n (name meaning.Unknown at) h =
-    absurd (cc (judged_none (told at (Some kind.UnknownName)) at None h).0)
-linear_of affine n (name meaning.Closed at) h =
-    absurd (cc (judged_none (told at (Some kind.IteratorOutside)) at None h).0)
-linear_of affine n (name (meaning.Array k r) at) h = absurd (cc (judged_none [] at (Some kind.NotAffine) h).1)
-linear_of affine n (index q i) h =
-    absurd (cc (judged_none (place_faults n q ++ faults n role.Affine i) (place q) (Some kind.NotAffine) h).1)
-linear_of affine n (bare_call m at) h = absurd (cc (judged_none (told at (called m)) at (Some kind.NotAffine) h).1)
-linear_of affine n (call m f at) h =
-    absurd (cc (judged_none (told at (called m) ++ faults n role.Free f) at (Some kind.NotAffine) h).1)
-linear_of affine n (unary sign.Minus f at) h = linear_of affine n f (judged_none (faults n role.Affine f) at None h).0
-linear_of affine n (unary sign.Complement f at) h =
-    absurd (cc (judged_none (faults n role.Free f) at (Some kind.NotAffine) h).1)
-linear_of affine n (unary sign.Not f at) h =
-    absurd (cc (judged_none (faults n role.Free f) at (Some kind.NotAffine) h).1)
-linear_of affine n (cast f at) h = absurd (cc (judged_none (faults n role.Free f) at (Some kind.NotAffine) h).1)
-linear_of affine n (binary o f g at) h =
-    let parts = affine_sides n o f g at h in
-    sum_linear n o f g at parts.0 parts.1 (linear_of affine n f parts.2) (linear_of affine n g parts.3)
-    (small_of affine n (binary o f g at) h)
+linear_of affine n f h = linear affine n f (has_whole n f h) h
 
 -- conditions
 compared_linear : (n : ℕ) (o : Op) (f g : Formula) (at : ℕ) → is_comparison o ≡ true → IsLinear n f → IsLinear n g
@@ -119,7 +110,7 @@ truth_of affine n f h = absurd (no_condition n f tt h)
 
 -- places
 array_place : (n : ℕ) (m : Meaning) (at : ℕ) → IsArrayName m → IsLinearPlace n (name m at)
-array_place n (meaning.Array k r) at a = tt
+array_place n (meaning.Array k r b) at a = tt
 array_place n meaning.Unknown at a = absurd a
 array_place n meaning.Closed at a = absurd a
 array_place n (meaning.Variable k) at a = absurd a
@@ -163,7 +154,7 @@ joins_none n _ h = tt
 summand_of : (affine : AreAffine) (n : ℕ) (f : Formula) → is_signed f ≡ true → first (faults n role.Signed f) ≡ None
     → IsSummand n f
 summand_of affine n f e h =
-    (signed_has f e, linear_of affine n f (signed_is_affine n f h), joins_none n f h)
+    (ap is_signed_class (signed_class f e), linear_of affine n f (signed_is_affine n f h), joins_none n f h)
 
 sum_fits : (n : ℕ) (o : Op) (f g : Formula) (at : ℕ) → is_sum_or_product o ≡ true → IsSummand n (binary o f g at)
     → IsFitWord n (binary o f g at)
@@ -174,24 +165,24 @@ sum_fits n _ f g at s x = absurd (cc)
 
 -- values
 unsigned_fits : (n : ℕ) (o : Op) (f g : Formula) (at : ℕ) → has_sign (binary o f g at) ≡ false
-    → own n role.Value (binary o f g at) ≡ None → HasNoComma (binary o f g at)
-    → (is_shift o ≡ true → is_count 0 63 g ≡ true) → IsFitWord n f → IsFitWord n g → IsFitWord n (binary o f g at)
-unsigned_fits n op.Plus f g at u e c shift x y = inr (u, x, y)
-unsigned_fits n op.Minus f g at u e c shift x y = inr (u, x, y)
-unsigned_fits n op.Times f g at u e c shift x y = inr (u, x, y)
-unsigned_fits n op.BitAnd f g at u e c shift x y = (u, x, y)
-unsigned_fits n op.BitOr f g at u e c shift x y = (u, x, y)
-unsigned_fits n op.BitXor f g at u e c shift x y = (u, x, y)
-unsigned_fits n op.ShiftLeft f g at u e c shift x y = (u, x, has_count g (shift refl))
-unsigned_fits n op.ShiftRight f g at u e c shift x y = (u, x, has_count g (shift refl))
-unsigned_fits n op.Comma f g at u e c shift x y = absurd c
-unsigned_fits n _ f g at u e c shift x y = absurd (cc)
+    → own n role.Value (binary o f g at) ≡ None → HasNoComma (binary o f g at) → (is_joining o ≡ true → MayJoin f g)
+    → (is_shift o ≡ true → IsCount (class f) g) → IsFitWord n f → IsFitWord n g → IsFitWord n (binary o f g at)
+unsigned_fits n op.Plus f g at u e c joins counts x y = inr (u, x, y, joins refl)
+unsigned_fits n op.Minus f g at u e c joins counts x y = inr (u, x, y, joins refl)
+unsigned_fits n op.Times f g at u e c joins counts x y = inr (u, x, y, joins refl)
+unsigned_fits n op.BitAnd f g at u e c joins counts x y = (u, x, y, joins refl)
+unsigned_fits n op.BitOr f g at u e c joins counts x y = (u, x, y, joins refl)
+unsigned_fits n op.BitXor f g at u e c joins counts x y = (u, x, y, joins refl)
+unsigned_fits n op.ShiftLeft f g at u e c joins counts x y = (u, x, counts refl)
+unsigned_fits n op.ShiftRight f g at u e c joins counts x y = (u, x, counts refl)
+unsigned_fits n op.Comma f g at u e c joins counts x y = absurd c
+unsigned_fits n _ f g at u e c joins counts x y = absurd (cc)
 
 name_fits : (n : ℕ) (m : Meaning) (at : ℕ) → HasWhole (name m at) → IsFitWord n (name m at)
 name_fits n (meaning.Variable k) at h = tt
 name_fits n meaning.Unknown at h = absurd h
 name_fits n meaning.Closed at h = absurd h
-name_fits n (meaning.Array k r) at h = absurd h
+name_fits n (meaning.Array k r b) at h = absurd h
 
 pub word_of : (affine : AreAffine) (ranks : List ℕ) (n : ℕ) (f : Formula) → All (λ r. 1 ≤ r) ranks → IsInScope ranks f
     → HasNoComma f → first (faults n role.Value f) ≡ None → IsFitWord n f
@@ -220,7 +211,7 @@ word_of affine ranks n (unary sign.Complement f at) some s c h = (
 )
 word_of affine ranks n (unary sign.Not f at) some s c h =
     absurd (cc (judged_none (faults n (operand_role sign.Not (is_signed f) role.Value) f) at (Some kind.Condition) h).1)
-word_of affine ranks n (cast f at) some s c h = word_of affine ranks n f some s c (cast_value n f at h)
+word_of affine ranks n (cast w f at) some s c h = word_of affine ranks n f some s c (cast_value n w f at h)
 word_of affine ranks n (binary o f g at) some s c h =
     by_sign (is_signed (binary o f g at)) refl
     (λ u. word_of affine ranks n f some s.0 (comma_sides o f g at c).0 (binary_value n o f g at u h).0)
@@ -236,7 +227,67 @@ word_of affine ranks n (binary o f g at) some s c h =
         let own_none =
         (judged_none (faults n side f ++ faults n side g) at (own n role.Value (binary o f g at)) h).1 in
         unsigned_fits n o f g at (sign_same n (binary o f g at) c h ∙ e) own_none c
-        (λ t. shift_count n o f g at t h) (left e) (right e)
+        (value_joins n o f g at c e h) (value_counts n o f g at c h) (left e) (right e)
+
+-- what fits says something
+linear_whole : (n : ℕ) (f : Formula) → IsLinear n f → HasWhole f
+linear_whole n (constant (suffix.Absent b) v at) h = tt
+linear_whole n (name (meaning.Variable k) at) h = tt
+linear_whole n (unary sign.Minus f at) h = linear_whole n f h
+linear_whole n (binary op.Plus f g at) h = (linear_whole n f h.0, linear_whole n g h.1)
+linear_whole n (binary op.Minus f g at) h = (linear_whole n f h.0, linear_whole n g h.1)
+linear_whole n (binary op.Times f g at) h = (linear_whole n f h.0, linear_whole n g h.1)
+linear_whole n _ h = absurd h
+
+pub place_cell : (n : ℕ) (f : Formula) → IsLinearPlace n f → HasCell f
+place_cell n (name (meaning.Array k r b) at) h = tt
+place_cell n (index q i) h = (place_cell n q h.0, linear_whole n i h.1)
+place_cell n _ h = absurd h
+
+pub fit_truth : (n : ℕ) (f : Formula) → IsLinearTruth n f → HasTruth f
+fit_truth n (binary op.Less f g at) h = (linear_whole n f h.0, linear_whole n g h.1)
+fit_truth n (binary op.AtMost f g at) h = (linear_whole n f h.0, linear_whole n g h.1)
+fit_truth n (binary op.Greater f g at) h = (linear_whole n f h.0, linear_whole n g h.1)
+fit_truth n (binary op.AtLeast f g at) h = (linear_whole n f h.0, linear_whole n g h.1)
+fit_truth n (binary op.Equal f g at) h = (linear_whole n f h.0, linear_whole n g h.1)
+fit_truth n (binary op.LogicalAnd f g at) h = (fit_truth n f h.0, fit_truth n g h.1)
+fit_truth n _ h = absurd h
+
+linear_joins : (n : ℕ) (f g : Formula) → IsLinear n f → IsLinear n g → MayJoin f g
+linear_joins n f g x y = signed_joins f g (signed_class f (linear_sign n f x)) (signed_class g (linear_sign n g y))
+
+linear_word : (n : ℕ) (f : Formula) → IsLinear n f → HasWord f
+linear_word n (constant s v at) h = tt
+linear_word n (name (meaning.Variable k) at) h = tt
+linear_word n (unary sign.Minus f at) h = linear_word n f h
+linear_word n (binary op.Plus f g at) h =
+    (linear_word n f h.0, linear_word n g h.1, linear_joins n f g h.0 h.1)
+linear_word n (binary op.Minus f g at) h =
+    (linear_word n f h.0, linear_word n g h.1, linear_joins n f g h.0 h.1)
+linear_word n (binary op.Times f g at) h =
+    (linear_word n f h.0, linear_word n g h.1, linear_joins n f g h.0 h.1)
+linear_word n _ h = absurd h
+
+pub fit_word : (n : ℕ) (f : Formula) → IsFitWord n f → HasWord f
+fit_word n (constant s v at) h = tt
+fit_word n (name (meaning.Variable k) at) h = tt
+fit_word n (index q i) h = place_cell n (index q i) h.0
+fit_word n (unary sign.Minus f at) (inl h) = linear_word n f h.1
+fit_word n (unary sign.Minus f at) (inr h) = fit_word n f h.1
+fit_word n (unary sign.Complement f at) h = (h.0, fit_word n f h.1)
+fit_word n (cast w f at) h = fit_word n f h
+fit_word n (binary op.Plus f g at) (inl h) = linear_word n (binary op.Plus f g at) h.1
+fit_word n (binary op.Plus f g at) (inr h) = (fit_word n f h.1, fit_word n g h.2, h.3)
+fit_word n (binary op.Minus f g at) (inl h) = linear_word n (binary op.Minus f g at) h.1
+fit_word n (binary op.Minus f g at) (inr h) = (fit_word n f h.1, fit_word n g h.2, h.3)
+fit_word n (binary op.Times f g at) (inl h) = linear_word n (binary op.Times f g at) h.1
+fit_word n (binary op.Times f g at) (inr h) = (fit_word n f h.1, fit_word n g h.2, h.3)
+fit_word n (binary op.BitAnd f g at) h = (h.0, fit_word n f h.1, fit_word n g h.2, h.3)
+fit_word n (binary op.BitOr f g at) h = (h.0, fit_word n f h.1, fit_word n g h.2, h.3)
+fit_word n (binary op.BitXor f g at) h = (h.0, fit_word n f h.1, fit_word n g h.2, h.3)
+fit_word n (binary op.ShiftLeft f g at) h = (h.0, fit_word n f h.1, h.2)
+fit_word n (binary op.ShiftRight f g at) h = (h.0, fit_word n f h.1, h.2)
+fit_word n _ h = absurd h
 
 -- statements
 pub stored_of : (affine : AreAffine) (ranks : List ℕ) (n : ℕ) (s : Stored) → All (λ r. 1 ≤ r) ranks
@@ -247,12 +298,18 @@ stored_of affine ranks n s some scope plain e =
     let sides = parts_none (cell_faults n s.cell) _ outer.0 in
     let cell = parts_none (told (place s.cell) (own_cell s.cell)) _ sides.0 in
     let ranked = standing.judged_none (place_faults n s.cell) _ cell.1 in
+    let value = word_of affine ranks n s.value some scope plain is.value in
     record {
       cell = place_of affine n s.cell is.array is.place;
       rank = rank_is s.cell (told_none (place s.cell) (own_rank s.cell) ranked.1);
-      value = word_of affine ranks n s.value some scope plain is.value;
-      stores = has_stored s.assign s.value is.own (has_word ranks n s.value some scope plain is.value);
+      value = value;
+      stores = rw (cell_type s.cell) (has_stored n (is_narrow_cell s.cell) s.assign s.value plain is.value is.own
+          (fit_word n s.value value));
     }
+
+pub stored_defined : (n : ℕ) (s : Stored) → IsFitStored n s
+    → HasCell s.cell × HasWord s.value × HasStored (cell_class s.cell) s.assign s.value
+stored_defined n s is = (place_cell n s.cell is.cell, fit_word n s.value is.value, is.stores)
 
 pub extents_of : (affine : AreAffine) (n : ℕ) (fs : List Formula) → extent_faults n fs ≡ [] → All (IsLinear n) fs
 extents_of affine n [] e = All-nil (IsLinear n)

@@ -44,7 +44,7 @@ array_none k w [] j e = absurd (cc)
 array_none k w (a ∷ xs) j e = by_name (bytes_eq a.name w) (array_in (k + 1) w xs) (array_none (k + 1) w xs j) e
   where
     by_name : (b : Bool) (m : Meaning) → (m ≡ meaning.Variable j → ⊥)
-        → (if b then meaning.Array k a.rank else m) ≡ meaning.Variable j → ⊥
+        → (if b then meaning.Array k a.rank a.narrow else m) ≡ meaning.Variable j → ⊥
     by_name true m rest e = absurd (cc)
     by_name false m rest e = rest e
 

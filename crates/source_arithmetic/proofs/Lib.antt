@@ -1,7 +1,9 @@
 pub mod Wholes
 pub mod Conditions
-pub mod Signs
+pub mod Classes
+pub mod NarrowValues
 pub mod Places
+pub mod Worths
 pub mod Words
 pub mod Commas
 pub mod Extents
@@ -9,10 +11,11 @@ pub mod Stores
 pub mod Loops
 pub mod Iterators
 pub mod DefinedExpressions
+pub mod MeaningfulExpressions
+pub mod FaultlessExpressions
 pub mod Meanings
+pub mod ContentTypes
 pub mod Orders
 pub mod Headers
-pub mod MeaningfulExpressions
 pub mod LoopHeads
-pub mod FaultlessExpressions
 pub mod TokenPlaces

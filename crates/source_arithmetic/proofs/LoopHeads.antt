@@ -49,14 +49,14 @@ name_linear : (k n : ℕ) (f : Formula) → IsNameOf k f → IsLinear n f
 name_linear k n (name (meaning.Variable j) at) h = tt
 name_linear k n (name meaning.Unknown at) h = absurd h
 name_linear k n (name meaning.Closed at) h = absurd h
-name_linear k n (name (meaning.Array j r) at) h = absurd h
+name_linear k n (name (meaning.Array j r b) at) h = absurd h
 name_linear k n _ h = absurd h
 
 name_free : (k n : ℕ) (f : Formula) → IsNameOf k f → faults n role.Free f ≡ []
 name_free k n (name (meaning.Variable j) at) h = refl
 name_free k n (name meaning.Unknown at) h = absurd h
 name_free k n (name meaning.Closed at) h = absurd h
-name_free k n (name (meaning.Array j r) at) h = absurd h
+name_free k n (name (meaning.Array j r b) at) h = absurd h
 name_free k n _ h = absurd h
 
 -- conditions
@@ -111,7 +111,7 @@ bound_rises k up _ h = absurd h
 
 -- steps
 stride_free : (n : ℕ) (f : Formula) → IsStride f → faults n role.Free f ≡ []
-stride_free n (constant suffix.Absent v at) h = refl
+stride_free n (constant (suffix.Absent b) v at) h = refl
 stride_free n _ h = absurd h
 
 step_none : (k n : ℕ) (up : Bool) (c : Change) → IsStep k up c → change_faults n c ≡ []
@@ -127,9 +127,9 @@ step_none k n up (assigned assign.Set (binary op.Minus f g at)) h =
 step_none k n up _ h = absurd h
 
 stride_goes : (b : Bool) (f : Formula) → IsStride f → goes (Some b) (stride_of b f) ≡ true
-stride_goes true (constant suffix.Absent v at) h =
+stride_goes true (constant (suffix.Absent b) v at) h =
     let there = and_from (nat_le 1 v) (nat_le v 16) (le-leb 1 v h.0) (le-leb v 16 h.1) in rw there refl
-stride_goes false (constant suffix.Absent v at) h =
+stride_goes false (constant (suffix.Absent b) v at) h =
     let there = and_from (nat_le 1 v) (nat_le v 16) (le-leb 1 v h.0) (le-leb v 16 h.1) in rw there refl
 stride_goes b _ h = absurd h
 
@@ -246,7 +246,7 @@ down_of up n z e g = by_direction up (subst (λ y. goes (Some up) (Some y) ≡ t
     by_direction false h = refl
 
 stride_is_count : (f : Formula) → is_count 1 16 f ≡ true → IsStride f
-stride_is_count (constant suffix.Absent v at) e = count_bounds 1 16 (constant suffix.Absent v at) e
+stride_is_count (constant (suffix.Absent b) v at) e = count_bounds 1 16 (constant (suffix.Absent b) v at) e
 stride_is_count _ e = absurd (cc)
 
 stride_up_of : (up : Bool) (f : Formula) (z : ℤ) → stride_of true f ≡ Some z → goes (Some up) (Some z) ≡ true

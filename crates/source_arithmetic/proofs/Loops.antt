@@ -120,7 +120,7 @@ change_step k (assigned _ f) q z e = absurd (cc)
 
 -- a change by a count is one that has a step
 count_has : (f : Formula) → is_count 1 16 f ≡ true → HasWhole f
-count_has (constant suffix.Absent v at) e = tt
+count_has (constant (suffix.Absent b) v at) e = tt
 count_has _ e = absurd (cc)
 
 stride_has : (up : Bool) (f : Formula) (z : ℤ) → stride_of up f ≡ Some z → HasWhole f

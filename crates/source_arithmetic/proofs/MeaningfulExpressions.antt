@@ -1,8 +1,6 @@
 -- Expressions that mean something within the limits have no fault where they stand.
-use Rattle.std.proofs.Common.{◌≡◌, ◌∙◌, ap, ap₂, sym, subst, refl, ℕ, suc, ◌^◌, ◌<◌, ◌≤◌, ◌==◌, Bool, true}
-use Rattle.std.proofs.Common.{false}
-use Rattle.std.proofs.Common.{◌&&◌, nat_le, nat_lt, List, [], ◌∷◌, ◌++◌, length, ℤ, pos, ◌-ℤ◌, get_or}
-use Rattle.std.proofs.Common.{arith}
+use Rattle.std.proofs.Common.{◌≡◌, ◌∙◌, ap, ap₂, sym, subst, refl, ℕ, suc, ◌-◌, ◌^◌, ◌<◌, ◌≤◌, ◌==◌, Bool, true, false}
+use Rattle.std.proofs.Common.{◌&&◌, nat_le, nat_lt, List, [], ◌∷◌, ◌++◌, length, ℤ, pos, ◌-ℤ◌, get_or, arith}
 use Rattle.std.proofs.Common.{unsigned_abs, inl, inr, set}
 use Rattle.std.specs.Prelude.{Option, None, not, if◌then◌else◌}
 use Rattle.std.specs.List.{list_all}
@@ -10,11 +8,14 @@ use Rattle.std.proofs.lemmas.Int.{ints}
 use Rattle.std.proofs.lemmas.Bool.Decides.{nat_tests}
 use Rattle.std.proofs.lemmas.List.{length-set}
 use Rattle.std.proofs.lemmas.Bool.{le-leb, and_from}
+use Rattle.std.proofs.Math.Bool.{and_comm}
 use Rattle.whole_numbers.specs.Affine.{Affine, value_of}
 use Rattle.whole_numbers.specs.Lists.{zeros}
 use Rattle.whole_numbers.proofs.Dot.{dot_comm, dot-zeros, dot-unit, length-zeros}
 use Rattle.expression_grammar.specs.Assign.{Assign}
 use Rattle.expression_grammar.specs.Assign.TheVariants as assigns
+use Rattle.expression_grammar.specs.Base.{Base}
+use Rattle.expression_grammar.specs.Base.TheVariants as base
 use Rattle.expression_grammar.specs.Op.{Op}
 use Rattle.expression_grammar.specs.Op.TheVariants as op
 use Rattle.expression_grammar.specs.declared.token.Sign.TheVariants as sign
@@ -24,18 +25,23 @@ use Rattle.scop_roles.specs.declared.fault.Kind.{Kind}
 use Rattle.scop_roles.specs.declared.fault.Kind.TheVariants as kind
 use Rattle.scop_roles.specs.declared.formula.Meaning.TheVariants as meaning
 use Rattle.scop_roles.specs.declared.formula.Role.TheVariants as role
-use Rattle.scop_roles.specs.Faults.{first, told, judged, faults, place_faults, own_term, only_where}
-use Rattle.scop_roles.specs.Faults.{own_signed, own_rank, rank, is_count, or_else, are_plain_constants, term_role}
-use Rattle.scop_roles.specs.Faults.{operand_role}
-use Rattle.scop_roles.specs.Forms.{is_sum_or_product, is_product, is_signed, has_name, form, is_small, is_within}
+use Rattle.scop_roles.specs.Faults.{first, told, judged, faults, place_faults, own_term, own_bits, only_where}
+use Rattle.scop_roles.specs.Faults.{own_signed, own_rank, rank, is_count, last_count, is_shift_count, or_else}
+use Rattle.scop_roles.specs.Faults.{are_plain_constants, term_role, operand_role}
+use Rattle.scop_roles.specs.Forms.{is_sum_or_product, is_product, is_signed, is_narrow, is_bare, is_long, mixes}
+use Rattle.scop_roles.specs.Forms.{greatest as longest, has_name, form, is_small, is_within}
 use Rattle.scop_roles.specs.Formula.{Formula, constant, name, index, unary, cast, binary, place}
 use Rattle.scop_roles.specs.Formula.{meaning_of, subscripts}
 use Rattle.scop_roles.proofs.Affines.{combined_entries}
-use Rattle.scop_units.specs.Units.{Stored, is_array, own_cell, cell_faults, own_assign, stored_faults}
-use Rattle.source_arithmetic.specs.Arithmetic.{whole, has_sign, IsCount, HasStored}
+use Rattle.scop_roles.proofs.Widths.{narrow_is_not_signed}
+use Rattle.scop_units.specs.Units.{Stored, is_array, own_cell, cell_faults, is_narrow_cell, own_assign, stored_faults}
+use Rattle.source_arithmetic.specs.Arithmetic.{Class, narrow, common, class, is_signed_class, has_sign, whole, IsCount}
+use Rattle.source_arithmetic.specs.Arithmetic.{greatest, IsShort, MayStandBeside, MayJoin, HasStored}
 use Rattle.source_arithmetic.specs.Limits.{IsSmall, IsLinear, IsLinearTruth, JoinsNoConstants, IsLinearPlace}
 use Rattle.source_arithmetic.specs.Limits.{IsFitWord, IsFitStored}
 use Rattle.source_arithmetic.proofs.Wholes.{AreAffine, form_value, term_value}
+use Rattle.source_arithmetic.proofs.Classes.{type_by, IsTyped, signed_class, cell_type, cast_type, common_type}
+use Rattle.source_arithmetic.proofs.Classes.{type_signed, typed_sign}
 
 -- no faults of the parts and of a node: none of the whole
 pub none_judged : (fs own : List Fault) → fs ≡ [] → own ≡ [] → judged fs own ≡ []
@@ -102,7 +108,7 @@ term_none affine n o f g at s e x y small =
     (λ p l. term_value n o f g at p s e (form_value n f p l left) (form_value n g p l right)) small)
 
 pub linear_none : (affine : AreAffine) (n : ℕ) (f : Formula) → IsLinear n f → faults n role.Affine f ≡ []
-linear_none affine n (constant suffix.Absent v at) h =
+linear_none affine n (constant (suffix.Absent b) v at) h =
     let low = not_past v (2 ^ 20) h in
     ap (λ b. told at (only_where b kind.Coefficient)) low
 linear_none affine n (name (meaning.Variable k) at) h = refl
@@ -144,7 +150,7 @@ truth_none affine n _ h = absurd h
 
 -- summands
 pub linear_sign : (n : ℕ) (f : Formula) → IsLinear n f → is_signed f ≡ true
-linear_sign n (constant suffix.Absent v at) h = refl
+linear_sign n (constant (suffix.Absent b) v at) h = refl
 linear_sign n (name (meaning.Variable k) at) h = refl
 linear_sign n (unary sign.Minus f at) h = linear_sign n f h
 linear_sign n (binary op.Plus f g at) h =
@@ -169,7 +175,7 @@ signed_own affine n o f g at s e x y small plain =
 
 summand_none : (affine : AreAffine) (n : ℕ) (f : Formula) → IsLinear n f → JoinsNoConstants f
     → faults n role.Signed f ≡ []
-summand_none affine n (constant suffix.Absent v at) h j = linear_none affine n (constant suffix.Absent v at) h
+summand_none affine n (constant (suffix.Absent b) v at) h j = linear_none affine n (constant (suffix.Absent b) v at) h
 summand_none affine n (name (meaning.Variable k) at) h j = refl
 summand_none affine n (unary sign.Minus f at) h j =
     none_judged (faults n role.Signed f) [] (summand_none affine n f h j) refl
@@ -189,12 +195,12 @@ summand_none affine n _ h j = absurd h
 
 -- places
 pub place_none : (affine : AreAffine) (n : ℕ) (f : Formula) → IsLinearPlace n f → place_faults n f ≡ []
-place_none affine n (name (meaning.Array k r) at) h = refl
+place_none affine n (name (meaning.Array k r b) at) h = refl
 place_none affine n (index q i) h = none_both _ _ (place_none affine n q h.0) (linear_none affine n i h.1)
 place_none affine n _ h = absurd h
 
 place_array : (n : ℕ) (f : Formula) → IsLinearPlace n f → is_array (meaning_of f) ≡ true
-place_array n (name (meaning.Array k r) at) h = refl
+place_array n (name (meaning.Array k r b) at) h = refl
 place_array n (index q i) h = place_array n q h.0
 place_array n _ h = absurd h
 
@@ -204,77 +210,141 @@ same_number a b h = grind (arith, nat_tests, h)
 rank_none : (f : Formula) → rank (meaning_of f) ≡ subscripts f → own_rank f ≡ None
 rank_none f e = ap (λ b. only_where (not b) kind.Rank) (same_number (rank (meaning_of f)) (subscripts f) e)
 
--- counts
-count_is : (f : Formula) → IsCount f → is_count 0 63 f ≡ true
-count_is (constant suffix.Absent v at) h =
+-- counts; b: of 32 bits
+count_is : (b : Bool) (f : Formula) → IsCount (type_by false b) f → is_count 0 (last_count b) f ≡ true
+count_is true (constant (suffix.Absent k) v at) h =
+    and_from (nat_le 0 v) (nat_le v 31) (le-leb 0 v (omega arith)) (le-leb v 31 (omega (arith, h)))
+count_is false (constant (suffix.Absent k) v at) h =
     and_from (nat_le 0 v) (nat_le v 63) (le-leb 0 v (omega arith)) (le-leb v 63 (omega (arith, h)))
-count_is _ h = absurd h
+count_is b _ h = absurd h
 
-count_none : (n : ℕ) (f : Formula) → IsCount f → faults n role.Value f ≡ []
-count_none n (constant suffix.Absent v at) h = refl
-count_none n _ h = absurd h
+count_none : (c : Class) (n : ℕ) (f : Formula) → IsCount c f → faults n role.Value f ≡ []
+count_none c n (constant (suffix.Absent b) v at) h = refl
+count_none c n _ h = absurd h
 
--- the type of a value is the one that its role sees
-word_sign : (n : ℕ) (f : Formula) → IsFitWord n f → is_signed f ≡ has_sign f
-word_sign n (constant suffix.Absent v at) h = refl
-word_sign n (constant suffix.Present v at) h = refl
-word_sign n (name (meaning.Variable k) at) h = refl
-word_sign n (index q i) h = refl
-word_sign n (unary sign.Minus f at) (inl h) = linear_sign n f h.1 ∙ sym h.0
-word_sign n (unary sign.Minus f at) (inr h) = word_sign n f h.1
-word_sign n (unary sign.Complement f at) h = sym h.0
-word_sign n (cast f at) h = refl
-word_sign n (binary op.Plus f g at) (inl h) = linear_sign n (binary op.Plus f g at) h.1 ∙ sym h.0
-word_sign n (binary op.Plus f g at) (inr h) = ap₂ (λ a b. a && b) (word_sign n f h.1) (word_sign n g h.2)
-word_sign n (binary op.Minus f g at) (inl h) = linear_sign n (binary op.Minus f g at) h.1 ∙ sym h.0
-word_sign n (binary op.Minus f g at) (inr h) = ap₂ (λ a b. a && b) (word_sign n f h.1) (word_sign n g h.2)
-word_sign n (binary op.Times f g at) (inl h) = linear_sign n (binary op.Times f g at) h.1 ∙ sym h.0
-word_sign n (binary op.Times f g at) (inr h) = ap₂ (λ a b. a && b) (word_sign n f h.1) (word_sign n g h.2)
-word_sign n (binary op.BitAnd f g at) h = sym h.0
-word_sign n (binary op.BitOr f g at) h = sym h.0
-word_sign n (binary op.BitXor f g at) h = sym h.0
-word_sign n (binary op.ShiftLeft f g at) h = sym h.0
-word_sign n (binary op.ShiftRight f g at) h = sym h.0
-word_sign n _ h = absurd h
+-- a short part may stand beside 32 bits
+base_bare : (b : Base) (v : ℕ) → v ≤ greatest b → nat_le v (longest b) ≡ true
+base_bare base.Decimal v h = le-leb v (2 ^ 31 - 1) h
+base_bare base.Hexadecimal v h = le-leb v (2 ^ 32 - 1) h
 
--- both sides of a value are not signed in their roles
-sides_sign : (n : ℕ) (f g : Formula) → (has_sign f && has_sign g) ≡ false → IsFitWord n f → IsFitWord n g
+short_unnamed : (f : Formula) → IsShort f → has_name f ≡ false
+short_unnamed (constant (suffix.Absent b) v at) h = refl
+short_unnamed (unary sign.Minus f at) h = short_unnamed f h
+short_unnamed (binary op.Plus f g at) h = rw (short_unnamed f h.0) (short_unnamed g h.1)
+short_unnamed (binary op.Minus f g at) h = rw (short_unnamed f h.0) (short_unnamed g h.1)
+short_unnamed (binary op.Times f g at) h = rw (short_unnamed f h.0) (short_unnamed g h.1)
+short_unnamed _ h = absurd h
+
+short_bare : (f : Formula) → IsShort f → is_bare f ≡ true
+short_bare (constant (suffix.Absent b) v at) h = base_bare b v h
+short_bare (unary s f at) h = ap not (short_unnamed (unary s f at) h)
+short_bare (binary o f g at) h = ap not (short_unnamed (binary o f g at) h)
+short_bare _ h = absurd h
+
+not_long : (b : Bool) (f : Formula) → (b ≡ true → is_signed f ≡ true → IsShort f) → (b && is_long f) ≡ false
+not_long false f short = refl
+not_long true f short = by_sign (is_signed f) (short refl)
+  where
+    by_sign : (s : Bool) → (s ≡ true → IsShort f) → (s && not (is_bare f)) ≡ false
+    by_sign true short = ap not (short_bare f (short refl))
+    by_sign false short = refl
+
+stands_short : (c : Class) (b : Bool) (f : Formula) → (b ≡ true → c ≡ narrow) → MayStandBeside c f
+    → (b && is_long f) ≡ false
+stands_short c b f same may = not_long b f (λ t s. may (same t) (signed_class f s))
+
+joins_apart : (f g : Formula) → IsTyped f → IsTyped g → MayJoin f g → mixes f g ≡ false
+joins_apart f g x y may =
+    let left = stands_short (class f) (is_narrow f) g (λ n. x ∙ ap₂ type_by (narrow_is_not_signed f n) n) may.0 in
+    let right = stands_short (class g) (is_narrow g) f (λ n. y ∙ ap₂ type_by (narrow_is_not_signed g n) n) may.1 in
+    rw (left, and_comm (is_long f) (is_narrow g), right) refl
+
+-- the type of a value is the one that its role says
+linear_class : (n : ℕ) (f : Formula) → IsLinear n f → IsTyped f
+linear_class n f h =
+    let s = linear_sign n f h in signed_class f s ∙ ap (λ b. type_by b (is_narrow f)) (sym s)
+
+-- + - * & | ^
+sum_class : (f g : Formula) → IsTyped f → IsTyped g
+    → common (class f) (class g) ≡ type_by (is_signed f && is_signed g) (is_narrow (binary op.Plus f g 0))
+sum_class f g x y = rw (x, y) (common_type (is_signed f) (is_signed g) (is_narrow f) (is_narrow g))
+
+sides_sign : (f g : Formula) → IsTyped f → IsTyped g → is_signed_class (common (class f) (class g)) ≡ false
     → (is_signed f && is_signed g) ≡ false
-sides_sign n f g u x y = ap₂ (λ a b. a && b) (word_sign n f x) (word_sign n g y) ∙ u
+sides_sign f g x y u =
+    sym (type_signed (is_signed f && is_signed g) (is_narrow (binary op.Plus f g 0)))
+    ∙ (sym (ap is_signed_class (sum_class f g x y)) ∙ u)
+
+bits_class : (f g : Formula) → IsTyped f → IsTyped g → is_signed_class (common (class f) (class g)) ≡ false
+    → common (class f) (class g) ≡ type_by false (is_narrow (binary op.Plus f g 0))
+bits_class f g x y u =
+    sum_class f g x y ∙ ap (λ b. type_by b (is_narrow (binary op.Plus f g 0))) (sides_sign f g x y u)
+
+shift_class : (f : Formula) → IsTyped f → has_sign f ≡ false → class f ≡ type_by false (is_narrow f)
+shift_class f x u = x ∙ ap (λ b. type_by b (is_narrow f)) (sym (typed_sign f x) ∙ u)
+
+word_class : (n : ℕ) (f : Formula) → IsFitWord n f → IsTyped f
+word_class n (constant (suffix.Absent b) v at) h = refl
+word_class n (constant suffix.Present v at) h = refl
+word_class n (name (meaning.Variable k) at) h = refl
+word_class n (index q i) h = cell_type q
+word_class n (unary sign.Minus f at) (inl h) = linear_class n f h.1
+word_class n (unary sign.Minus f at) (inr h) = word_class n f h.1
+word_class n (unary sign.Complement f at) h = shift_class f (word_class n f h.1) h.0
+word_class n (cast w f at) h = cast_type w
+word_class n (binary op.Plus f g at) (inl h) = linear_class n (binary op.Plus f g at) h.1
+word_class n (binary op.Plus f g at) (inr h) = sum_class f g (word_class n f h.1) (word_class n g h.2)
+word_class n (binary op.Minus f g at) (inl h) = linear_class n (binary op.Minus f g at) h.1
+word_class n (binary op.Minus f g at) (inr h) = sum_class f g (word_class n f h.1) (word_class n g h.2)
+word_class n (binary op.Times f g at) (inl h) = linear_class n (binary op.Times f g at) h.1
+word_class n (binary op.Times f g at) (inr h) = sum_class f g (word_class n f h.1) (word_class n g h.2)
+word_class n (binary op.BitAnd f g at) h = bits_class f g (word_class n f h.1) (word_class n g h.2) h.0
+word_class n (binary op.BitOr f g at) h = bits_class f g (word_class n f h.1) (word_class n g h.2) h.0
+word_class n (binary op.BitXor f g at) h = bits_class f g (word_class n f h.1) (word_class n g h.2) h.0
+word_class n (binary op.ShiftLeft f g at) h = shift_class f (word_class n f h.1) h.0
+word_class n (binary op.ShiftRight f g at) h = shift_class f (word_class n f h.1) h.0
+word_class n _ h = absurd h
+
+word_sign : (n : ℕ) (f : Formula) → IsFitWord n f → is_signed f ≡ has_sign f
+word_sign n f h = sym (typed_sign f (word_class n f h))
 
 -- a sum, a difference or a product in a value, by whether both sides are signed
 abbrev in_value : ℕ → Bool → Op → Formula → Formula → ℕ → List Fault
 in_value n b o f g at =
     judged (faults n (term_role b role.Value) f ++ faults n (term_role b role.Value) g)
-    (told at (if b then own_signed n (binary o f g at) else None))
+    (told at (if b then own_signed n (binary o f g at) else only_where (mixes f g) kind.Width))
 
 signed_sum : (n : ℕ) (o : Op) (f g : Formula) (at : ℕ) → (is_signed f && is_signed g) ≡ true
     → judged (faults n role.Signed f ++ faults n role.Signed g) (told at (own_signed n (binary o f g at))) ≡ []
     → in_value n (is_signed f && is_signed g) o f g at ≡ []
 signed_sum n o f g at b h = subst (λ t. in_value n t o f g at ≡ []) (sym b) h
 
-unsigned_sum : (n : ℕ) (o : Op) (f g : Formula) (at : ℕ) → (is_signed f && is_signed g) ≡ false
-    → faults n role.Value f ≡ [] → faults n role.Value g ≡ [] → in_value n (is_signed f && is_signed g) o f g at ≡ []
-unsigned_sum n o f g at b x y =
-    subst (λ t. in_value n t o f g at ≡ []) (sym b)
-    (none_judged (faults n role.Value f ++ faults n role.Value g) [] (none_both _ _ x y) refl)
+unsigned_sum : (n : ℕ) (o : Op) (f g : Formula) (at : ℕ) → is_signed_class (common (class f) (class g)) ≡ false
+    → IsFitWord n f → IsFitWord n g → MayJoin f g → faults n role.Value f ≡ [] → faults n role.Value g ≡ []
+    → in_value n (is_signed f && is_signed g) o f g at ≡ []
+unsigned_sum n o f g at u h k may x y =
+    subst (λ t. in_value n t o f g at ≡ []) (sym (sides_sign f g (word_class n f h) (word_class n g k) u))
+    (none_judged (faults n role.Value f ++ faults n role.Value g) _ (none_both _ _ x y)
+    (ap (λ b. told at (only_where b kind.Width)) (joins_apart f g (word_class n f h) (word_class n g k) may)))
 
-bits_none : (n : ℕ) (f g : Formula) (at : ℕ) → (is_signed f && is_signed g) ≡ false → faults n role.Value f ≡ []
-    → faults n role.Value g ≡ []
+bits_none : (n : ℕ) (f g : Formula) (at : ℕ) → is_signed_class (common (class f) (class g)) ≡ false → IsFitWord n f
+    → IsFitWord n g → MayJoin f g → faults n role.Value f ≡ [] → faults n role.Value g ≡ []
     → judged (faults n role.Value f ++ faults n role.Value g)
-    (told at (only_where (is_signed f && is_signed g) kind.SignedValue)) ≡ []
-bits_none n f g at u x y =
+    (told at (own_bits (is_signed f && is_signed g) (mixes f g))) ≡ []
+bits_none n f g at u h k may x y =
     none_judged (faults n role.Value f ++ faults n role.Value g) _ (none_both _ _ x y)
-    (ap (λ b. told at (only_where b kind.SignedValue)) u)
+    (ap₂ (λ b m. told at (own_bits b m)) (sides_sign f g (word_class n f h) (word_class n g k) u)
+    (joins_apart f g (word_class n f h) (word_class n g k) may))
 
-shift_none : (n : ℕ) (f g : Formula) (at : ℕ) → is_signed f ≡ false → faults n role.Value f ≡ [] → IsCount g
-    → judged (faults n role.Value f ++ faults n role.Value g)
-    (told at (or_else (only_where (is_signed f) kind.SignedValue) (only_where (not (is_count 0 63 g)) kind.ShiftCount)))
-    ≡ []
-shift_none n f g at u x c =
-    none_judged (faults n role.Value f ++ faults n role.Value g) _ (none_both _ _ x (count_none n g c))
-    (ap (told at) (or_none _ _ (ap (λ b. only_where b kind.SignedValue) u)
-    (ap (λ b. only_where (not b) kind.ShiftCount) (count_is g c))))
+shift_none : (n : ℕ) (f g : Formula) (at : ℕ) → has_sign f ≡ false → IsFitWord n f → faults n role.Value f ≡ []
+    → IsCount (class f) g
+    → judged (faults n role.Value f ++ faults n role.Value g) (told at (or_else
+    (only_where (is_signed f) kind.SignedValue) (only_where (not (is_shift_count f g)) kind.ShiftCount))) ≡ []
+shift_none n f g at u h x c =
+    let counts = count_is (is_narrow f) g (subst (λ d. IsCount d g) (shift_class f (word_class n f h) u) c) in
+    none_judged (faults n role.Value f ++ faults n role.Value g) _ (none_both _ _ x (count_none (class f) n g c))
+    (ap₂ (λ s k. told at (or_else (only_where s kind.SignedValue) (only_where (not k) kind.ShiftCount)))
+    (word_sign n f h ∙ u) counts)
 
 -- values
 pub word_none : (affine : AreAffine) (n : ℕ) (f : Formula) → IsFitWord n f → faults n role.Value f ≡ []
@@ -294,44 +364,43 @@ word_none affine n (unary sign.Minus f at) (inr h) =
 word_none affine n (unary sign.Complement f at) h =
     none_judged (faults n role.Value f) _ (word_none affine n f h.1)
     (ap (λ b. told at (only_where b kind.SignedValue)) (word_sign n f h.1 ∙ h.0))
-word_none affine n (cast f at) h = none_judged (faults n role.Value f) [] (word_none affine n f h) refl
+word_none affine n (cast w f at) h = none_judged (faults n role.Value f) [] (word_none affine n f h) refl
 word_none affine n (binary op.Plus f g at) (inl h) =
     signed_sum n op.Plus f g at (linear_sign n (binary op.Plus f g at) h.1)
     (summand_none affine n (binary op.Plus f g at) h.1 h.2)
 word_none affine n (binary op.Plus f g at) (inr h) =
-    unsigned_sum n op.Plus f g at (sides_sign n f g h.0 h.1 h.2) (word_none affine n f h.1) (word_none affine n g h.2)
+    unsigned_sum n op.Plus f g at h.0 h.1 h.2 h.3 (word_none affine n f h.1) (word_none affine n g h.2)
 word_none affine n (binary op.Minus f g at) (inl h) =
     signed_sum n op.Minus f g at (linear_sign n (binary op.Minus f g at) h.1)
     (summand_none affine n (binary op.Minus f g at) h.1 h.2)
 word_none affine n (binary op.Minus f g at) (inr h) =
-    unsigned_sum n op.Minus f g at (sides_sign n f g h.0 h.1 h.2) (word_none affine n f h.1) (word_none affine n g h.2)
+    unsigned_sum n op.Minus f g at h.0 h.1 h.2 h.3 (word_none affine n f h.1) (word_none affine n g h.2)
 word_none affine n (binary op.Times f g at) (inl h) =
     signed_sum n op.Times f g at (linear_sign n (binary op.Times f g at) h.1)
     (summand_none affine n (binary op.Times f g at) h.1 h.2)
 word_none affine n (binary op.Times f g at) (inr h) =
-    unsigned_sum n op.Times f g at (sides_sign n f g h.0 h.1 h.2) (word_none affine n f h.1) (word_none affine n g h.2)
+    unsigned_sum n op.Times f g at h.0 h.1 h.2 h.3 (word_none affine n f h.1) (word_none affine n g h.2)
 word_none affine n (binary op.BitAnd f g at) h =
-    bits_none n f g at (sides_sign n f g h.0 h.1 h.2) (word_none affine n f h.1) (word_none affine n g h.2)
+    bits_none n f g at h.0 h.1 h.2 h.3 (word_none affine n f h.1) (word_none affine n g h.2)
 word_none affine n (binary op.BitOr f g at) h =
-    bits_none n f g at (sides_sign n f g h.0 h.1 h.2) (word_none affine n f h.1) (word_none affine n g h.2)
+    bits_none n f g at h.0 h.1 h.2 h.3 (word_none affine n f h.1) (word_none affine n g h.2)
 word_none affine n (binary op.BitXor f g at) h =
-    bits_none n f g at (sides_sign n f g h.0 h.1 h.2) (word_none affine n f h.1) (word_none affine n g h.2)
+    bits_none n f g at h.0 h.1 h.2 h.3 (word_none affine n f h.1) (word_none affine n g h.2)
 word_none affine n (binary op.ShiftLeft f g at) h =
-    shift_none n f g at (word_sign n f h.1 ∙ h.0) (word_none affine n f h.1) h.2
+    shift_none n f g at h.0 h.1 (word_none affine n f h.1) h.2
 word_none affine n (binary op.ShiftRight f g at) h =
-    shift_none n f g at (word_sign n f h.1 ∙ h.0) (word_none affine n f h.1) h.2
+    shift_none n f g at h.0 h.1 (word_none affine n f h.1) h.2
 word_none affine n _ h = absurd h
 
--- statements
-shift_count : (f : Formula) → IsCount f → only_where (not (is_count 0 63 f)) kind.ShiftCount ≡ None
-shift_count f h = ap (λ b. only_where (not b) kind.ShiftCount) (count_is f h)
-
-assign_none : (a : Assign) (f : Formula) → HasStored a f → own_assign a f ≡ None
-assign_none assigns.Divide f h = absurd h
-assign_none assigns.Remainder f h = absurd h
-assign_none assigns.ShiftLeft f h = shift_count f h
-assign_none assigns.ShiftRight f h = shift_count f h
-assign_none _ f h = refl
+-- statements; b: the place has 32 bits
+assign_none : (b : Bool) (a : Assign) (f : Formula) → HasStored (type_by false b) a f → own_assign b a f ≡ None
+assign_none b assigns.Set f h = refl
+assign_none b assigns.Divide f h = absurd h
+assign_none b assigns.Remainder f h = absurd h
+assign_none b assigns.ShiftLeft f h = ap (λ k. only_where (not k) kind.ShiftCount) (count_is b f h)
+assign_none b assigns.ShiftRight f h = ap (λ k. only_where (not k) kind.ShiftCount) (count_is b f h)
+assign_none b _ f h =
+    ap (λ k. only_where k kind.Width) (stands_short (type_by false b) b f (λ t. ap (type_by false) t) h.1)
 
 pub stored_none : (affine : AreAffine) (n : ℕ) (s : Stored) → IsFitStored n s → stored_faults n s ≡ []
 stored_none affine n s is =
@@ -342,4 +411,5 @@ stored_none affine n s is =
     (none_judged (place_faults n s.cell) _ (place_none affine n s.cell is.cell)
     (ap (told (place s.cell)) (rank_none s.cell is.rank))))
     (word_none affine n s.value is.value))
-    (ap (told s.assign_at) (assign_none s.assign s.value is.stores))
+    (ap (told s.assign_at) (assign_none (is_narrow_cell s.cell) s.assign s.value
+    (subst (λ c. HasStored c s.assign s.value) (cell_type s.cell) is.stores)))

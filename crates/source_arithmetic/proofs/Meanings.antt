@@ -20,16 +20,18 @@ use Rattle.scop_units.proofs.FaultlessUnits.{parts_none}
 use Rattle.scop_units.proofs.FaultlessItems.{ranks_in, knows}
 use Rattle.source_arithmetic.specs.Arithmetic.{HasNoComma}
 use Rattle.source_arithmetic.specs.Meaning.{NamesMean, GuardMeans, LoopMeans, StatementMeans, MeansAt, MeanAt}
-use Rattle.source_arithmetic.proofs.Conditions.{tests_value, has_truth}
+use Rattle.source_arithmetic.proofs.Conditions.{tests_value}
 use Rattle.source_arithmetic.proofs.Commas.{no_comma}
 use Rattle.source_arithmetic.proofs.Loops.{loop_parts, parts_defined, first_turn, next_turn, turn_holds, changed_name}
 use Rattle.source_arithmetic.proofs.Orders.{inside_means}
-use Rattle.source_arithmetic.proofs.Stores.{place_same, statement_reads, right_stores, stored_defined}
+use Rattle.source_arithmetic.proofs.Stores.{place_same, statement_reads, right_stores}
+use Rattle.source_arithmetic.proofs.Wholes.{AreAffine}
+use Rattle.source_arithmetic.proofs.FaultlessExpressions.{truth_of, fit_truth, stored_of, stored_defined}
 
-guard_means : (n : ℕ) (f : Formula) → faults n role.Condition f ≡ [] → GuardMeans n f (tests n f)
-guard_means n f e =
+guard_means : (affine : AreAffine) (n : ℕ) (f : Formula) → faults n role.Condition f ≡ [] → GuardMeans n f (tests n f)
+guard_means affine n f e =
     record {
-      defined = has_truth n f (ap first e);
+      defined = fit_truth n f (truth_of affine n f (ap first e));
       holds = λ p long. tests_value n f p long (ap first e);
     }
 
@@ -45,14 +47,14 @@ loop_means s h e =
       condition = λ p x long. turn_holds s h p x long parts;
     }
 
-statement_means : (ranks : List ℕ) (n : ℕ) (s : Stored) → All (λ r. 1 ≤ r) ranks → IsInScope ranks s.value
-    → HasNoComma s.value → stored_faults n s ≡ [] → StatementMeans n s (statement_of n s)
-statement_means ranks n s some scope plain e =
+statement_means : (affine : AreAffine) (ranks : List ℕ) (n : ℕ) (s : Stored) → All (λ r. 1 ≤ r) ranks
+    → IsInScope ranks s.value → HasNoComma s.value → stored_faults n s ≡ [] → StatementMeans n s (statement_of n s)
+statement_means affine ranks n s some scope plain e =
     record {
-      defined = stored_defined ranks n s some scope plain e;
+      defined = stored_defined n s (stored_of affine ranks n s some scope plain e);
       place = λ p long. place_same n s p long e;
       reads = λ p long. statement_reads n s p long e;
-      stores = λ p held long. right_stores ranks n s p held long scope plain e;
+      stores = λ p held long types. right_stores ranks n s p held long scope plain e types;
     }
 
 -- what roles promise of formulas of a text
@@ -61,35 +63,35 @@ AreInScope = (ranks : List ℕ) (look : Lookup) (at : ℕ) (t : Tree) → KnowsA
     → IsInScope ranks (formula look at t)
 
 mutual
-  item_means : (scoped : AreInScope) (words : Words) (worth : HasWorth words) (s : Scope)
+  item_means : (scoped : AreInScope) (affine : AreAffine) (words : Words) (worth : HasWorth words) (s : Scope)
       (comparisons before at d n : ℕ) (i : Item) → All (λ r. 1 ≤ r) (ranks_in s) → NamesMean s → ItemFits d n i
       → item_faults words s comparisons before at i ≡ [] → MeansAt words s at i (item_trees words s at i)
-  item_means scoped words worth s comparisons before at d n (block is) some names fits e =
-      items_mean scoped words worth s comparisons before (at + 1) d n is some names fits e
-  item_means scoped words worth s comparisons before at d n empty some names fits e = refl
-  item_means scoped words worth s comparisons before at d n (assign a p x) some names fits e =
+  item_means scoped affine words worth s comparisons before at d n (block is) some names fits e =
+      items_mean scoped affine words worth s comparisons before (at + 1) d n is some names fits e
+  item_means scoped affine words worth s comparisons before at d n empty some names fits e = refl
+  item_means scoped affine words worth s comparisons before at d n (assign a p x) some names fits e =
       let st = stored words s at a p x in
       let whole = parts_none (stored_faults (entries s) st) _ e in
       let is = fits.2.expression in (
         statement_of (entries s) st,
         refl,
         names,
-        statement_means (ranks_in s) (entries s) st some
+        statement_means affine (ranks_in s) (entries s) st some
             (scoped (ranks_in s) (look words s) (at + size p + 1) x (knows words s worth))
             (no_comma (look words s) (at + size p + 1) x is.brackets is.rank) whole.0,
       )
-  item_means scoped words worth s comparisons before at d n (headed (branch c) i) some names fits e =
+  item_means scoped affine words worth s comparisons before at d n (headed (branch c) i) some names fits e =
       let both = parts_none (head_faults words s at (branch c)) _ e in
       let place = at + width (head_elements (branch c)) in (
         tests (entries s) (condition words s at c),
         item_trees words s place i,
         refl,
         names,
-        guard_means (entries s) (condition words s at c) both.0,
-        item_means scoped words worth s (comparisons + compared words s at (branch c)) before place d n i some
+        guard_means affine (entries s) (condition words s at c) both.0,
+        item_means scoped affine words worth s (comparisons + compared words s at (branch c)) before place d n i some
             names fits.1 both.1,
       )
-  item_means scoped words worth s comparisons before at d n (headed (loop new a c st) i) some names fits e =
+  item_means scoped affine words worth s comparisons before at d n (headed (loop new a c st) i) some names fits e =
       let both = parts_none (head_faults words s at (loop new a c st)) _ e in
       let head = loop_in words s at new a c st in
       let within = inside_means s new head.iterator (loop_parts s head both.0).iterator names in
@@ -100,20 +102,21 @@ mutual
         names,
         within,
         loop_means s head both.0,
-        item_means scoped words worth (inside words s new at) (comparisons + 0) before place d n i some within fits.1
-            both.1,
+        item_means scoped affine words worth (inside words s new at) (comparisons + 0) before place d n i some within
+            fits.1 both.1,
       )
 
-  pub items_mean : (scoped : AreInScope) (words : Words) (worth : HasWorth words) (s : Scope)
+  pub items_mean : (scoped : AreInScope) (affine : AreAffine) (words : Words) (worth : HasWorth words) (s : Scope)
       (comparisons before at d n : ℕ) (is : Items) → All (λ r. 1 ≤ r) (ranks_in s) → NamesMean s → ItemsFit d n is
       → items_faults words s comparisons before at is ≡ [] → MeanAt words s at is (all_trees words s at is)
-  items_mean scoped words worth s comparisons before at d n none some names fits e = refl
-  items_mean scoped words worth s comparisons before at d n (more i is) some names fits e =
+  items_mean scoped affine words worth s comparisons before at d n none some names fits e = refl
+  items_mean scoped affine words worth s comparisons before at d n (more i is) some names fits e =
       let both = parts_none (item_faults words s comparisons before at i) _ e in
       let place = at + width (item_elements i) in (
         item_trees words s at i,
         all_trees words s place is,
         refl,
-        item_means scoped words worth s comparisons before at d n i some names fits.0 both.0,
-        items_mean scoped words worth s comparisons (before + statements_in i) place d n is some names fits.1 both.1,
+        item_means scoped affine words worth s comparisons before at d n i some names fits.0 both.0,
+        items_mean scoped affine words worth s comparisons (before + statements_in i) place d n is some names fits.1
+            both.1,
       )

@@ -1,5 +1,5 @@
 -- Names mean by the order of their declarations: each unit that is declared without a fault adds its own name.
-use Rattle.std.proofs.Common.{◌≡◌, ◌≢◌, ◌∙◌, ◌↔◌, ◌⊎◌, inl, inr, ap, ap₂, subst, sym, refl, ℕ, zero, suc, ◌+◌, Bool}
+use Rattle.std.proofs.Common.{◌≡◌, ◌≢◌, ◌∙◌, ◌↔◌, ◌⊎◌, inl, inr, ap, subst, sym, refl, ℕ, zero, suc, ◌+◌, Bool}
 use Rattle.std.proofs.Common.{true, false}
 use Rattle.std.proofs.Common.{◌||◌, if◌then◌else◌, List, [], ◌∷◌, ◌++◌, length, slice_get, arith, bytes_eq}
 use Rattle.std.proofs.Common.{append_assoc}
@@ -11,6 +11,7 @@ use Rattle.scop_lexer.specs.Bytes.{Text}
 use Rattle.scop_roles.specs.declared.fault.Kind.TheVariants as kind
 use Rattle.scop_roles.specs.declared.formula.Meaning.{Meaning}
 use Rattle.scop_roles.specs.declared.formula.Meaning.TheVariants as meaning
+use Rattle.scop_roles.specs.Forms.{is_narrow_width}
 use Rattle.scop_units.specs.Words.{Words}
 use Rattle.scop_units.specs.Scopes.{Scope, Ranked, no_scope, with_parameter, with_array, with_iterator, with_loop}
 use Rattle.scop_units.specs.Scopes.{entries}
@@ -111,13 +112,17 @@ free_entry : (m : Meaning) → IsFree m → (k : ℕ) → m ≢ meaning.Variable
 free_entry meaning.Unknown f k e = absurd (cc)
 free_entry meaning.Closed f k e = absurd (cc)
 free_entry (meaning.Variable j) f k e = absurd f
-free_entry (meaning.Array j r) f k e = absurd f
+free_entry (meaning.Array j r b) f k e = absurd f
 
-free_array : (m : Meaning) → IsFree m → (k r : ℕ) → m ≢ meaning.Array k r
-free_array meaning.Unknown f k r e = absurd (cc)
-free_array meaning.Closed f k r e = absurd (cc)
-free_array (meaning.Variable j) f k r e = absurd f
-free_array (meaning.Array j q) f k r e = absurd f
+-- what the name of an array means by its number
+abbrev array_as : ℕ → Ranked → Meaning
+array_as k a = meaning.Array k a.rank a.narrow
+
+free_array : (m : Meaning) → IsFree m → (k : ℕ) (a : Ranked) → m ≢ array_as k a
+free_array meaning.Unknown f k a e = absurd (cc)
+free_array meaning.Closed f k a e = absurd (cc)
+free_array (meaning.Variable j) f k a e = absurd f
+free_array (meaning.Array j r b) f k a e = absurd f
 
 abbrev entry_names : Scope → List Text
 entry_names s = s.parameters ++ s.open_loops
@@ -127,7 +132,7 @@ abbrev EntriesSeen : Scope → List Text → Type 0
 EntriesSeen s xs = AreSeen Text (λ w. w) (λ k w. meaning.Variable k) (meaning_in s) xs
 
 abbrev ArraysSeen : Scope → List Ranked → Type 0
-ArraysSeen s xs = AreSeen Ranked (λ a. a.name) (λ k a. meaning.Array k a.rank) (meaning_in s) xs
+ArraysSeen s xs = AreSeen Ranked (λ a. a.name) array_as (meaning_in s) xs
 
 -- a free name that becomes the last entry, the last array, or that of a declared iterator
 more_entry : (s t : Scope) (u : Text) → SeesOthers (meaning_in s) (meaning_in t) u → IsFree (meaning_in s u)
@@ -139,26 +144,26 @@ more_entry s t u others free longer arrays own names =
           (seen_more Text (λ w. w) (λ k w. meaning.Variable k) (meaning_in s) (meaning_in t) (entry_names s) u others
           (λ k x. free_entry (meaning_in s u) free k) own (λ k x same e. (cc, same)) names.entries);
       arrays = subst (ArraysSeen t) (sym arrays)
-          (seen_same Ranked (λ a. a.name) (λ k a. meaning.Array k a.rank) (meaning_in s) (meaning_in t) u s.arrays
-          others (λ k x. free_array (meaning_in s u) free k x.rank) (λ k x e. absurd (cc)) names.arrays);
+          (seen_same Ranked (λ a. a.name) array_as (meaning_in s) (meaning_in t) u s.arrays
+          others (free_array (meaning_in s u) free) (λ k x e. absurd (cc)) names.arrays);
     }
 
 more_array : (s t : Scope) (a : Ranked) → SeesOthers (meaning_in s) (meaning_in t) a.name
     → IsFree (meaning_in s a.name) → entry_names t ≡ entry_names s → t.arrays ≡ s.arrays ++ a ∷ []
-    → meaning_in t a.name ≡ meaning.Array (length s.arrays) a.rank → NamesMean s → NamesMean t
+    → meaning_in t a.name ≡ array_as (length s.arrays) a → NamesMean s → NamesMean t
 more_array s t a others free same arrays own names =
     record {
       entries = subst (EntriesSeen t) (sym same)
           (seen_same Text (λ w. w) (λ k w. meaning.Variable k) (meaning_in s) (meaning_in t) a.name (entry_names s)
           others (λ k x. free_entry (meaning_in s a.name) free k) (λ k x e. absurd (cc)) names.entries);
       arrays = subst (ArraysSeen t) (sym arrays)
-          (seen_more Ranked (λ b. b.name) (λ k b. meaning.Array k b.rank) (meaning_in s) (meaning_in t) s.arrays a
-          others (λ k x. free_array (meaning_in s a.name) free k x.rank) own (λ k x named e. (cc, element x named (cc)))
+          (seen_more Ranked (λ b. b.name) array_as (meaning_in s) (meaning_in t) s.arrays a
+          others (free_array (meaning_in s a.name) free) own (λ k x named e. (cc, element x named (cc) (cc)))
           names.arrays);
     }
   where
-    element : (x : Ranked) → x.name ≡ a.name → x.rank ≡ a.rank → x ≡ a
-    element x n r = ap₂ (λ (v : Text) (q : ℕ). let b : Ranked = record { name = v; rank = q } in b) n r
+    element : (x : Ranked) → x.name ≡ a.name → x.rank ≡ a.rank → x.narrow ≡ a.narrow → x ≡ a
+    element x n r b = rw (n, r, b) refl
 
 no_more : (s t : Scope) (u : Text) → SeesOthers (meaning_in s) (meaning_in t) u → IsFree (meaning_in s u)
     → entry_names t ≡ entry_names s → t.arrays ≡ s.arrays → meaning_in t u ≡ meaning.Closed → NamesMean s → NamesMean t
@@ -168,8 +173,8 @@ no_more s t u others free same arrays own names =
           (seen_same Text (λ w. w) (λ k w. meaning.Variable k) (meaning_in s) (meaning_in t) u (entry_names s) others
           (λ k x. free_entry (meaning_in s u) free k) (λ k x e. absurd (cc)) names.entries);
       arrays = subst (ArraysSeen t) (sym arrays)
-          (seen_same Ranked (λ a. a.name) (λ k a. meaning.Array k a.rank) (meaning_in s) (meaning_in t) u s.arrays
-          others (λ k x. free_array (meaning_in s u) free k x.rank) (λ k x e. absurd (cc)) names.arrays);
+          (seen_same Ranked (λ a. a.name) array_as (meaning_in s) (meaning_in t) u s.arrays
+          others (free_array (meaning_in s u) free) (λ k x e. absurd (cc)) names.arrays);
     }
 
 -- look-ups in a list with one element more
@@ -196,28 +201,28 @@ other_number k u w (v ∷ vs) e =
     ap (λ (o : Option ℕ). if bytes_eq v w then Some k else o) (other_number (k + 1) u w vs e)
 
 own_array : (k : ℕ) (a : Ranked) (xs : List Ranked) → array_in k a.name xs ≡ meaning.Unknown
-    → array_in k a.name (xs ++ a ∷ []) ≡ meaning.Array (k + length xs) a.rank
+    → array_in k a.name (xs ++ a ∷ []) ≡ array_as (k + length xs) a
 own_array k a [] e =
     let here : k ≡ k + 0 = omega arith in
     let same = equal_text a.name in
-    rw same (ap (λ (i : ℕ). meaning.Array i a.rank) here)
+    rw same (ap (λ (i : ℕ). array_as i a) here)
 own_array k a (b ∷ xs) e =
     by_test (bytes_eq b.name a.name) (array_in (k + 1) a.name xs) (array_in (k + 1) a.name (xs ++ a ∷ [])) e
     (own_array (k + 1) a xs)
   where
-    by_test : (t : Bool) (m n : Meaning) → (if t then meaning.Array k b.rank else m) ≡ meaning.Unknown
-        → (m ≡ meaning.Unknown → n ≡ meaning.Array (k + 1 + length xs) a.rank)
-        → (if t then meaning.Array k b.rank else n) ≡ meaning.Array (k + suc (length xs)) a.rank
+    by_test : (t : Bool) (m n : Meaning) → (if t then array_as k b else m) ≡ meaning.Unknown
+        → (m ≡ meaning.Unknown → n ≡ array_as (k + 1 + length xs) a)
+        → (if t then array_as k b else n) ≡ array_as (k + suc (length xs)) a
     by_test true m n e h = absurd (cc)
     by_test false m n e h =
         let next : k + 1 + length xs ≡ k + suc (length xs) = omega arith in
-        h e ∙ ap (λ (i : ℕ). meaning.Array i a.rank) next
+        h e ∙ ap (λ (i : ℕ). array_as i a) next
 
 other_array : (k : ℕ) (a : Ranked) (w : Text) (xs : List Ranked) → bytes_eq a.name w ≡ false
     → array_in k w (xs ++ a ∷ []) ≡ array_in k w xs
 other_array k a w [] e = rw e refl
 other_array k a w (b ∷ xs) e =
-    ap (λ (m : Meaning). if bytes_eq b.name w then meaning.Array k b.rank else m) (other_array (k + 1) a w xs e)
+    ap (λ (m : Meaning). if bytes_eq b.name w then array_as k b else m) (other_array (k + 1) a w xs e)
 
 told_apart : (u w : Text) → w ≢ u → bytes_eq u w ≡ false
 told_apart u w other = by_test (bytes_eq u w) (same_text u w)
@@ -266,15 +271,15 @@ with_parameter_means s u closed unknown names =
     ∙ sym (outer s w closed)))
     (free_unknown (meaning_in s u) unknown) longer refl (outer t u closed ∙ own) names
 
-with_array_means : (s : Scope) (u : Text) (r : ℕ) → s.open_loops ≡ [] → meaning_in s u ≡ meaning.Unknown → NamesMean s
-    → NamesMean (with_array s u r)
-with_array_means s u r closed unknown names =
-    let t = with_array s u r in
-    let a : Ranked = record { name = u; rank = r } in
+with_array_means : (s : Scope) (u : Text) (r : ℕ) (b : Bool) → s.open_loops ≡ []
+    → meaning_in s u ≡ meaning.Unknown → NamesMean s → NamesMean (with_array s u r b)
+with_array_means s u r b closed unknown names =
+    let t = with_array s u r b in
+    let a : Ranked = record { name = u; rank = r; narrow = b } in
     let parts = unknown_parts s u closed unknown in
     let first : 0 + length s.arrays ≡ length s.arrays = omega arith in
-    let own : outer_meaning t u ≡ meaning.Array (length s.arrays) r =
-    rw (parts.0, parts.1) (own_array 0 a s.arrays parts.2 ∙ ap (λ (i : ℕ). meaning.Array i r) first) in
+    let own : outer_meaning t u ≡ meaning.Array (length s.arrays) r b =
+    rw (parts.0, parts.1) (own_array 0 a s.arrays parts.2 ∙ ap (λ (i : ℕ). meaning.Array i r b) first) in
     more_array s t a
     (λ w other. outer t w closed
     ∙ (ap (λ (m : Meaning). if s.declared w then meaning.Closed else variable_or 0 (number_of w s.parameters) m)
@@ -319,7 +324,7 @@ nothing_means =
         λ (e : None ≡ Some w). absurd (cc),
       );
       arrays = λ k a. (
-        λ (e : meaning.Unknown ≡ meaning.Array k a.rank). absurd (cc),
+        λ (e : meaning.Unknown ≡ meaning.Array k a.rank a.narrow). absurd (cc),
         λ (e : None ≡ Some a). absurd (cc),
       );
     }
@@ -329,8 +334,8 @@ pub parameter_means : (words : Words) (s : Scope) (at : ℕ) (p : Parameter) →
 parameter_means words s at number closed e names =
     with_parameter_means s (words.spelling (at + 1)) closed
     (named_fresh words s (at + 1) (parts_none (name_faults words s (at + 1)) _ e).0) names
-parameter_means words s at (array x xs) closed e names =
-    with_array_means s (words.spelling (at + 1)) (length (x ∷ xs)) closed
+parameter_means words s at (array w x xs) closed e names =
+    with_array_means s (words.spelling (at + 1)) (length (x ∷ xs)) (is_narrow_width w) closed
     (named_fresh words s (at + 1) (parts_none (name_faults words s (at + 1)) _ e).0) names
 
 -- iterators that are declared at the start
@@ -374,7 +379,7 @@ taken_free : (m : Meaning) → taken m ≡ None → IsFree m
 taken_free meaning.Closed e = tt
 taken_free meaning.Unknown e = tt
 taken_free (meaning.Variable k) e = absurd (cc)
-taken_free (meaning.Array k r) e = absurd (cc)
+taken_free (meaning.Array k r b) e = absurd (cc)
 
 iterator_free : (new : Bool) (s : Scope) (u : Text) → iterator_fault new s u ≡ None → IsFree (meaning_in s u)
 iterator_free true s u e = free_unknown (meaning_in s u) (fresh s u e)

@@ -79,7 +79,7 @@ widened ts see from to low high (call m f at) l g h =
     (omega (arith, l, a), h.1, h.2, h.3, widened ts see (at + 1 + 1) to (at + 1 + 1) high f (omega arith) g h.4)
 widened ts see from to low high (unary s f at) l g h =
     let a = h.0 in (omega (arith, l, a), h.1, widened ts see (at + 1) to (at + 1) high f (omega arith) g h.2)
-widened ts see from to low high (cast f at) l g h =
+widened ts see from to low high (cast w f at) l g h =
     let a = h.0 in (
       omega (arith, l, a),
       h.1,
@@ -140,15 +140,15 @@ formula_stands ts see at (tree.unary s t) h =
       widened ts see (at + 1) (at + 1 + size t) (at + 1) (at + size (tree.unary s t)) (formula see (at + 1) t)
           (omega arith) (omega (arith, long)) (formula_stands ts see (at + 1) t (next ts at (sign_token s) _ h)),
     )
-formula_stands ts see at (tree.cast t) h =
+formula_stands ts see at (tree.cast w t) h =
     let one = next ts at token.Open _ h in
-    let two = next ts (at + 1) token.Uint64 _ one in
+    let two = next ts (at + 1) (token.Unsigned w) _ one in
     let three = next ts (at + 1 + 1) token.Close _ two in
-    let long = size_cast t in (
+    let long = size_cast w t in (
       omega arith,
       here ts at token.Open _ h,
-      here ts (at + 1) token.Uint64 _ one,
-      widened ts see (at + 1 + 1 + 1) (at + 1 + 1 + 1 + size t) (at + 1 + 1 + 1) (at + size (tree.cast t))
+      here ts (at + 1) (token.Unsigned w) _ one,
+      widened ts see (at + 1 + 1 + 1) (at + 1 + 1 + 1 + size t) (at + 1 + 1 + 1) (at + size (tree.cast w t))
           (formula see (at + 1 + 1 + 1) t) (omega arith) (omega (arith, long))
           (formula_stands ts see (at + 1 + 1 + 1) t three),
     )
@@ -195,12 +195,12 @@ nodes_stand ts at (tree.unary s t) h =
     All-append (NodeStands ts) (written (at + 1) t) (node.Unary s at ∷ [])
     (nodes_stand ts (at + 1) t (next ts at (sign_token s) _ h))
     (one ts (node.Unary s at) (here ts at (sign_token s) _ h))
-nodes_stand ts at (tree.cast t) h =
+nodes_stand ts at (tree.cast w t) h =
     let first = next ts at token.Open _ h in
-    let second = next ts (at + 1) token.Uint64 _ first in
-    All-append (NodeStands ts) (written (at + 1 + 1 + 1) t) (node.Cast at ∷ [])
+    let second = next ts (at + 1) (token.Unsigned w) _ first in
+    All-append (NodeStands ts) (written (at + 1 + 1 + 1) t) (node.Cast w at ∷ [])
     (nodes_stand ts (at + 1 + 1 + 1) t (next ts (at + 1 + 1) token.Close _ second))
-    (one ts (node.Cast at) (here ts at token.Open _ h))
+    (one ts (node.Cast w at) (here ts at token.Open _ h, here ts (at + 1) (token.Unsigned w) _ first))
 nodes_stand ts at (tree.binary o a b) h =
     let rest = behind ts at (tokens_of a) (token.Binary o ∷ tokens_of b) h in
     All-append (NodeStands ts) (written at a) (written (at + size a + 1) b ++ node.Binary o (at + size a) ∷ [])
@@ -425,9 +425,9 @@ parameter_stands : (ts : List Token) (words : Words) (s : Scope) (at : ℕ) (p :
 parameter_stands ts words s at number h =
     let name_from = next ts at (token.Outside outside.Int64) _ h in
     (here ts at (token.Outside outside.Int64) _ h, here ts (at + 1) token.Name _ name_from)
-parameter_stands ts words s at (array x xs) h =
-    let name_from = next ts at token.Uint64 _ h in (
-      here ts at token.Uint64 _ h,
+parameter_stands ts words s at (array w x xs) h =
+    let name_from = next ts at (token.Unsigned w) _ h in (
+      here ts at (token.Unsigned w) _ h,
       here ts (at + 1) token.Name _ name_from,
       extents_stand ts words s (at + 1 + 1) (x ∷ xs) (next ts (at + 1) token.Name _ name_from),
     )

@@ -45,18 +45,15 @@ combined_flat _ b f g p x y = x
 
 flat : (n : ℕ) (f : Formula) (p : List ℤ) → has_name f ≡ false → dot (form n f).coefficients p ≡ pos 0
 flat n (constant s v at) p e = dot-zeros n p
-flat n (name m at) p e = absurd (cc)
-flat n (index q i) p e = absurd (cc)
-flat n (bare_call m at) p e = absurd (cc)
-flat n (call m f at) p e = absurd (cc)
 flat n (unary sign.Minus f at) p e =
     dot-multiples (negsuc 0) (form n f).coefficients p
     ∙ (ap (λ z. negsuc 0 *ℤ z) (flat n f p e) ∙ mul_zero_right (negsuc 0))
 flat n (unary _ f at) p e = dot-zeros n p
-flat n (cast f at) p e = dot-zeros n p
+flat n (cast w f at) p e = dot-zeros n p
 flat n (binary o f g at) p e =
     let b = both_false (has_name f) (has_name g) e in
     combined_flat o (has_name f) (form n f) (form n g) p (flat n f p b.0) (flat n g p b.1)
+flat n _ p e = absurd (cc)
 
 -- a product of which one side is without coefficients
 product_value : (b c : Bool) (f g : Affine) (p : List ℤ) → (b ≡ false → dot f.coefficients p ≡ pos 0)
@@ -99,7 +96,7 @@ name_value n (meaning.Variable k) at p long = elim (cases_lt k n) [
 ]
 name_value n meaning.Unknown at p long = let z = dot-zeros n p in omega (arith, ints)
 name_value n meaning.Closed at p long = let z = dot-zeros n p in omega (arith, ints)
-name_value n (meaning.Array k r) at p long = let z = dot-zeros n p in omega (arith, ints)
+name_value n (meaning.Array k r b) at p long = let z = dot-zeros n p in omega (arith, ints)
 
 -- an operator of an affine expression
 pub own_parts : (s p w : Bool) → (if s then (if p then Some kind.NotAffine else only_where (not w) kind.Coefficient)
@@ -130,20 +127,15 @@ affine_sides n o f g at h =
 -- the form of an affine expression is worth what the expression is
 pub form_value : (n : ℕ) (f : Formula) (p : List ℤ) → length p ≡ n → first (faults n role.Affine f) ≡ None
     → value_of (form n f) p ≡ whole p f
-form_value n (constant s v at) p long h = let z = dot-zeros n p in omega (arith, ints)
 form_value n (name m at) p long h = name_value n m at p long
-form_value n (index q i) p long h = let z = dot-zeros n p in omega (arith, ints)
-form_value n (bare_call m at) p long h = let z = dot-zeros n p in omega (arith, ints)
-form_value n (call m f at) p long h = let z = dot-zeros n p in omega (arith, ints)
 form_value n (unary sign.Minus f at) p long h =
     let v = form_value n f p long (judged_none (faults n role.Affine f) at None h).0 in
     let m = value_of-multiple (negsuc 0) (form n f) p in
     omega (arith, ints)
-form_value n (unary _ f at) p long h = let z = dot-zeros n p in omega (arith, ints)
-form_value n (cast f at) p long h = let z = dot-zeros n p in omega (arith, ints)
 form_value n (binary o f g at) p long h =
     let parts = affine_sides n o f g at h in
     term_value n o f g at p parts.0 parts.1 (form_value n f p long parts.2) (form_value n g p long parts.3)
+form_value n _ p long h = let z = dot-zeros n p in omega (arith, ints)
 
 -- it is an expression that has a whole number
 sum_whole : (o : Op) (f g : Formula) (at : ℕ) → is_sum_or_product o ≡ true → HasWhole f → HasWhole g
@@ -154,12 +146,12 @@ sum_whole op.Times f g at s x y = (x, y)
 sum_whole _ f g at s x y = absurd (cc)
 
 pub has_whole : (n : ℕ) (f : Formula) → first (faults n role.Affine f) ≡ None → HasWhole f
-has_whole n (constant suffix.Absent v at) h = tt
+has_whole n (constant (suffix.Absent b) v at) h = tt
 has_whole n (constant suffix.Present v at) h = absurd (cc (judged_none [] at (Some kind.NotAffine) h).1)
 has_whole n (name (meaning.Variable k) at) h = tt
 has_whole n (name meaning.Unknown at) h = absurd (cc (judged_none (told at (Some kind.UnknownName)) at None h).0)
 has_whole n (name meaning.Closed at) h = absurd (cc (judged_none (told at (Some kind.IteratorOutside)) at None h).0)
-has_whole n (name (meaning.Array k r) at) h = absurd (cc (judged_none [] at (Some kind.NotAffine) h).1)
+has_whole n (name (meaning.Array k r b) at) h = absurd (cc (judged_none [] at (Some kind.NotAffine) h).1)
 has_whole n (index q i) h =
     absurd (cc (judged_none (place_faults n q ++ faults n role.Affine i) (place q) (Some kind.NotAffine) h).1)
 has_whole n (bare_call m at) h = absurd (cc (judged_none (told at (called m)) at (Some kind.NotAffine) h).1)
@@ -169,7 +161,7 @@ has_whole n (unary sign.Minus f at) h = has_whole n f (judged_none (faults n rol
 has_whole n (unary sign.Complement f at) h =
     absurd (cc (judged_none (faults n role.Free f) at (Some kind.NotAffine) h).1)
 has_whole n (unary sign.Not f at) h = absurd (cc (judged_none (faults n role.Free f) at (Some kind.NotAffine) h).1)
-has_whole n (cast f at) h = absurd (cc (judged_none (faults n role.Free f) at (Some kind.NotAffine) h).1)
+has_whole n (cast w f at) h = absurd (cc (judged_none (faults n role.Free f) at (Some kind.NotAffine) h).1)
 has_whole n (binary o f g at) h =
     let parts = affine_sides n o f g at h in
     sum_whole o f g at parts.0 (has_whole n f parts.2) (has_whole n g parts.3)

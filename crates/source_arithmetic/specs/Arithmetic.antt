@@ -1,18 +1,22 @@
 -- What the expressions of a text are worth by C's own arithmetic (ISO/IEC 9899:2018). A point has the parameters and,
 -- behind them, the iterators of the open loops.
-use Rattle.std.specs.Prelude.{◌≡◌, ℕ, ◌-◌, ◌*◌, ◌/◌, ◌%◌, ◌^◌, ◌<◌, Bool, true, false, ◌&&◌, if◌then◌else◌, ℤ, pos}
+use Rattle.std.specs.Prelude.{◌≡◌, ℕ, ◌+◌, ◌-◌, ◌*◌, ◌/◌, ◌%◌, ◌^◌, ◌<◌, ◌≤◌, Bool, true, false, if◌then◌else◌, ℤ, pos}
 use Rattle.std.specs.Prelude.{neg_ℤ, ◌+ℤ◌, ◌-ℤ◌, ◌*ℤ◌}
 use Rattle.std.specs.Prelude.{◌≤ℤ◌, ◌<ℤ◌, List, [], ◌∷◌, ◌++◌, get_or, ⊤}
 use Rattle.expression_grammar.specs.Assign.{Assign}
 use Rattle.expression_grammar.specs.Assign.TheVariants as assign
+use Rattle.expression_grammar.specs.Base.{Base}
+use Rattle.expression_grammar.specs.Base.TheVariants as base
 use Rattle.expression_grammar.specs.Count.TheVariants as count
 use Rattle.expression_grammar.specs.Op.{Op}
 use Rattle.expression_grammar.specs.Op.TheVariants as op
 use Rattle.expression_grammar.specs.declared.token.Sign.TheVariants as sign
 use Rattle.expression_grammar.specs.Suffix.TheVariants as suffix
-use Rattle.scop_syntax.specs.Tree.{plus, minus, times, bits_and, bits_or, bits_xor}
+use Rattle.expression_grammar.specs.Width.{Width}
+use Rattle.expression_grammar.specs.Width.TheVariants as width
+use Rattle.scop_syntax.specs.Tree.{Operator, plus, minus, times, bits_and, bits_or, bits_xor}
 use Rattle.scop_syntax.specs.Cells.{Cell}
-use Rattle.scop_syntax.specs.Values.{wrapped, applied}
+use Rattle.scop_syntax.specs.Values.{wrapped, applied, applied_narrow}
 use Rattle.scop_roles.specs.declared.formula.Meaning.{Meaning}
 use Rattle.scop_roles.specs.declared.formula.Meaning.TheVariants as meaning
 use Rattle.scop_roles.specs.Formula.{Formula, constant, name, index, bare_call, call, unary, cast, binary}
@@ -31,7 +35,7 @@ whole p _ = pos 0
 
 -- an expression has a whole number: constants without suffix, entries, and opposites, sums, differences and products
 abbrev pub HasWhole : Formula → Type 0
-HasWhole (constant suffix.Absent v at) = ⊤
+HasWhole (constant (suffix.Absent b) v at) = ⊤
 HasWhole (name (meaning.Variable k) at) = ⊤
 HasWhole (unary sign.Minus f at) = HasWhole f
 HasWhole (binary op.Plus f g at) = HasWhole f × HasWhole g
@@ -61,7 +65,7 @@ HasTruth _ = ⊥
 
 -- the number of the array that a place is of
 abbrev pub array_named : Formula → ℕ
-array_named (name (meaning.Array k r) at) = k
+array_named (name (meaning.Array k r b) at) = k
 array_named (index q i) = array_named q
 array_named _ = 0
 
@@ -76,90 +80,170 @@ cell p f = record { array = array_named f; subscripts = subscripts_at p f }
 
 -- a place has a cell: the name of an array with such expressions as subscripts
 abbrev pub HasCell : Formula → Type 0
-HasCell (name (meaning.Array k r) at) = ⊤
+HasCell (name (meaning.Array k r b) at) = ⊤
 HasCell (index q i) = HasCell q × HasWhole i
 HasCell _ = ⊥
 
--- what an operator makes is signed, by whether its sides are: unsigned is what one unsigned side makes so, a shift is
--- as its left side, and truth is a signed number (6.3.1.8, 6.5.7p3, 6.5.8p6, 6.5.9p3, 6.5.13p3, 6.5.14p3, 6.5.17p2)
-abbrev pub makes_signed : Op → Bool → Bool → Bool
-makes_signed op.Times s t = s && t
-makes_signed op.Divide s t = s && t
-makes_signed op.Remainder s t = s && t
-makes_signed op.Plus s t = s && t
-makes_signed op.Minus s t = s && t
-makes_signed op.ShiftLeft s t = s
-makes_signed op.ShiftRight s t = s
-makes_signed op.Less s t = true
-makes_signed op.AtMost s t = true
-makes_signed op.Greater s t = true
-makes_signed op.AtLeast s t = true
-makes_signed op.Equal s t = true
-makes_signed op.NotEqual s t = true
-makes_signed op.BitAnd s t = s && t
-makes_signed op.BitXor s t = s && t
-makes_signed op.BitOr s t = s && t
-makes_signed op.LogicalAnd s t = true
-makes_signed op.LogicalOr s t = true
-makes_signed op.Comma s t = t
+-- the types of values: int or int64_t; uint32_t, which int does not hold, so that no promotion changes it (6.3.1.1p2);
+-- uint64_t (7.20.1.1)
+pub data Class : Type 0 where
+  signed : Class
+  narrow : Class
+  full : Class
 
--- a name is that of a signed number: a parameter, or an iterator
-abbrev pub names_signed : Meaning → Bool
-names_signed (meaning.Variable k) = true
-names_signed meaning.Closed = true
-names_signed (meaning.Array k r) = false
-names_signed meaning.Unknown = false
+-- the type to which both sides of an operator are converted: unsigned where one side is, and then as wide as the widest
+-- (6.3.1.8p1)
+abbrev pub common : Class → Class → Class
+common signed c = c
+common full c = full
+common narrow full = full
+common narrow c = narrow
 
--- an expression is of a signed type, in place of uint64_t (6.4.4.1p5, 6.5.3.3p3 to p5, 6.5.4); a call has no type here.
--- A constant too large for an int stands beside unsigned values alone, where its type makes no difference.
+-- the type of what an operator makes, by those of its sides: a shift has that of its left side, and truth is an int
+-- (6.3.1.8p1, 6.5.7p3, 6.5.8p6, 6.5.9p3, 6.5.13p3, 6.5.14p3, 6.5.17p2)
+abbrev pub made : Op → Class → Class → Class
+made op.Times c d = common c d
+made op.Divide c d = common c d
+made op.Remainder c d = common c d
+made op.Plus c d = common c d
+made op.Minus c d = common c d
+made op.ShiftLeft c d = c
+made op.ShiftRight c d = c
+made op.Less c d = signed
+made op.AtMost c d = signed
+made op.Greater c d = signed
+made op.AtLeast c d = signed
+made op.Equal c d = signed
+made op.NotEqual c d = signed
+made op.BitAnd c d = common c d
+made op.BitXor c d = common c d
+made op.BitOr c d = common c d
+made op.LogicalAnd c d = signed
+made op.LogicalOr c d = signed
+made op.Comma c d = d
+
+-- the type of a name that is a value: a parameter and an iterator are signed
+abbrev pub name_class : Meaning → Class
+name_class (meaning.Variable k) = signed
+name_class meaning.Closed = signed
+name_class _ = full
+
+-- the type of the cells of the array that a place is of, by its declaration
+abbrev pub cell_class : Formula → Class
+cell_class (name (meaning.Array k r true) at) = narrow
+cell_class (index q i) = cell_class q
+cell_class _ = full
+
+-- the type that a text names
+abbrev pub named_class : Width → Class
+named_class width.Narrow = narrow
+named_class width.Full = full
+
+-- the type of an expression (6.4.4.1p5, 6.5.3.3p3 to p5, 6.5.4); a call has none here. A constant that is no int stands
+-- beside uint64_t alone, or is an unsigned int beside uint32_t, where its own type makes no difference.
+abbrev pub class : Formula → Class
+class (constant (suffix.Absent b) v at) = signed
+class (constant suffix.Present v at) = full
+class (name m at) = name_class m
+class (index q i) = cell_class q
+class (bare_call m at) = full
+class (call m f at) = full
+class (unary sign.Minus f at) = class f
+class (unary sign.Complement f at) = class f
+class (unary sign.Not f at) = signed
+class (cast w f at) = named_class w
+class (binary o f g at) = made o (class f) (class g)
+
+-- a type is signed
+abbrev pub is_signed_class : Class → Bool
+is_signed_class signed = true
+is_signed_class _ = false
+
+-- an expression is of a signed type
 abbrev pub has_sign : Formula → Bool
-has_sign (constant suffix.Absent v at) = true
-has_sign (constant suffix.Present v at) = false
-has_sign (name m at) = names_signed m
-has_sign (index q i) = false
-has_sign (bare_call m at) = false
-has_sign (call m f at) = false
-has_sign (unary sign.Minus f at) = has_sign f
-has_sign (unary sign.Complement f at) = has_sign f
-has_sign (unary sign.Not f at) = true
-has_sign (cast f at) = false
-has_sign (binary o f g at) = makes_signed o (has_sign f) (has_sign g)
+has_sign f = is_signed_class (class f)
+
+-- how many bits a value of a type has
+abbrev pub bits : Class → ℕ
+bits narrow = 32
+bits _ = 64
+
+-- a value is converted to a type: to uint32_t modulo 2^32, and none is too large for the others (6.3.1.3p1 and p2)
+abbrev pub kept : Class → ℕ → ℕ
+kept narrow v = v % 2 ^ 32
+kept _ v = v
+
+-- what an operator of two sides makes in an unsigned type, to which both are converted first, modulo 2^32 or 2^64 (6.2.5p9,
+-- 6.3.1.8p1, 6.5.5p5, 6.5.6p5 and p6, 6.5.10p4, 6.5.11p4, 6.5.12p4)
+abbrev pub joined : Class → Operator → ℕ → ℕ → ℕ
+joined narrow k a b = applied_narrow k (kept narrow a) (kept narrow b)
+joined _ k a b = applied k a b
 
 -- a signed expression is converted: its whole number modulo 2^64; an unsigned one has its own value (6.3.1.3p2)
 abbrev pub converted : List ℤ → Formula → ℕ → ℕ
 converted p f own = if has_sign f then wrapped (whole p f) else own
 
--- an expression's value as uint64_t at a point, where each cell holds a number (6.2.5p9, 6.5.3.3p3 and p4, 6.5.4 to
--- 6.5.7, 6.5.10 to 6.5.12); what no value may have is worth 0
+-- what an operator makes of two sides of these values
+abbrev pub computed : List ℤ → Formula → Operator → ℕ → ℕ → ℕ
+computed p f k a b = converted p f (joined (class f) k a b)
+
+-- an expression's value at a point as a number of 64 bits, where each cell holds one; that of uint32_t is below 2^32
+-- (6.2.5p9, 6.5.3.3p3 and p4, 6.5.4 to 6.5.7, 6.5.10 to 6.5.12); what no value may have is worth 0
 abbrev pub word : (Cell → ℕ) → List ℤ → Formula → ℕ
 word held p (constant s v at) = converted p (constant s v at) v
 word held p (name m at) = converted p (name m at) 0
 word held p (index q i) = held (cell p (index q i))
-word held p (unary sign.Minus f at) = converted p (unary sign.Minus f at) ((2 ^ 64 - word held p f) % 2 ^ 64)
-word held p (unary sign.Complement f at) = converted p (unary sign.Complement f at) (2 ^ 64 - 1 - word held p f)
-word held p (cast f at) = word held p f
-word held p (binary op.Plus f g at) =
-    converted p (binary op.Plus f g at) (applied plus (word held p f) (word held p g))
-word held p (binary op.Minus f g at) =
-    converted p (binary op.Minus f g at) (applied minus (word held p f) (word held p g))
-word held p (binary op.Times f g at) =
-    converted p (binary op.Times f g at) (applied times (word held p f) (word held p g))
-word held p (binary op.BitAnd f g at) =
-    converted p (binary op.BitAnd f g at) (applied bits_and (word held p f) (word held p g))
-word held p (binary op.BitOr f g at) =
-    converted p (binary op.BitOr f g at) (applied bits_or (word held p f) (word held p g))
-word held p (binary op.BitXor f g at) =
-    converted p (binary op.BitXor f g at) (applied bits_xor (word held p f) (word held p g))
+word held p (unary sign.Minus f at) =
+    converted p (unary sign.Minus f at) ((2 ^ bits (class f) - word held p f) % 2 ^ bits (class f))
+word held p (unary sign.Complement f at) =
+    converted p (unary sign.Complement f at) (2 ^ bits (class f) - 1 - word held p f)
+word held p (cast w f at) = kept (named_class w) (word held p f)
+word held p (binary op.Plus f g at) = computed p (binary op.Plus f g at) plus (word held p f) (word held p g)
+word held p (binary op.Minus f g at) = computed p (binary op.Minus f g at) minus (word held p f) (word held p g)
+word held p (binary op.Times f g at) = computed p (binary op.Times f g at) times (word held p f) (word held p g)
+word held p (binary op.BitAnd f g at) = computed p (binary op.BitAnd f g at) bits_and (word held p f) (word held p g)
+word held p (binary op.BitOr f g at) = computed p (binary op.BitOr f g at) bits_or (word held p f) (word held p g)
+word held p (binary op.BitXor f g at) = computed p (binary op.BitXor f g at) bits_xor (word held p f) (word held p g)
 word held p (binary op.ShiftLeft f g at) =
-    converted p (binary op.ShiftLeft f g at) ((word held p f * 2 ^ word held p g) % 2 ^ 64)
+    converted p (binary op.ShiftLeft f g at) ((word held p f * 2 ^ word held p g) % 2 ^ bits (class f))
 word held p (binary op.ShiftRight f g at) =
     converted p (binary op.ShiftRight f g at) (word held p f / 2 ^ word held p g)
 word held p _ = 0
 
--- a constant without suffix that a shift may have (6.5.7p3)
-abbrev pub IsCount : Formula → Type 0
-IsCount (constant suffix.Absent v at) = v < 64
-IsCount _ = ⊥
+-- the cells that an expression reads at a point hold numbers of their types: in an array of uint32_t below 2^32
+abbrev pub HoldTypes : (Cell → ℕ) → List ℤ → Formula → Type 0
+HoldTypes held p (index q i) = cell_class q ≡ narrow → held (cell p (index q i)) < 2 ^ 32
+HoldTypes held p (unary s f at) = HoldTypes held p f
+HoldTypes held p (cast w f at) = HoldTypes held p f
+HoldTypes held p (binary o f g at) = HoldTypes held p f × HoldTypes held p g
+HoldTypes held p _ = ⊤
+
+-- a constant without suffix that a shift of a value of this type may have (6.5.7p3)
+abbrev pub IsCount : Class → Formula → Type 0
+IsCount c (constant (suffix.Absent b) v at) = v < bits c
+IsCount c _ = ⊥
+
+-- the greatest constant without suffix of type int or unsigned int, by its base (6.4.4.1p5)
+abbrev pub greatest : Base → ℕ
+greatest base.Decimal = 2 ^ 31 - 1
+greatest base.Hexadecimal = 2 ^ 32 - 1
+
+-- a signed expression has no more than 32 bits: names are of int64_t
+abbrev pub IsShort : Formula → Type 0
+IsShort (constant (suffix.Absent b) v at) = v ≤ greatest b
+IsShort (unary sign.Minus f at) = IsShort f
+IsShort (binary op.Plus f g at) = IsShort f × IsShort g
+IsShort (binary op.Minus f g at) = IsShort f × IsShort g
+IsShort (binary op.Times f g at) = IsShort f × IsShort g
+IsShort _ = ⊥
+
+-- a signed expression beside a value of this type is no wider, so that it is converted to that type (6.3.1.8p1)
+abbrev pub MayStandBeside : Class → Formula → Type 0
+MayStandBeside c f = c ≡ narrow → class f ≡ signed → IsShort f
+
+-- both sides of an operator, each beside the other
+abbrev pub MayJoin : Formula → Formula → Type 0
+MayJoin f g = MayStandBeside (class f) g × MayStandBeside (class g) f
 
 -- an expression has a word: what is signed is an opposite, a sum, a difference or a product, or has no operator
 abbrev pub HasWord : Formula → Type 0
@@ -168,22 +252,22 @@ HasWord (name m at) = HasWhole (name m at)
 HasWord (index q i) = HasCell (index q i)
 HasWord (unary sign.Minus f at) = HasWord f
 HasWord (unary sign.Complement f at) = (has_sign f ≡ false) × HasWord f
-HasWord (cast f at) = HasWord f
-HasWord (binary op.Plus f g at) = HasWord f × HasWord g
-HasWord (binary op.Minus f g at) = HasWord f × HasWord g
-HasWord (binary op.Times f g at) = HasWord f × HasWord g
-HasWord (binary op.BitAnd f g at) = (has_sign (binary op.BitAnd f g at) ≡ false) × HasWord f × HasWord g
-HasWord (binary op.BitOr f g at) = (has_sign (binary op.BitOr f g at) ≡ false) × HasWord f × HasWord g
-HasWord (binary op.BitXor f g at) = (has_sign (binary op.BitXor f g at) ≡ false) × HasWord f × HasWord g
-HasWord (binary op.ShiftLeft f g at) = (has_sign f ≡ false) × HasWord f × IsCount g
-HasWord (binary op.ShiftRight f g at) = (has_sign f ≡ false) × HasWord f × IsCount g
+HasWord (cast w f at) = HasWord f
+HasWord (binary op.Plus f g at) = HasWord f × HasWord g × MayJoin f g
+HasWord (binary op.Minus f g at) = HasWord f × HasWord g × MayJoin f g
+HasWord (binary op.Times f g at) = HasWord f × HasWord g × MayJoin f g
+HasWord (binary op.BitAnd f g at) = (has_sign (binary op.BitAnd f g at) ≡ false) × HasWord f × HasWord g × MayJoin f g
+HasWord (binary op.BitOr f g at) = (has_sign (binary op.BitOr f g at) ≡ false) × HasWord f × HasWord g × MayJoin f g
+HasWord (binary op.BitXor f g at) = (has_sign (binary op.BitXor f g at) ≡ false) × HasWord f × HasWord g × MayJoin f g
+HasWord (binary op.ShiftLeft f g at) = (has_sign f ≡ false) × HasWord f × IsCount (class f) g
+HasWord (binary op.ShiftRight f g at) = (has_sign f ≡ false) × HasWord f × IsCount (class f) g
 HasWord _ = ⊥
 
 -- the cells that a value reads at a point, from left to right
 abbrev pub cells_in : List ℤ → Formula → List Cell
 cells_in p (index q i) = cell p (index q i) ∷ []
 cells_in p (unary s f at) = cells_in p f
-cells_in p (cast f at) = cells_in p f
+cells_in p (cast w f at) = cells_in p f
 cells_in p (binary o f g at) = cells_in p f ++ cells_in p g
 cells_in p _ = []
 
@@ -200,30 +284,32 @@ HasNoComma (index q i) = HasNoComma q × HasNoComma i
 HasNoComma (bare_call m at) = ⊤
 HasNoComma (call m f at) = ⊤
 HasNoComma (unary s f at) = HasNoComma f
-HasNoComma (cast f at) = HasNoComma f
+HasNoComma (cast w f at) = HasNoComma f
 HasNoComma (binary op.Comma f g at) = ⊥
 HasNoComma (binary o f g at) = HasNoComma f × HasNoComma g
 
--- what `place operator value` stores, by the cell's own number v and the value w (6.5.16.1p2, 6.5.16.2p3)
-abbrev pub stored : Assign → ℕ → ℕ → ℕ
-stored assign.Set v w = w
-stored assign.Plus v w = applied plus v w
-stored assign.Minus v w = applied minus v w
-stored assign.Times v w = applied times v w
-stored assign.And v w = applied bits_and v w
-stored assign.Or v w = applied bits_or v w
-stored assign.Xor v w = applied bits_xor v w
-stored assign.ShiftLeft v w = (v * 2 ^ w) % 2 ^ 64
-stored assign.ShiftRight v w = v / 2 ^ w
-stored _ v w = 0
+-- what `place operator value` stores, by the types of place and value, the cell's own number v and the value w: an
+-- operator computes as between values (6.5.16.2p3), and what is stored is converted to the place's type (6.5.16.1p2)
+abbrev pub stored : Class → Class → Assign → ℕ → ℕ → ℕ
+stored c d assign.Set v w = kept c w
+stored c d assign.Plus v w = kept c (joined (common c d) plus v w)
+stored c d assign.Minus v w = kept c (joined (common c d) minus v w)
+stored c d assign.Times v w = kept c (joined (common c d) times v w)
+stored c d assign.And v w = kept c (joined (common c d) bits_and v w)
+stored c d assign.Or v w = kept c (joined (common c d) bits_or v w)
+stored c d assign.Xor v w = kept c (joined (common c d) bits_xor v w)
+stored c d assign.ShiftLeft v w = (v * 2 ^ w) % 2 ^ bits c
+stored c d assign.ShiftRight v w = v / 2 ^ w
+stored c d _ v w = 0
 
--- an operator stores something of this value
-abbrev pub HasStored : Assign → Formula → Type 0
-HasStored assign.Divide f = ⊥
-HasStored assign.Remainder f = ⊥
-HasStored assign.ShiftLeft f = IsCount f
-HasStored assign.ShiftRight f = IsCount f
-HasStored _ f = HasWord f
+-- an operator stores something of this value in a place of this type
+abbrev pub HasStored : Class → Assign → Formula → Type 0
+HasStored c assign.Set f = HasWord f
+HasStored c assign.Divide f = ⊥
+HasStored c assign.Remainder f = ⊥
+HasStored c assign.ShiftLeft f = IsCount c f
+HasStored c assign.ShiftRight f = IsCount c f
+HasStored c _ f = HasWord f × MayStandBeside c f
 
 -- a name means entry k
 abbrev pub IsEntry : ℕ → Meaning → Type 0

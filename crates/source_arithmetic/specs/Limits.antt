@@ -15,7 +15,8 @@ use Rattle.scop_roles.specs.Formula.{subscripts}
 use Rattle.scop_units.specs.Scopes.{Scope, entries, iterator_fault}
 use Rattle.scop_units.specs.Loops.{Change, counted, assigned, LoopHead, names_entry}
 use Rattle.scop_units.specs.Units.{Stored}
-use Rattle.source_arithmetic.specs.Arithmetic.{whole, has_sign, IsCount, HasStored, IsNameOf}
+use Rattle.source_arithmetic.specs.Arithmetic.{whole, cell_class, class, has_sign, IsCount, MayJoin, HasStored}
+use Rattle.source_arithmetic.specs.Arithmetic.{IsNameOf}
 
 -- over n entries: where all are 0 the whole number is at most 2^20 in absolute value, and 1 at one of them adds at most
 -- 16
@@ -26,7 +27,7 @@ pub record IsSmall (n : ℕ) (f : Formula) : Type 0 where
 -- an affine expression: constants without suffix and entries, and opposites, sums, differences and products of such,
 -- each small, where one side of a product has no name in it
 abbrev pub IsLinear : ℕ → Formula → Type 0
-IsLinear n (constant suffix.Absent v at) = v ≤ 2 ^ 20
+IsLinear n (constant (suffix.Absent b) v at) = v ≤ 2 ^ 20
 IsLinear n (name (meaning.Variable k) at) = ⊤
 IsLinear n (unary sign.Minus f at) = IsLinear n f
 IsLinear n (binary op.Plus f g at) = IsLinear n f × IsLinear n g × IsSmall n (binary op.Plus f g at)
@@ -57,30 +58,33 @@ IsSummand n f = (has_sign f ≡ true) × IsLinear n f × JoinsNoConstants f
 
 -- a place: an array with such expressions as subscripts
 abbrev pub IsLinearPlace : ℕ → Formula → Type 0
-IsLinearPlace n (name (meaning.Array k r) at) = ⊤
+IsLinearPlace n (name (meaning.Array k r b) at) = ⊤
 IsLinearPlace n (index q i) = IsLinearPlace n q × IsLinear n i
 IsLinearPlace n _ = ⊥
 
 -- a value: constants, entries, cells with all their subscripts, and what operators make of such; what is signed and has
--- an operator is a summand as a whole
+-- an operator is a summand as a whole, and beside uint32_t no wider
 abbrev pub IsFitWord : ℕ → Formula → Type 0
 IsFitWord n (constant s v at) = ⊤
 IsFitWord n (name (meaning.Variable k) at) = ⊤
 IsFitWord n (index q i) = IsLinearPlace n (index q i) × (rank (meaning_of q) ≡ subscripts (index q i))
 IsFitWord n (unary sign.Minus f at) = IsSummand n f ⊎ ((has_sign f ≡ false) × IsFitWord n f)
 IsFitWord n (unary sign.Complement f at) = (has_sign f ≡ false) × IsFitWord n f
-IsFitWord n (cast f at) = IsFitWord n f
+IsFitWord n (cast w f at) = IsFitWord n f
 IsFitWord n (binary op.Plus f g at) = IsSummand n (binary op.Plus f g at)
-    ⊎ (((has_sign f && has_sign g) ≡ false) × IsFitWord n f × IsFitWord n g)
+    ⊎ ((has_sign (binary op.Plus f g at) ≡ false) × IsFitWord n f × IsFitWord n g × MayJoin f g)
 IsFitWord n (binary op.Minus f g at) = IsSummand n (binary op.Minus f g at)
-    ⊎ (((has_sign f && has_sign g) ≡ false) × IsFitWord n f × IsFitWord n g)
+    ⊎ ((has_sign (binary op.Minus f g at) ≡ false) × IsFitWord n f × IsFitWord n g × MayJoin f g)
 IsFitWord n (binary op.Times f g at) = IsSummand n (binary op.Times f g at)
-    ⊎ (((has_sign f && has_sign g) ≡ false) × IsFitWord n f × IsFitWord n g)
-IsFitWord n (binary op.BitAnd f g at) = ((has_sign f && has_sign g) ≡ false) × IsFitWord n f × IsFitWord n g
-IsFitWord n (binary op.BitOr f g at) = ((has_sign f && has_sign g) ≡ false) × IsFitWord n f × IsFitWord n g
-IsFitWord n (binary op.BitXor f g at) = ((has_sign f && has_sign g) ≡ false) × IsFitWord n f × IsFitWord n g
-IsFitWord n (binary op.ShiftLeft f g at) = (has_sign f ≡ false) × IsFitWord n f × IsCount g
-IsFitWord n (binary op.ShiftRight f g at) = (has_sign f ≡ false) × IsFitWord n f × IsCount g
+    ⊎ ((has_sign (binary op.Times f g at) ≡ false) × IsFitWord n f × IsFitWord n g × MayJoin f g)
+IsFitWord n (binary op.BitAnd f g at) =
+    (has_sign (binary op.BitAnd f g at) ≡ false) × IsFitWord n f × IsFitWord n g × MayJoin f g
+IsFitWord n (binary op.BitOr f g at) =
+    (has_sign (binary op.BitOr f g at) ≡ false) × IsFitWord n f × IsFitWord n g × MayJoin f g
+IsFitWord n (binary op.BitXor f g at) =
+    (has_sign (binary op.BitXor f g at) ≡ false) × IsFitWord n f × IsFitWord n g × MayJoin f g
+IsFitWord n (binary op.ShiftLeft f g at) = (has_sign f ≡ false) × IsFitWord n f × IsCount (class f) g
+IsFitWord n (binary op.ShiftRight f g at) = (has_sign f ≡ false) × IsFitWord n f × IsCount (class f) g
 IsFitWord n _ = ⊥
 
 -- a statement: a cell with all its subscripts, an operator that stores, and such a value
@@ -88,7 +92,7 @@ pub record IsFitStored (n : ℕ) (s : Stored) : Type 0 where
   pub cell : IsLinearPlace n s.cell
   pub rank : rank (meaning_of s.cell) ≡ subscripts s.cell
   pub value : IsFitWord n s.value
-  pub stores : HasStored s.assign s.value
+  pub stores : HasStored (cell_class s.cell) s.assign s.value
 
 -- entry k stands alone on one side of `low < high`, and the other side is affine without it; up: it stands on the left
 abbrev pub LiesBetween : ℕ → Bool → Formula → Formula → Type 0
@@ -105,7 +109,7 @@ IsBound k up _ = ⊥
 
 -- a constant without suffix from 1 to 16
 abbrev pub IsStride : Formula → Type 0
-IsStride (constant suffix.Absent v at) = (1 ≤ v) × (v ≤ 16)
+IsStride (constant (suffix.Absent b) v at) = (1 ≤ v) × (v ≤ 16)
 IsStride _ = ⊥
 
 -- a step of the iterator, which is entry k; up: it rises

@@ -1,11 +1,14 @@
 -- What a program says of a kernel's text: each extent, condition, loop's head and statement means at each point what
 -- its expressions in the text are worth by C's own arithmetic, part by part along the kernel's tree.
-use Rattle.std.specs.Prelude.{◌≡◌, ◌↔◌, ℕ, ◌+◌, ℤ, pos, ◌+ℤ◌, ◌≤ℤ◌, List, [], ◌∷◌, ◌++◌, length, map, All}
+use Rattle.std.specs.Prelude.{◌≡◌, ◌↔◌, ℕ, ◌+◌, true, ℤ, pos, ◌+ℤ◌, ◌≤ℤ◌, List, [], ◌∷◌, ◌++◌, length, map, All}
 use Rattle.std.specs.Prelude.{slice_get, Some}
+use Rattle.expression_grammar.specs.Width.{Width}
+use Rattle.expression_grammar.specs.Width.TheVariants.{Narrow}
 use Rattle.kernel_grammar.specs.Kernel.{branch, loop, Item, block, empty, assign, headed, Items, none, more}
 use Rattle.kernel_grammar.specs.Kernel.{Parameter, number, array, Kernel, item_elements, head_elements}
 use Rattle.kernel_grammar.specs.Kernel.{parameter_elements}
 use Rattle.scop_syntax.specs.Cells.{Cell, cell_of, reads, values}
+use Rattle.scop_syntax.specs.Kernel.{narrow_arrays}
 use Rattle.scop_syntax.specs.Statements.{AllHold}
 use Rattle.scop_syntax.specs.Tree.{Statement, Test, Declaration, Program}
 use Rattle.scop_syntax.specs.Tree as scop
@@ -23,7 +26,7 @@ use Rattle.scop_units.specs.Judging.{width, extents_in, behind_parameter, condit
 use Rattle.scop_units.specs.Judging.{items_at, first_scope, body_scope}
 use Rattle.scop_units.specs.Programs.{wrapped}
 use Rattle.source_arithmetic.specs.Arithmetic.{whole, word, cell, cells_in, cells_read, stored as makes, after_step}
-use Rattle.source_arithmetic.specs.Arithmetic.{Holds}
+use Rattle.source_arithmetic.specs.Arithmetic.{Holds, HoldTypes, cell_class, class}
 use Rattle.source_arithmetic.specs.Arithmetic.{HasWhole, HasTruth, HasCell, HasWord, HasStored, HasStep, IsNameOf}
 
 -- names mean by the order in which they are declared: an entry of a point is that of the parameter or the open loop of
@@ -31,7 +34,8 @@ use Rattle.source_arithmetic.specs.Arithmetic.{HasWhole, HasTruth, HasCell, HasW
 pub record NamesMean (s : Scope) : Type 0 where
   pub entries : (k : ℕ) (w : Text)
       → (meaning_in s w ≡ meaning.Variable k) ↔ (slice_get (s.parameters ++ s.open_loops) k ≡ Some w)
-  pub arrays : (k : ℕ) (a : Ranked) → (meaning_in s a.name ≡ meaning.Array k a.rank) ↔ (slice_get s.arrays k ≡ Some a)
+  pub arrays : (k : ℕ) (a : Ranked)
+      → (meaning_in s a.name ≡ meaning.Array k a.rank a.narrow) ↔ (slice_get s.arrays k ≡ Some a)
 
 -- comparisons over n entries hold at a point exactly where the condition does
 pub record GuardMeans (n : ℕ) (f : Formula) (tests : List Test) : Type 0 where
@@ -50,15 +54,15 @@ pub record LoopMeans (n : ℕ) (h : LoopHead) (head : scop.Head) : Type 0 where
       → (pos 0 ≤ℤ condition_at head p x) ↔ Holds (turn_point head p x) h.second
 
 -- a statement stores in the cell of its place what its operator makes of that cell and of the value, and reads their
--- cells in the order of the text, whatever the cells hold
+-- cells in the order of the text, whatever numbers of their types the cells hold
 pub record StatementMeans (n : ℕ) (s : Stored) (t : Statement) : Type 0 where
-  pub defined : HasCell s.cell × HasWord s.value × HasStored s.assign s.value
+  pub defined : HasCell s.cell × HasWord s.value × HasStored (cell_class s.cell) s.assign s.value
   pub place : (p : List ℤ) → length p ≡ n → cell_of t.place p ≡ cell p s.cell
   pub reads : (p : List ℤ) → length p ≡ n
       → map (λ access. cell_of access p) (reads t) ≡ cells_read s.assign (cell p s.cell) (cells_in p s.value)
-  pub stores : (p : List ℤ) (held : Cell → ℕ) → length p ≡ n
+  pub stores : (p : List ℤ) (held : Cell → ℕ) → length p ≡ n → HoldTypes held p s.value
       → stored_by t.right p (map held (cells_read s.assign (cell p s.cell) (cells_in p s.value)))
-      ≡ makes s.assign (held (cell p s.cell)) (word held p s.value)
+      ≡ makes (cell_class s.cell) (class s.value) s.assign (held (cell p s.cell)) (word held p s.value)
 
 abbrev mutual
   -- trees of the program mean what an item does that begins at a place: a head stands round the trees of its item, and
@@ -82,17 +86,19 @@ abbrev mutual
   MeanAt words s at (more i is) ts = (us : List scop.Tree) × (vs : List scop.Tree) × (ts ≡ us ++ vs)
       × MeansAt words s at i us × MeanAt words s (at + width (item_elements i)) is vs
 
--- an array's extents are whole numbers of the parameters in front of it, whatever stands behind them
-pub record ArrayMeans (n : ℕ) (fs : List Formula) (d : Declaration) : Type 0 where
+-- an array has cells of this type; its extents are whole numbers of the parameters in front of it, whatever stands
+-- behind them
+pub record ArrayMeans (n : ℕ) (w : Width) (fs : List Formula) (d : Declaration) : Type 0 where
   pub before : d.parameters_before ≡ n
+  pub type : (d.narrow ≡ true) ↔ (w ≡ Narrow)
   pub defined : All HasWhole fs
   pub extents : (p later : List ℤ) → length p ≡ n → values d.extents (p ++ later) ≡ map (whole p) fs
 
 -- the arrays that a parameter declares, which begins at a place
 abbrev pub DeclaresAt : Words → Scope → ℕ → Parameter → List Declaration → Type 0
 DeclaresAt words s at number ds = ds ≡ []
-DeclaresAt words s at (array x xs) ds = (d : Declaration) × (ds ≡ d ∷ []) × (d.name ≡ words.spelling (at + 1))
-    × NamesMean s × ArrayMeans (length s.parameters) (extents_in words s (at + 1 + 1) (x ∷ xs)) d
+DeclaresAt words s at (array w x xs) ds = (d : Declaration) × (ds ≡ d ∷ []) × (d.name ≡ words.spelling (at + 1))
+    × NamesMean s × ArrayMeans (length s.parameters) w (extents_in words s (at + 1 + 1) (x ∷ xs)) d
 
 -- those of parameters, each behind a sign
 abbrev pub DeclareAt : Words → Scope → ℕ → List Parameter → List Declaration → Type 0
@@ -101,11 +107,12 @@ DeclareAt words s at (p ∷ ps) ds = (es : List Declaration) × (fs : List Decla
     × DeclaresAt words s (at + 1) p es
     × DeclareAt words (behind_parameter words s (at + 1) p) (at + 1 + width (parameter_elements p)) ps fs
 
--- a program means what a kernel of these words does, and has its names in the order in which they mean
+-- a program means what a kernel of these words does, and has its names and arrays in the order in which they mean
 pub record Means (words : Words) (k : Kernel) (program : Program) : Type 0 where
   pub name : program.name ≡ words.spelling 1
   pub parameters : program.parameters ≡ (body_scope words k).parameters
   pub names : map (λ d. d.name) program.arrays ≡ map (λ a. a.name) (body_scope words k).arrays
+  pub widths : narrow_arrays program ≡ map (λ a. a.narrow) (body_scope words k).arrays
   pub arrays : (es : List Declaration) × (fs : List Declaration) × (program.arrays ≡ es ++ fs)
       × DeclaresAt words no_scope 3 k.first es × DeclareAt words (first_scope words k) (others_at k) k.others fs
   pub body : (ts : List scop.Tree) × (program.body ≡ trees_of ts)

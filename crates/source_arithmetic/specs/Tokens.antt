@@ -36,8 +36,8 @@ StandsBetween ts look from to (call m f at) = (from ≤ at) × IsAt ts at token.
     × (m ≡ look.meaning at) × StandsBetween ts look (at + 1 + 1) to f
 StandsBetween ts look from to (unary s f at) =
     (from ≤ at) × IsAt ts at (sign_token s) × StandsBetween ts look (at + 1) to f
-StandsBetween ts look from to (cast f at) = (from ≤ at) × IsAt ts at token.Open × IsAt ts (at + 1) token.Uint64
-    × StandsBetween ts look (at + 1 + 1 + 1) to f
+StandsBetween ts look from to (cast w f at) = (from ≤ at) × IsAt ts at token.Open
+    × IsAt ts (at + 1) (token.Unsigned w) × StandsBetween ts look (at + 1 + 1 + 1) to f
 StandsBetween ts look from to (binary o f g at) =
     StandsBetween ts look from at f × IsAt ts at (token.Binary o) × StandsBetween ts look (at + 1) to g
 
@@ -103,7 +103,7 @@ ExtentsStand ts look at (f ∷ fs) = (to : ℕ) × IsAt ts at token.OpenIndex ×
 -- a parameter that begins at a place, with its name behind its type
 abbrev pub ParameterStands : List Token → Words → Scope → ℕ → Parameter → Type 0
 ParameterStands ts words s at number = IsAt ts at (token.Outside outside.Int64) × IsAt ts (at + 1) token.Name
-ParameterStands ts words s at (array x xs) = IsAt ts at token.Uint64 × IsAt ts (at + 1) token.Name
+ParameterStands ts words s at (array w x xs) = IsAt ts at (token.Unsigned w) × IsAt ts (at + 1) token.Name
     × ExtentsStand ts (look words s) (at + 1 + 1) (extents_in words s (at + 1 + 1) (x ∷ xs))
 
 -- parameters, each behind a comma, and the parenthesis behind them
@@ -135,7 +135,7 @@ pub record KernelStands (ts : List Token) (words : Words) (k : Kernel) : Type 0 
   pub items : ItemsStand ts words (body_scope words k) (items_at k) k.items
   pub ends : IsAt ts (items_at k + width (all_elements k.items)) (token.Outside outside.BraceClose)
 
--- a node of an expression stands at a token of its kind, a subscript and a call at their first bracket
+-- a node of an expression stands at a token of its kind, a subscript, a call and a cast at their first bracket
 abbrev pub NodeStands : List Token → Node → Type 0
 NodeStands ts (node.Constant s at) = IsAt ts at (token.Constant s)
 NodeStands ts (node.Name at) = IsAt ts at token.Name
@@ -143,5 +143,5 @@ NodeStands ts (node.Index at) = IsAt ts at token.OpenIndex
 NodeStands ts (node.BareCall at) = IsAt ts at token.Open
 NodeStands ts (node.Call at) = IsAt ts at token.Open
 NodeStands ts (node.Unary s at) = IsAt ts at (sign_token s)
-NodeStands ts (node.Cast at) = IsAt ts at token.Open
+NodeStands ts (node.Cast w at) = IsAt ts at token.Open × IsAt ts (at + 1) (token.Unsigned w)
 NodeStands ts (node.Binary o at) = IsAt ts at (token.Binary o)

@@ -4,15 +4,18 @@ ghost use Rattle.std.specs.Prelude.{◌+ℤ◌, ◌++◌, ◌<◌, ◌↔◌, �
 ghost use Rattle.std.specs.Prelude.{◌^◌, false, map, pos, unsigned_abs};
 ghost use Rattle.expression_grammar.specs.Grammar.{IsExpression};
 ghost use Rattle.expression_grammar.specs.Tree.{Tree, tokens_of, written};
+ghost use Rattle.expression_grammar.specs.Width.{Width};
 ghost use Rattle.kernel_grammar.specs.Kernel.{Kernel};
 ghost use Rattle.whole_numbers.specs.Affine.{value_of};
 ghost use Rattle.scop_lexer.specs.Bytes.{Text};
 ghost use Rattle.scop_lexer.specs.declared.token.Token.{Token};
 ghost use Rattle.scop_syntax.specs.Cells.{Cell, cell_of, reads, reads_of, values};
+ghost use Rattle.scop_syntax.specs.Execution.{held};
 ghost use Rattle.scop_syntax.specs.Statements.{AllHold};
 ghost use Rattle.scop_syntax.specs.Tree.{Program};
 ghost use Rattle.scop_syntax.specs.Values.{stored_by, value_on};
 ghost use Rattle.scop_syntax.specs.Walk.{condition_at, turn_point};
+ghost use Rattle.scop_syntax.specs.Widths.{HoldWidths};
 ghost use Rattle.scop_roles.specs.declared.formula.Meaning.TheVariants as meaning;
 ghost use Rattle.scop_roles.specs.declared.formula.Role.TheVariants as role;
 ghost use Rattle.scop_roles.specs.Faults.{faults, first, place_faults};
@@ -21,18 +24,18 @@ ghost use Rattle.scop_roles.specs.Formula.{Formula, Lookup, formula};
 ghost use Rattle.scop_roles.specs.Scope.{IsArray, IsInScope};
 ghost use Rattle.scop_roles.specs.Values.{access, expression, tests};
 ghost use Rattle.scop_units.specs.Loops.{LoopHead, loop_faults, loop_of};
-ghost use Rattle.scop_units.specs.Scopes.{Scope, entries, meaning_in, with_loop};
+ghost use Rattle.scop_units.specs.Scopes.{Scope, entries, look, meaning_in, with_loop};
 ghost use Rattle.scop_units.specs.Units.{Stored, array_faults, array_of, declared_over, extent_faults, statement_of};
 ghost use Rattle.scop_units.specs.Units.{stored_faults};
 ghost use Rattle.scop_units.specs.Words.{Words, grammar_tokens, words_of};
 ghost use Rattle.scop_parser.specs.Spelling.{IsText, SpellsProgram};
 ghost use Rattle.source_arithmetic.specs.Arithmetic.{HasCell, HasNoComma, HasStep, HasStored, HasTruth, HasWhole};
-ghost use Rattle.source_arithmetic.specs.Arithmetic.{HasWord};
-ghost use Rattle.source_arithmetic.specs.Arithmetic.{Holds, IsNameOf, after_step, cell, cells_in};
+ghost use Rattle.source_arithmetic.specs.Arithmetic.{HasWord, HoldTypes};
+ghost use Rattle.source_arithmetic.specs.Arithmetic.{Holds, IsNameOf, after_step, cell, cell_class, cells_in, class};
 ghost use Rattle.source_arithmetic.specs.Arithmetic.{cells_read, stored, whole, word};
 ghost use Rattle.source_arithmetic.specs.Limits.{IsFitLoop, IsFitStored, IsFitWord, IsLinear, IsLinearPlace};
 ghost use Rattle.source_arithmetic.specs.Limits.{IsLinearTruth};
-ghost use Rattle.source_arithmetic.specs.Meaning.{Means};
+ghost use Rattle.source_arithmetic.specs.Meaning.{Means, NamesMean};
 ghost use Rattle.source_arithmetic.specs.Tokens.{KernelStands, NodeStands};
 
 use scop_roles::laws::{faultless_formulas_are_within_limits, formulas_are_in_scope};
@@ -49,11 +52,13 @@ pub fn faultless_texts_have_meanings()
         → All HasWhole fs }
     ensures statement { (ranks : List ℕ) (n : ℕ) (s : Stored) → All (λ r. 1 ≤ r) ranks → IsInScope ranks s.value
         → HasNoComma s.value → stored_faults n s ≡ []
-        → HasCell s.cell × HasWord s.value × HasStored s.assign s.value }
+        → HasCell s.cell × HasWord s.value × HasStored (cell_class s.cell) s.assign s.value }
     ensures loops { (s : Scope) (h : LoopHead) → loop_faults s h ≡ []
         → HasWhole h.first × HasTruth h.second × HasStep h.change }
     ensures names { (s : Scope) (w : Text) (k : ℕ) → meaning_in s w ≡ meaning.Variable k → k < entries s }
-{}
+{
+    faultless_formulas_are_within_limits();
+}
 
 /// The form of an affine expression has at each point the whole number that the expression is there. One without a name
 /// is small, so that what C computes of ints alone does not overflow.
@@ -80,21 +85,28 @@ pub fn accesses_are_cells()
 
 /// The extents of an array, over all parameters of a kernel, are the whole numbers of its text over those in front.
 pub fn extents_are_whole_numbers()
-    ensures { (words : Words) (s : Scope) (at : ℕ) (fs : List Formula) (n : ℕ) (p later : List ℤ) → length p ≡ entries s
-        → array_faults words s at fs ≡ []
-        → values (declared_over n (array_of words s at fs)).extents (p ++ later) ≡ map (λ f. whole p f) fs }
+    ensures { (words : Words) (s : Scope) (at : ℕ) (w : Width) (fs : List Formula) (n : ℕ) (p later : List ℤ)
+        → length p ≡ entries s → array_faults words s at fs ≡ []
+        → values (declared_over n (array_of words s at w fs)).extents (p ++ later) ≡ map (λ f. whole p f) fs }
 {
     faultless_formulas_are_within_limits();
 }
 
-/// A value reads the cells of its places from left to right, and over what they hold, whatever that is, it is the
-/// expression's value modulo 2^64.
+/// A value reads the cells of its places from left to right, and over what they hold, whatever numbers of their types,
+/// it is the expression's value.
 pub fn values_are_words()
     ensures reads { (n : ℕ) (f : Formula) (p : List ℤ) → length p ≡ n → first (faults n role.Value f) ≡ None
         → map (λ access. cell_of access p) (reads_of (expression n f)) ≡ cells_in p f }
     ensures value { (ranks : List ℕ) (n : ℕ) (f : Formula) (p : List ℤ) (held : Cell → ℕ) → length p ≡ n
-        → IsInScope ranks f → HasNoComma f → first (faults n role.Value f) ≡ None
+        → IsInScope ranks f → HasNoComma f → first (faults n role.Value f) ≡ None → HoldTypes held p f
         → value_on (expression n f) p (map held (cells_in p f)) ≡ word held p f }
+{}
+
+/// Contents with no more than 32 bits in arrays of uint32_t hold numbers of their types wherever a text reads them.
+pub fn contents_hold_their_types()
+    ensures { (words : Words) (s : Scope) (at : ℕ) (t : Tree) (p : List ℤ) (extents contents : List (List ℕ))
+        → NamesMean s → HoldWidths (map (λ a. a.narrow) s.arrays) contents
+        → HoldTypes (held extents contents) p (formula (look words s) at t) }
 {}
 
 /// An expression of the grammar has commas in calls alone, so the law of values is about each of them.
@@ -111,9 +123,9 @@ pub fn statements_store_words()
         → map (λ access. cell_of access p) (reads (statement_of n s))
         ≡ cells_read s.assign (cell p s.cell) (cells_in p s.value) }
     ensures right { (ranks : List ℕ) (n : ℕ) (s : Stored) (p : List ℤ) (held : Cell → ℕ) → length p ≡ n
-        → IsInScope ranks s.value → HasNoComma s.value → stored_faults n s ≡ []
+        → IsInScope ranks s.value → HasNoComma s.value → stored_faults n s ≡ [] → HoldTypes held p s.value
         → stored_by (statement_of n s).right p (map held (cells_read s.assign (cell p s.cell) (cells_in p s.value)))
-        ≡ stored s.assign (held (cell p s.cell)) (word held p s.value) }
+        ≡ stored (cell_class s.cell) (class s.value) s.assign (held (cell p s.cell)) (word held p s.value) }
 {}
 
 /// Inside a loop its iterator, and no other name, means the entry behind those outside, and all other names mean what

@@ -3,4 +3,5 @@
 //! `specs/Arithmetic` need not read how an expression is turned into them.
 #![tactic(auto)]
 
+pub mod examples;
 pub mod laws;

@@ -8,4 +8,5 @@ pub returns-clause-reads : goal.returns-clause-reads
 returns-clause-reads c n s p long e = statement_reads n s p long e
 
 pub returns-clause-right : goal.returns-clause-right
-returns-clause-right c ranks n s p held long scope plain e = right_stores ranks n s p held long scope plain e
+returns-clause-right c ranks n s p held long scope plain e types =
+    right_stores ranks n s p held long scope plain e types

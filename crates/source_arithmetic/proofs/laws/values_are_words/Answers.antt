@@ -6,4 +6,4 @@ pub returns-clause-reads : goal.returns-clause-reads
 returns-clause-reads c n f p long h = reads_same n f p long h
 
 pub returns-clause-value : goal.returns-clause-value
-returns-clause-value c ranks n f p held long s plain h = word_read ranks n f p held long s plain h
+returns-clause-value c ranks n f p held long s plain h types = word_read ranks n f p held long s plain h types
