@@ -18,3 +18,4 @@ pub mod ReadSteps
 pub mod BoundTexts
 pub mod Divisions
 pub mod Iterators
+pub mod PrintedValues

@@ -34,7 +34,7 @@ head =
       condition = form_of (pos 0 ∷ pos 1 ∷ []) (pos 0);
     }
 
--- `void k(int64_t N, uint64_t A[N + 1])`, whose loop's body is `A[i] += ..`
+-- `void k(int64_t N, uint64_t A[N + 1], uint32_t B[N])`, whose loop's body is `A[i] += ..`
 abbrev pub kernel : Program
 kernel =
     record {
@@ -44,7 +44,13 @@ kernel =
           record {
             name = codes "A";
             parameters_before = 1;
+            narrow = false;
             extents = form_of (pos 1 ∷ []) (pos 1) ∷ [];
+          } ∷ record {
+            name = codes "B";
+            parameters_before = 1;
+            narrow = true;
+            extents = form_of (pos 1 ∷ []) (pos 0) ∷ [];
           } ∷ [];
       body = source.more (source.loop head (source.more (source.statement (record {
         place = cell 0 (form_of (pos 0 ∷ pos 1 ∷ []) (pos 0) ∷ []);
@@ -78,7 +84,7 @@ text = codes "#include <stdint.h>\n"
     ++ codes "static int64_t pp_ceild(int64_t n, int64_t d) { return n < 0 ? -((-n) / d) : (n + d - 1) / d; }\n"
     ++ codes "static int64_t pp_max(int64_t a, int64_t b) { return a > b ? a : b; }\n"
     ++ codes "static int64_t pp_min(int64_t a, int64_t b) { return a < b ? a : b; }\n"
-    ++ codes "void k(int64_t N, uint64_t A[N + 1]) {\n"
+    ++ codes "void k(int64_t N, uint64_t A[N + 1], uint32_t B[N]) {\n"
     ++ codes "  #pragma omp parallel for\n"
     ++ codes "  for (int64_t pp_1 = pp_max(pp_ceild(-N + 3, 2), 0); pp_1 <= pp_floord(N, 32); pp_1++) {\n"
     ++ codes "    for (int64_t pp_2 = 32*pp_1; pp_2 <= pp_min(32*pp_1 + 31, N); pp_2++) {\n"
@@ -90,13 +96,25 @@ text = codes "#include <stdint.h>\n"
     ++ codes "  }\n"
     ++ codes "}\n"
 
+-- `i`
+abbrev iterator : Affine
+iterator = form_of (pos 0 ∷ pos 1 ∷ []) (pos 0)
+
 -- `A[i]`
 abbrev here : Access
-here = cell 0 (form_of (pos 0 ∷ pos 1 ∷ []) (pos 0) ∷ [])
+here = cell 0 (iterator ∷ [])
 
--- a statement whose place is that cell
+-- `B[i]`
+abbrev there : Access
+there = cell 1 (iterator ∷ [])
+
+-- a statement whose place is that cell of A
 abbrev to_here : Right → Statement
 to_here right = record { place = here; right = right }
+
+-- or that of B
+abbrev to_there : Right → Statement
+to_there right = record { place = there; right = right }
 
 -- statements with the operators and the kinds of right side that the tree's own has not
 abbrev pub statements : List Statement
@@ -109,11 +127,17 @@ statements =
     ∷ to_here (source.combined source.bits_and (source.constant 4))
     ∷ to_here (source.combined source.bits_or (source.constant 5))
     ∷ to_here (source.combined source.bits_xor (source.constant 6))
-    ∷ to_here (source.moved_left 7) ∷ to_here (source.moved_right 8) ∷ []
+    ∷ to_here (source.moved_left 7) ∷ to_here (source.moved_right 8)
+    ∷ to_here (source.assigned (source.narrowed source.explicit (source.read here)))
+    ∷ to_there (source.assigned (source.narrowed source.implied (source.binary source.times (source.read there)
+    (source.narrowed source.converted (source.constant 5)))))
+    ∷ to_there (source.combined_narrow source.plus (source.narrowed source.converted (source.affine iterator)))
+    ∷ to_there (source.moved_left_narrow 9) ∷ []
 
 -- their texts, where the iterator is `i`
 abbrev pub texts : List Text
 texts =
     codes "A[i] = ((A[i] - 1ULL) | (A[i] ^ ((A[i] >> 7ULL) & 3ULL)))" ∷ codes "A[i] -= 2ULL" ∷ codes "A[i] *= 3ULL"
     ∷ codes "A[i] &= 4ULL" ∷ codes "A[i] |= 5ULL" ∷ codes "A[i] ^= 6ULL" ∷ codes "A[i] <<= 7ULL" ∷ codes "A[i] >>= 8ULL"
-    ∷ []
+    ∷ codes "A[i] = (uint32_t)A[i]" ∷ codes "B[i] = (B[i] * (uint32_t)(5))" ∷ codes "B[i] += (uint32_t)(i)"
+    ∷ codes "B[i] <<= 9ULL" ∷ []

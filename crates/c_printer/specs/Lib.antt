@@ -9,3 +9,4 @@ pub mod Naming
 pub mod Examples
 pub mod Iterators
 pub mod Divisions
+pub mod Values

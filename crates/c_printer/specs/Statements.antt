@@ -5,7 +5,8 @@ use Rattle.whole_numbers.specs.Affine.{Affine}
 use Rattle.scop_lexer.specs.Bytes.{Text}
 use Rattle.scop_syntax.specs.Tree.{Access, Operator, plus, minus, times, bits_and, bits_or, bits_xor, Expression, read}
 use Rattle.scop_syntax.specs.Tree.{constant, affine, negated, complemented, cast, binary, shifted_left, shifted_right}
-use Rattle.scop_syntax.specs.Tree.{Right, assigned, combined, moved_left, moved_right, Statement, Declaration, Program}
+use Rattle.scop_syntax.specs.Tree.{explicit, implied, converted, narrowed, Right, assigned, combined, moved_left}
+use Rattle.scop_syntax.specs.Tree.{moved_right, combined_narrow, moved_left_narrow, Statement, Declaration, Program}
 use Rattle.form_text.specs.Forms.{form_text}
 
 -- a text between two others
@@ -37,7 +38,13 @@ operator_text bits_xor = codes "^"
 abbrev pub constant_value_text : ℕ → Text
 constant_value_text c = decimal c ++ codes "ULL"
 
--- a value, each operator in parentheses with its operands
+-- a signed part as the number that it is; the text of any other value stays
+abbrev pub signed_text : List Text → Expression → Text → Text
+signed_text names (constant c) text = between (codes "(") (decimal c) (codes ")")
+signed_text names (affine form) text = between (codes "(") (form_text names form) (codes ")")
+signed_text names e text = text
+
+-- a value, each operator in parentheses with its operands; what C itself keeps to 32 bits needs no cast
 abbrev pub value_text : Program → List Text → Expression → Text
 value_text program names (read access) = access_text program names access
 value_text program names (constant c) = constant_value_text c
@@ -52,6 +59,10 @@ value_text program names (shifted_left e k) =
     codes "(" ++ (value_text program names e ++ between (codes " << ") (constant_value_text k) (codes ")"))
 value_text program names (shifted_right e k) =
     codes "(" ++ (value_text program names e ++ between (codes " >> ") (constant_value_text k) (codes ")"))
+value_text program names (narrowed explicit e) = codes "(uint32_t)" ++ value_text program names e
+value_text program names (narrowed implied e) = value_text program names e
+value_text program names (narrowed converted e) =
+    codes "(uint32_t)" ++ signed_text names e (value_text program names e)
 
 -- ` ASSIGN VALUE`
 abbrev pub right_text : Program → List Text → Right → Text
@@ -60,6 +71,9 @@ right_text program names (combined op e) =
     between (codes " ") (operator_text op) (codes "= ") ++ value_text program names e
 right_text program names (moved_left k) = codes " <<= " ++ constant_value_text k
 right_text program names (moved_right k) = codes " >>= " ++ constant_value_text k
+right_text program names (combined_narrow op e) =
+    between (codes " ") (operator_text op) (codes "= ") ++ value_text program names e
+right_text program names (moved_left_narrow k) = codes " <<= " ++ constant_value_text k
 
 -- `PLACE ASSIGN VALUE` over the parameters and the source iterators round it
 unfoldable pub statement_text : Program → List Text → Statement → Text
@@ -74,9 +88,14 @@ abbrev pub listed : Bool → List Text → Text
 listed first [] = []
 listed first (text ∷ texts) = comma first ++ (text ++ listed false texts)
 
+-- the type of an array's cells, which have 32 bits or 64
+abbrev pub cell_type : Bool → Text
+cell_type true = codes "uint32_t "
+cell_type false = codes "uint64_t "
+
 -- an array as a parameter of the function
 abbrev pub array_text : List Text → Declaration → Text
-array_text parameters d = between (codes "uint64_t ") d.name (subscripts_text parameters d.extents)
+array_text parameters d = between (cell_type d.narrow) d.name (subscripts_text parameters d.extents)
 
 -- the arrays that are declared behind k parameters
 abbrev pub arrays_behind : List Text → ℕ → List Declaration → List Text

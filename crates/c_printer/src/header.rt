@@ -3,8 +3,8 @@
 ghost use Rattle.std.specs.Prelude.{◌≡◌, ◌++◌, List, true, codes, map, IfOk, OnOk};
 ghost use Rattle.scop_lexer.specs.Bytes.{Text};
 ghost use Rattle.scop_syntax.specs.View.{program_of};
-ghost use Rattle.c_printer.specs.Statements.{array_text, arrays_behind, between, comma, declared_from, front_text};
-ghost use Rattle.c_printer.specs.Statements.{listed, prologue};
+ghost use Rattle.c_printer.specs.Statements.{array_text, arrays_behind, between, cell_type, comma, declared_from};
+ghost use Rattle.c_printer.specs.Statements.{front_text, listed, prologue};
 
 use crate::texts::put_between;
 use crate::values::put_subscripts;
@@ -38,6 +38,16 @@ fn put_comma(out: &mut Vec<u8>, first: bool) -> Result<(), AllocError>
     put_bytes(out, b", ")
 }
 
+/// Puts the type of an array's cells.
+fn put_cell_type(out: &mut Vec<u8>, narrow: bool) -> Result<(), AllocError>
+    ensures { OnOk result (out.new.items ≡ out.old.items ++ cell_type narrow) }
+{
+    if narrow {
+        return put_bytes(out, b"uint32_t ");
+    }
+    put_bytes(out, b"uint64_t ")
+}
+
 /// Puts an array as a parameter of the function.
 #[tactic(auto, using(crate::proofs::PutTexts::putting), unfolding(crate::specs::Statements::between))]
 fn put_array(
@@ -50,7 +60,7 @@ fn put_array(
         ≡ out.old.items ++ (comma first ++ array_text (map (λ n. n.items) parameters.now) array.now)) }
 {
     put_comma(out, first)?;
-    put_bytes(out, b"uint64_t ")?;
+    put_cell_type(out, array.narrow)?;
     put_bytes(out, &array.name)?;
     put_subscripts(out, parameters, &array.extents)
 }

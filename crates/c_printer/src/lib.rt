@@ -25,7 +25,7 @@ mod values;
 pub use examples::{a_tree_and_its_text, statements_and_their_texts};
 pub use meaning_laws::{
     printed_divisions_are_those_of_the_tree, printed_iterators_are_the_source_s,
-    the_functions_of_a_text_round_and_choose,
+    printed_values_are_those_of_the_tree, the_functions_of_a_text_round_and_choose,
 };
 pub use nodes::print;
 pub use read_nodes::read_back;

@@ -5,13 +5,13 @@ ghost use Rattle.form_text.specs.Forms.{form_text};
 ghost use Rattle.scop_syntax.specs.Tree.{Declaration};
 ghost use Rattle.scop_syntax.specs.View.{expression_of, operator_of, program_of, right_of, statement_of};
 ghost use Rattle.c_printer.specs.Statements.{access_text, between, constant_value_text, operator_text, right_text};
-ghost use Rattle.c_printer.specs.Statements.{statement_text, subscripts_text, value_text};
+ghost use Rattle.c_printer.specs.Statements.{signed_text, statement_text, subscripts_text, value_text};
 
 use crate::forms::put_form;
 use crate::texts::put_between;
 use form_text::put_bytes;
 use itoa::Buffer;
-use scop_syntax::tree::{Access, Aff, Expr, Kernel, Name, Operator, Right, Stmt};
+use scop_syntax::tree::{Access, Aff, Expr, Kernel, Name, Narrowing, Operator, Right, Stmt};
 use std::alloc::AllocError;
 
 /// Puts an operator.
@@ -127,6 +127,41 @@ fn put_value(
         }
         Expr::ShiftedLeft(inner, count) => put_shifted(inner, out, kernel, names, b" << ", *count),
         Expr::ShiftedRight(inner, count) => put_shifted(inner, out, kernel, names, b" >> ", *count),
+        Expr::Narrowed(narrowing, inner) => match narrowing {
+            Narrowing::Explicit => put_behind(inner, out, kernel, names, b"(uint32_t)"),
+            Narrowing::Implied => put_value(inner, out, kernel, names),
+            Narrowing::Converted => put_converted(inner, out, kernel, names),
+        },
+    }
+}
+
+/// Puts a value behind a cast to 32 bits, a signed part as the number that it is.
+#[cycle(writing)]
+#[tactic(auto, using(crate::proofs::PutTexts::putting))]
+fn put_converted(
+    value: &Expr,
+    out: &mut Vec<u8>,
+    kernel: &Kernel,
+    names: &[Name],
+) -> Result<(), AllocError>
+    ensures { OnOk result (out.new.items ≡ out.old.items ++ (codes "(uint32_t)"
+        ++ signed_text (map (λ n. n.items) names.now) (expression_of value.now)
+        (value_text (program_of kernel.now) (map (λ n. n.items) names.now) (expression_of value.now)))) }
+{
+    put_bytes(out, b"(uint32_t)")?;
+    match value {
+        Expr::Constant(number) => {
+            put_between(out, b"(", Buffer::new().format(*number).as_bytes(), b")")
+        }
+        Expr::Affine(form) => put_enclosed(out, names, b"(", form, b")"),
+        Expr::Read(_)
+        | Expr::Negated(_)
+        | Expr::Complemented(_)
+        | Expr::Cast(_)
+        | Expr::Binary(..)
+        | Expr::ShiftedLeft(..)
+        | Expr::ShiftedRight(..)
+        | Expr::Narrowed(..) => put_value(value, out, kernel, names),
     }
 }
 
@@ -227,11 +262,11 @@ fn put_right(
 {
     match right {
         Right::Assigned(value) => put_behind(value, out, kernel, names, b" = "),
-        Right::Combined(operator, value) => {
+        Right::Combined(operator, value) | Right::CombinedNarrow(operator, value) => {
             put_operator(out, b" ", *operator, b"= ")?;
             put_value(value, out, kernel, names)
         }
-        Right::ShiftedLeft(count) => {
+        Right::ShiftedLeft(count) | Right::ShiftedLeftNarrow(count) => {
             put_bytes(out, b" <<= ")?;
             put_number(out, u64::from(*count))
         }
