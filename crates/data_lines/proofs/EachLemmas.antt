@@ -15,7 +15,7 @@ use Rattle.data_lines.specs.declared.places.Place.{Place}
 use Rattle.data_lines.specs.declared.places.Place.TheVariants.{Nowhere, Parameter, Array}
 use Rattle.data_lines.specs.Words.{unindented, words_of}
 use Rattle.data_lines.specs.Heads.{named_list}
-use Rattle.data_lines.specs.Sheets.{array_place, found, names_of, parameter_place, place_of}
+use Rattle.data_lines.specs.Sheets.{array_place, found, is_narrow, names_of, parameter_place, place_of}
 use Rattle.data_lines.specs.Naming.{AreLines, AreNumbers, IsBlank, IsValue, Lists, Names, SaysCells, SaysValue}
 use Rattle.data_lines.proofs.NamingLemmas.{blank_lists, same_line}
 
@@ -223,7 +223,7 @@ each_says_value program lines words i value each within is =
 
 pub each_says_cells : (program : Program) (lines : ℕ → Text) (words : ℕ → List Text) (j : ℕ) (cells : List ℕ)
     → NameEach program lines words → j < length program.arrays
-    → AreNumbers cells (words (length program.parameters + j)) → SaysCells program j cells lines
+    → AreNumbers (is_narrow program j) cells (words (length program.parameters + j)) → SaysCells program j cells lines
 each_says_cells program lines words j cells each within are =
     let n = length program.parameters in
     let here : j < length (array_names program) =

@@ -16,16 +16,18 @@ use Rattle.data_lines.specs.declared.refusal.DataRefusal.TheVariants.{Line, Unkn
 use Rattle.data_lines.specs.declared.refusal.DataRefusal.TheVariants.{ParameterRange}
 use Rattle.data_lines.specs.Words.{lines_of, unindented, words_of}
 use Rattle.data_lines.specs.Heads.{named_list}
-use Rattle.data_lines.specs.Numbers.{number_of, numbers_of, with_number}
-use Rattle.data_lines.specs.Sheets.{Given, nothing, listed, seeded, Sheet, empty_sheet, place_of}
+use Rattle.data_lines.specs.Numbers.{cells_of, number_of, numbers_of, with_number}
+use Rattle.data_lines.specs.Sheets.{Given, nothing, listed, seeded, Sheet, empty_sheet, is_narrow, place_of}
 use Rattle.data_lines.specs.Entries.{is_given, is_seed, list_said, row_said, seed_of_number, seed_said, sheet_said}
 use Rattle.data_lines.specs.Entries.{value_of_number, value_said, with_line, with_lines, with_list, with_row, with_text}
 use Rattle.data_lines.specs.Entries.{with_value, with_words, written_at}
 use Rattle.data_lines.specs.Naming.{AreInOrder, AreLines, Breaks, Holds, HoldsRow, HoldsValue, IsBlank, IsFirstBroken}
 use Rattle.data_lines.specs.Naming.{IsInOrder, IsRepeated, IsUnnamed, IsValue, KeepsForm, KeepsLesser, Lists, Names}
-use Rattle.data_lines.specs.Naming.{at, line_of, line_told, numerals, takes}
+use Rattle.data_lines.specs.Naming.{are_narrow, at, line_of, line_told, numerals, takes}
 use Rattle.data_lines.proofs.NamingLemmas.{array_within, blank_lists, cons_not_nil, numerals_all}
 use Rattle.data_lines.proofs.NamingLemmas.{numerals_behind, parameter_within, same_line, some_not_none, true_not_false}
+use Rattle.data_lines.proofs.NamingLemmas.{width_all, width_behind}
+use Rattle.data_lines.proofs.NumberLemmas.{fitting_are}
 use Rattle.data_lines.proofs.OrderLemmas.{all_in_order, line_in_order, none_again}
 
 -- a line is met behind others, which the sheet holds, among all lines
@@ -304,8 +306,8 @@ keeps_form s place words known lists unnamed taken = record {
 
 -- a line with a word that is no number
 no_number_told : (s : Spot) (place : Place) (words : List Text) → (place ≡ Nowhere → ⊥) → ListsAt s place words
-    → IsUnnamed s.program place s.old → takes place words ≡ true → numbers_of (numerals words) ≡ None
-    → Leaves s (Err (Number s.k))
+    → IsUnnamed s.program place s.old → takes place words ≡ true
+    → cells_of (are_narrow s.program place words) (numerals words) ≡ None → Leaves s (Err (Number s.k))
 no_number_told s place words known lists unnamed taken none = told_here s (Number s.k) refl
     (place, words, lists_all s place words lists, none) (keeps_form s place words known lists unnamed taken)
 
@@ -333,7 +335,8 @@ value_by_size s i value word false lists unnamed plain number is =
     }) (
       keeps_form s (Parameter i) (word ∷ []) (λ same. cc) lists unnamed (ap not plain),
       λ other. let same = same_line s.program (Parameter i) other.0 (word ∷ []) other.1 (s.all s.k) here other.2 in
-          some_not_none (value ∷ []) (sym numeral ∙ (ap (λ ws. numbers_of (numerals ws)) same.1 ∙ other.3)),
+          some_not_none (value ∷ []) (sym numeral
+          ∙ (ap₂ (λ p ws. cells_of (are_narrow s.program p ws) (numerals ws)) same.0 same.1 ∙ other.3)),
     )
 
 value_by_number : (s : Spot) (i : ℕ) (word : Text) (o : Option ℕ) → ListsAt s (Parameter i) (word ∷ [])
@@ -377,7 +380,8 @@ seed_by_number s j first word (Some seed) lists unnamed keyword is =
     )
 seed_by_number s j first word None lists unnamed keyword is =
     no_number_told s (Array j) (first ∷ word ∷ []) (λ same. cc) lists unnamed refl
-    (ap numbers_of (numerals_behind first (word ∷ []) keyword) ∙ one_number word is)
+    (ap₂ cells_of (width_behind s.program j first (word ∷ []) keyword) (numerals_behind first (word ∷ []) keyword)
+    ∙ one_number word is)
 
 seed_leaves : (s : Spot) (j : ℕ) (first : Text) (words : List Text) → ListsAt s (Array j) (first ∷ words)
     → IsUnnamed s.program (Array j) s.old → is_seed first ≡ true
@@ -397,28 +401,30 @@ plain_taken j first (word ∷ other ∷ words) plain = ap not plain
 
 list_leaves : (s : Spot) (j : ℕ) (first : Text) (words : List Text) (o : Option (List ℕ))
     → ListsAt s (Array j) (first ∷ words) → IsUnnamed s.program (Array j) s.old → is_seed first ≡ false
-    → numbers_of (first ∷ words) ≡ o → Leaves s (with_row s.sheet j (list_said s.k o))
+    → cells_of (is_narrow s.program j) (first ∷ words) ≡ o → Leaves s (with_row s.sheet j (list_said s.k o))
 list_leaves s j first words (Some cells) lists unnamed plain is =
+    let are = fitting_are (is_narrow s.program j) (numbers_of (first ∷ words)) cells is in
     row_holds s j (listed s.k cells) (first ∷ words) lists unnamed (
       first ∷ words,
       lists_new s (Array j) (first ∷ words) lists,
-      record { numbers = is; some = omega arith },
+      record { numbers = are.0; some = omega arith; width = are.1 },
     )
 list_leaves s j first words None lists unnamed plain is =
     no_number_told s (Array j) (first ∷ words) (λ same. cc) lists unnamed (plain_taken j first words plain)
-    (ap numbers_of (numerals_all first words plain) ∙ is)
+    (ap₂ cells_of (width_all s.program j first words plain) (numerals_all first words plain) ∙ is)
 
 row_by_word : (s : Spot) (j : ℕ) (first : Text) (words : List Text) (seed : Bool)
     → ListsAt s (Array j) (first ∷ words) → IsUnnamed s.program (Array j) s.old → is_seed first ≡ seed
     → Leaves s (with_row s.sheet j
-    (if seed then seed_said s.k words else list_said s.k (numbers_of (first ∷ words))))
+    (if seed then seed_said s.k words else list_said s.k (cells_of (is_narrow s.program j) (first ∷ words))))
 row_by_word s j first words true lists unnamed is = seed_leaves s j first words lists unnamed is
 row_by_word s j first words false lists unnamed is =
-    list_leaves s j first words (numbers_of (first ∷ words)) lists unnamed is refl
+    list_leaves s j first words (cells_of (is_narrow s.program j) (first ∷ words)) lists unnamed is refl
 
 array_leaves : (s : Spot) (j : ℕ) (first : Text) (words : List Text) (given : Given)
     → ListsAt s (Array j) (first ∷ words) → HoldsRow s.program j s.old given
-    → Leaves s (if is_given given then Err (Repeated s.k) else with_row s.sheet j (row_said s.k (first ∷ words)))
+    → Leaves s (if is_given given then Err (Repeated s.k)
+    else with_row s.sheet j (row_said (is_narrow s.program j) s.k (first ∷ words)))
 array_leaves s j first words nothing lists held = row_by_word s j first words (is_seed first) lists held refl
 array_leaves s j first words (listed line cells) lists held =
     repeated s (Array j) first words (λ same. cc) lists line held.0 held.1
@@ -427,7 +433,7 @@ array_leaves s j first words (seeded seed) lists held =
 
 -- a line by its name and its words
 written_leaves : (s : Spot) (place : Place) (word : Text) (words : List Text) → ListsAt s place (word ∷ words)
-    → Leaves s (written_at s.sheet s.k place (word ∷ words))
+    → Leaves s (written_at s.program s.sheet s.k place (word ∷ words))
 written_leaves s Nowhere word words lists =
     let here = lists_all s Nowhere (word ∷ words) lists in
     told_here s (UnknownName s.k) refl (word ∷ words, here)

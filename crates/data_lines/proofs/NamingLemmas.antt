@@ -13,9 +13,9 @@ use Rattle.data_lines.specs.declared.places.Place.{Place}
 use Rattle.data_lines.specs.declared.places.Place.TheVariants.{Parameter, Array}
 use Rattle.data_lines.specs.Words.{words_of}
 use Rattle.data_lines.specs.Heads.{named_list}
-use Rattle.data_lines.specs.Sheets.{array_place, found, parameter_place, place_of}
+use Rattle.data_lines.specs.Sheets.{array_place, found, is_narrow, parameter_place, place_of}
 use Rattle.data_lines.specs.Entries.{is_seed}
-use Rattle.data_lines.specs.Naming.{AreLines, IsBlank, Lists, numerals}
+use Rattle.data_lines.specs.Naming.{AreLines, IsBlank, Lists, are_narrow, numerals}
 
 no_list : named_list [] ≡ None
 unfolding stands_at
@@ -98,3 +98,12 @@ numerals_all first words plain = ap (λ (b : Bool). if b then words else first �
 
 pub numerals_behind : (first : Text) (words : List Text) → is_seed first ≡ true → numerals (first ∷ words) ≡ words
 numerals_behind first words keyword = ap (λ (b : Bool). if b then words else first ∷ words) keyword
+
+-- and their width
+pub width_all : (program : Program) (j : ℕ) (first : Text) (words : List Text) → is_seed first ≡ false
+    → are_narrow program (Array j) (first ∷ words) ≡ is_narrow program j
+width_all program j first words plain = ap (λ (b : Bool). if b then false else is_narrow program j) plain
+
+pub width_behind : (program : Program) (j : ℕ) (first : Text) (words : List Text) → is_seed first ≡ true
+    → are_narrow program (Array j) (first ∷ words) ≡ false
+width_behind program j first words keyword = ap (λ (b : Bool). if b then false else is_narrow program j) keyword

@@ -1,13 +1,14 @@
--- A number grows with each digit: decimals that are or are no number of 64 bits; a list of numbers, one more.
-use Rattle.std.proofs.Common.{◌≡◌, ◌∙◌, sym, ap, refl, inl, inr, ℕ, suc, ◌+◌, ◌*◌, ◌^◌, ◌<◌, ◌≤◌, Bool, true, false}
-use Rattle.std.proofs.Common.{◌&&◌, ltb, if◌then◌else◌, List, [], ◌∷◌, ◌++◌, length, drop, get_or}
-use Rattle.std.proofs.Common.{drop-cons, lt-ltb, le-ltb, arith}
+-- A number grows with each digit: decimals that are or are no number of 64 bits; a list of numbers, one more; cells.
+use Rattle.std.proofs.Common.{◌≡◌, ◌∙◌, sym, ap, subst, refl, inl, inr, ℕ, suc, ◌+◌, ◌*◌, ◌^◌, ◌<◌, ◌≤◌, Bool, true}
+use Rattle.std.proofs.Common.{false, ◌&&◌, ltb, if◌then◌else◌, List, [], ◌∷◌, ◌++◌, length, drop, get_or}
+use Rattle.std.proofs.Common.{drop-cons, lt-ltb, le-ltb, ltb-true, arith}
 use Rattle.std.proofs.lemmas.Bool.{cases_lt}
+use Rattle.std.proofs.lemmas.List.Sums.{AllPass-from_list_all, list_all-from_AllPass}
 use Rattle.std.specs.Prelude.{Option, Some, None}
 use Rattle.std.specs.List.{list_all}
 use Rattle.scop_lexer.specs.Bytes.{Text, is_digit}
 use Rattle.scop_lexer.specs.Constants.{number_behind, digit_value}
-use Rattle.data_lines.specs.Numbers.{decimal_value, next_number, number_of}
+use Rattle.data_lines.specs.Numbers.{HaveWidth, decimal_value, fitting, next_number, number_of}
 
 -- numbers in front of numbers, where they are there
 abbrev pub with_numbers : List ℕ → Option (List ℕ) → Option (List ℕ)
@@ -51,3 +52,27 @@ no_number word i value within digits numbers none =
     let stop = stopped (is_digit b) (list_all is_digit rest) (10 * value + digit_value b) (decimal_value word) none
     (omega (arith, number_grows (10 * value + digit_value b) rest, whole)) in
     stop ∙ ap (λ (d : Bool). if d && ltb (decimal_value word) (2 ^ 64) then Some (decimal_value word) else None) all
+
+-- cells are numbers of their width
+have_narrow : (numbers cells : List ℕ) (narrow : Bool) → list_all (λ n. ltb n (2 ^ 32)) numbers ≡ narrow
+    → (if narrow then Some numbers else None) ≡ Some cells → (Some numbers ≡ Some cells) × HaveWidth true cells
+have_narrow numbers cells true all is =
+    let same : numbers ≡ cells = cc in
+    let each = AllPass-from_list_all (λ n. ltb n (2 ^ 32)) numbers all in
+    (is, subst (HaveWidth true) same (λ i d within. ltb-true (get_or numbers i d) (2 ^ 32) (each i d within)))
+have_narrow numbers cells false all is = cc
+
+pub fitting_are : (narrow : Bool) (numbers : Option (List ℕ)) (cells : List ℕ) → fitting narrow numbers ≡ Some cells
+    → (numbers ≡ Some cells) × HaveWidth narrow cells
+fitting_are false numbers cells is = (is, tt)
+fitting_are true None cells is = cc
+fitting_are true (Some numbers) cells is =
+    have_narrow numbers cells (list_all (λ n. ltb n (2 ^ 32)) numbers) refl is
+
+-- and numbers of their width are cells
+pub fitting_all : (narrow : Bool) (cells : List ℕ) → HaveWidth narrow cells → fitting narrow (Some cells) ≡ Some cells
+fitting_all false cells have = refl
+fitting_all true cells have =
+    ap (λ (b : Bool). if b then Some cells else None)
+    (list_all-from_AllPass (λ n. ltb n (2 ^ 32)) cells
+    (λ i d within. lt-ltb (get_or cells i d) (2 ^ 32) (have i d within)))

@@ -5,14 +5,14 @@ use Rattle.scop_lexer.specs.Bytes.{Text}
 use Rattle.scop_syntax.specs.Tree.{Program}
 use Rattle.data_lines.specs.declared.places.Place.{Place}
 use Rattle.data_lines.specs.declared.places.Place.TheVariants.{Nowhere, Parameter, Array}
-use Rattle.data_lines.specs.Sheets.{Given, nothing, listed, seeded, Sheet}
+use Rattle.data_lines.specs.Sheets.{Given, nothing, listed, seeded, Sheet, is_narrow}
 use Rattle.data_lines.specs.Naming.{AreInOrder, AreLines, AreNumbers, Holds, HoldsRow, HoldsValue, IsInOrder}
 use Rattle.data_lines.specs.Naming.{IsRepeated, IsSeed, IsValue, Lists, SayInOrder}
 use Rattle.data_lines.proofs.NamingLemmas.{same_words}
 
 value_in_order : (program : Program) (lines : ℕ → Text) (i n : ℕ) (words : List Text) (o : Option ℕ)
     → AreLines program lines → HoldsValue program i lines o → Lists program (Parameter i) words (lines n)
-    → SayInOrder (Parameter i) words
+    → SayInOrder program (Parameter i) words
 value_in_order program lines i n words None are held lists = absurd (held n words lists)
 value_in_order program lines i n words (Some value) are held lists =
     let same = same_words program lines (Parameter i) held.0 n held.1 words are held.2 lists in
@@ -20,17 +20,18 @@ value_in_order program lines i n words (Some value) are held lists =
 
 row_in_order : (program : Program) (lines : ℕ → Text) (j n : ℕ) (words : List Text) (given : Given)
     → AreLines program lines → HoldsRow program j lines given → Lists program (Array j) words (lines n)
-    → SayInOrder (Array j) words
+    → SayInOrder program (Array j) words
 row_in_order program lines j n words nothing are held lists = absurd (held n words lists)
 row_in_order program lines j n words (listed line cells) are held lists =
     let same = same_words program lines (Array j) line n held.0 words are held.1 lists in
-    inl (cells, subst (AreNumbers cells) same held.2)
+    inl (cells, subst (AreNumbers (is_narrow program j) cells) same held.2)
 row_in_order program lines j n words (seeded seed) are held lists =
     let same = same_words program lines (Array j) held.0 n held.1 words are held.2 lists in
     inr (seed, subst (IsSeed seed) same held.3)
 
 words_in_order : (program : Program) (lines : ℕ → Text) (sheet : Sheet) (place : Place) (n : ℕ) (words : List Text)
-    → Holds program lines sheet → (place ≡ Nowhere → ⊥) → Lists program place words (lines n) → SayInOrder place words
+    → Holds program lines sheet → (place ≡ Nowhere → ⊥) → Lists program place words (lines n)
+    → SayInOrder program place words
 words_in_order program lines sheet Nowhere n words holds known lists = known refl
 words_in_order program lines sheet (Parameter i) n words holds known lists =
     value_in_order program lines i n words (get_or sheet.values i None) holds.lines_are (holds.value i) lists

@@ -1,5 +1,5 @@
 -- Lines that are in order say one thing of each parameter and each array, and break no rule.
-use Rattle.std.proofs.Common.{◌≡◌, ◌∙◌, sym, ap, subst, refl, inl, inr, ℕ, true, false, not, List, []}
+use Rattle.std.proofs.Common.{◌≡◌, ◌∙◌, sym, ap, ap₂, subst, refl, inl, inr, ℕ, Bool, true, false, not, List, []}
 use Rattle.std.proofs.Common.{◌∷◌, arith}
 use Rattle.std.proofs.lemmas.Bool.{false_from_ne_true}
 use Rattle.std.proofs.lemmas.Slice.Eq.{bytes_eq-Decides}
@@ -13,11 +13,13 @@ use Rattle.data_lines.specs.declared.refusal.DataRefusal.{DataRefusal}
 use Rattle.data_lines.specs.declared.refusal.DataRefusal.TheVariants.{Line, UnknownName, Repeated, Number}
 use Rattle.data_lines.specs.declared.refusal.DataRefusal.TheVariants.{ParameterRange, Missing, Extent, Cells, Count}
 use Rattle.data_lines.specs.Entries.{is_seed}
-use Rattle.data_lines.specs.Numbers.{number_of, numbers_of, with_number}
+use Rattle.data_lines.specs.Numbers.{cells_of, fitting, number_of, numbers_of, with_number}
+use Rattle.data_lines.specs.Sheets.{is_narrow}
 use Rattle.data_lines.specs.Naming.{AreLines, AreNumbers, AreSound, Breaks, IsAbove, IsFormless, IsSeed, IsValue, Lists}
-use Rattle.data_lines.specs.Naming.{SayInOrder, SaysCells, SaysSeed, SaysValue, numerals, takes}
+use Rattle.data_lines.specs.Naming.{SayInOrder, SaysCells, SaysSeed, SaysValue, are_narrow, numerals, takes}
 use Rattle.data_lines.proofs.NamingLemmas.{array_within, blank_lists, parameter_within, same_line, same_words}
-use Rattle.data_lines.proofs.NamingLemmas.{numerals_all, numerals_behind, some_not_none}
+use Rattle.data_lines.proofs.NamingLemmas.{numerals_all, numerals_behind, some_not_none, width_all, width_behind}
+use Rattle.data_lines.proofs.NumberLemmas.{fitting_all}
 
 -- `seed` is no number, and is not among numbers
 seed_no_number : (word : Text) → is_seed word ≡ true → number_of word ≡ None
@@ -49,8 +51,9 @@ one_seed words v w first second =
     let word : first.word ≡ second.word = cc in
     same_Some v w (sym first.number ∙ (ap number_of word ∙ second.number))
 
-not_both : (words : List Text) (cells : List ℕ) (seed : ℕ) → AreNumbers cells words → IsSeed seed words → ⊥
-not_both words cells seed numbers is = seed_no_numbers is.first (is.word ∷ []) cells is.keyword
+not_both : (narrow : Bool) (words : List Text) (cells : List ℕ) (seed : ℕ) → AreNumbers narrow cells words
+    → IsSeed seed words → ⊥
+not_both narrow words cells seed numbers is = seed_no_numbers is.first (is.word ∷ []) cells is.keyword
     (sym (ap numbers_of is.two) ∙ numbers.numbers)
 
 pub values_agree : (program : Program) (lines : ℕ → Text) (i v w : ℕ) → AreLines program lines
@@ -75,11 +78,13 @@ pub cells_or_seed : (program : Program) (lines : ℕ → Text) (j : ℕ) (cells 
     → AreLines program lines → SaysCells program j cells lines → SaysSeed program j seed lines → ⊥
 cells_or_seed program lines j cells seed are first second =
     let same = same_words program lines (Array j) first.0 second.0 first.1 second.1 are first.2 second.2 in
-    not_both second.1 cells seed (subst (AreNumbers cells) same first.3) second.3
+    not_both (is_narrow program j) second.1 cells seed (subst (AreNumbers (is_narrow program j) cells) same first.3)
+    second.3
 
 -- what the words of a line in order are
 in_order : (program : Program) (lines : ℕ → Text) (place : Place) (n : ℕ) (words : List Text)
-    → AreSound program lines → (place ≡ Nowhere → ⊥) → Lists program place words (lines n) → SayInOrder place words
+    → AreSound program lines → (place ≡ Nowhere → ⊥) → Lists program place words (lines n)
+    → SayInOrder program place words
 in_order program lines Nowhere n words sound known lists = known refl
 in_order program lines (Parameter i) n words sound known lists =
     let says = sound.value i (parameter_within program i words (lines n) lists) in
@@ -91,7 +96,7 @@ in_order program lines (Array j) n words sound known lists =
       | inr said ↦ elim said [
         | inl says ↦ let same = same_words program lines (Array j) says.1.0 n says.1.1 words sound.lines_are says.1.2
             lists in
-            inl (says.0, subst (AreNumbers says.0) same says.1.3)
+            inl (says.0, subst (AreNumbers (is_narrow program j) says.0) same says.1.3)
         | inr says ↦ let same = same_words program lines (Array j) says.1.0 n says.1.1 words sound.lines_are says.1.2
             lists in
             inr (says.0, subst (IsSeed says.0) same says.1.3)
@@ -99,20 +104,22 @@ in_order program lines (Array j) n words sound known lists =
     ]
 
 -- such words are as many as their place takes, and numbers where they are to be
-numbers_taken : (j : ℕ) (words : List Text) (cells : List ℕ) → AreNumbers cells words → takes (Array j) words ≡ true
-numbers_taken j [] cells are = absurd (omega (arith, are.some))
-numbers_taken j (word ∷ []) cells are = ap not (plain_first word [] cells are.numbers)
-numbers_taken j (word ∷ other ∷ []) cells are = refl
-numbers_taken j (word ∷ other ∷ third ∷ words) cells are =
+numbers_taken : (narrow : Bool) (j : ℕ) (words : List Text) (cells : List ℕ) → AreNumbers narrow cells words
+    → takes (Array j) words ≡ true
+numbers_taken narrow j [] cells are = absurd (omega (arith, are.some))
+numbers_taken narrow j (word ∷ []) cells are = ap not (plain_first word [] cells are.numbers)
+numbers_taken narrow j (word ∷ other ∷ []) cells are = refl
+numbers_taken narrow j (word ∷ other ∷ third ∷ words) cells are =
     ap not (plain_first word (other ∷ third ∷ words) cells are.numbers)
 
-taken : (place : Place) (words : List Text) → SayInOrder place words → takes place words ≡ true
-taken Nowhere words order = absurd order
-taken (Parameter i) words order =
+taken : (program : Program) (place : Place) (words : List Text) → SayInOrder program place words
+    → takes place words ≡ true
+taken program Nowhere words order = absurd order
+taken program (Parameter i) words order =
     ap (takes (Parameter i)) order.1.one
     ∙ ap not (plain_first order.1.word [] (order.0 ∷ []) (one_number order.1.word order.0 order.1.number))
-taken (Array j) words (inl order) = numbers_taken j words order.0 order.1
-taken (Array j) words (inr order) = ap (takes (Array j)) order.1.two
+taken program (Array j) words (inl order) = numbers_taken (is_narrow program j) j words order.0 order.1
+taken program (Array j) words (inr order) = ap (takes (Array j)) order.1.two
 
 plain_numbers : (words : List Text) (cells : List ℕ) → numbers_of words ≡ Some cells
     → numbers_of (numerals words) ≡ None → ⊥
@@ -121,22 +128,36 @@ plain_numbers (word ∷ words) cells is none =
     let same : numerals (word ∷ words) ≡ word ∷ words = numerals_all word words (plain_first word words cells is) in
     some_not_none cells (sym is ∙ (ap numbers_of (sym same) ∙ none))
 
-all_numbers : (place : Place) (words : List Text) → SayInOrder place words → numbers_of (numerals words) ≡ None → ⊥
-all_numbers Nowhere words order none = order
-all_numbers (Parameter i) words order none = plain_numbers words (order.0 ∷ [])
+plain_cells : (program : Program) (j : ℕ) (words : List Text) (cells : List ℕ)
+    → AreNumbers (is_narrow program j) cells words
+    → cells_of (are_narrow program (Array j) words) (numerals words) ≡ None → ⊥
+plain_cells program j [] cells are none = omega (arith, are.some)
+plain_cells program j (word ∷ words) cells are none =
+    let plain = plain_first word words cells are.numbers in
+    some_not_none cells (sym (fitting_all (is_narrow program j) cells are.width)
+    ∙ (ap (fitting (is_narrow program j)) (sym are.numbers)
+    ∙ (sym (ap₂ cells_of (width_all program j word words plain) (numerals_all word words plain)) ∙ none)))
+
+all_numbers : (program : Program) (place : Place) (words : List Text) → SayInOrder program place words
+    → cells_of (are_narrow program place words) (numerals words) ≡ None → ⊥
+all_numbers program Nowhere words order none = order
+all_numbers program (Parameter i) words order none = plain_numbers words (order.0 ∷ [])
     (ap numbers_of order.1.one ∙ one_number order.1.word order.0 order.1.number) none
-all_numbers (Array j) words (inl order) none = plain_numbers words order.0 order.1.numbers none
-all_numbers (Array j) words (inr order) none =
-    let same = ap numerals order.1.two ∙ numerals_behind order.1.first (order.1.word ∷ []) order.1.keyword in
+all_numbers program (Array j) words (inl order) none = plain_cells program j words order.0 order.1 none
+all_numbers program (Array j) words (inr order) none =
+    let two = order.1.two in
+    let behind = order.1.word ∷ [] in
+    let width = ap (are_narrow program (Array j)) two ∙ width_behind program j order.1.first behind order.1.keyword in
+    let same = ap numerals two ∙ numerals_behind order.1.first behind order.1.keyword in
     some_not_none (order.0 ∷ []) (sym (one_number order.1.word order.0 order.1.number)
-    ∙ (ap numbers_of (sym same) ∙ none))
+    ∙ (sym (ap₂ cells_of width same) ∙ none))
 
 -- so no line breaks a rule
 formless_not : (program : Program) (lines : ℕ → Text) (n : ℕ) → AreSound program lines
     → IsFormless program (lines n) → ⊥
 formless_not program lines n sound is = elim (sound.lines_are.each n) [
   | inl blank ↦ is.marked blank
-  | inr named ↦ not_false (sym (taken named.0 named.2.0
+  | inr named ↦ not_false (sym (taken program named.0 named.2.0
       (in_order program lines named.0 n named.2.0 sound named.1 named.2.1))
       ∙ is.formless named.0 named.2.0 named.2.1)
 ]
@@ -171,7 +192,7 @@ sound_lines program lines (Repeated n) sound breaks =
     let same = sound.lines_are.once breaks.earlier n breaks.place breaks.first breaks.second in
     omega (arith, same, breaks.before)
 sound_lines program lines (Number n) sound breaks =
-    all_numbers breaks.0 breaks.1 (in_order program lines breaks.0 n breaks.1 sound
+    all_numbers program breaks.0 breaks.1 (in_order program lines breaks.0 n breaks.1 sound
     (known_line program lines breaks.0 n breaks.1 sound breaks.2) breaks.2) breaks.3
 sound_lines program lines (ParameterRange n) sound breaks = above_not program lines n sound breaks
 sound_lines program lines (Missing i) sound breaks = breaks

@@ -1,5 +1,5 @@
 -- What a line says, or which rule it breaks first: its form, its name, a second line for the name, as many words as
--- its place takes, and numbers.
+-- its place takes, and numbers, which are as wide as the cells of its place.
 use Rattle.std.specs.Prelude.{◌≡◌, ℕ, ◌+◌, Bool, true, false, nat_le, if◌then◌else◌, List, [], ◌∷◌, codes, Option}
 use Rattle.std.specs.Prelude.{Some, None, slice_index_or, slice_set, is_some, Result, Ok, Err, ⊤}
 use Rattle.std.specs.Str.{bytes_eq}
@@ -13,9 +13,9 @@ use Rattle.data_lines.specs.declared.refusal.DataStop.TheVariants.{Refused, NoMe
 use Rattle.data_lines.specs.declared.places.Place.{Place}
 use Rattle.data_lines.specs.declared.places.Place.TheVariants.{Nowhere, Parameter, Array}
 use Rattle.data_lines.specs.Words.{lines_of, words_of, unindented}
-use Rattle.data_lines.specs.Numbers.{number_of, numbers_of}
+use Rattle.data_lines.specs.Numbers.{number_of, cells_of}
 use Rattle.data_lines.specs.Heads.{named_list}
-use Rattle.data_lines.specs.Sheets.{Given, nothing, listed, seeded, Sheet, empty_sheet, place_of}
+use Rattle.data_lines.specs.Sheets.{Given, nothing, listed, seeded, Sheet, empty_sheet, is_narrow, place_of}
 
 -- `seed`
 abbrev pub is_seed : Text → Bool
@@ -43,15 +43,16 @@ seed_said line [] = Err (Line line)
 seed_said line (word ∷ []) = seed_of_number line (number_of word)
 seed_said line (word ∷ other ∷ words) = Err (Line line)
 
--- the cells that words list: each is a number
+-- the cells that words list
 abbrev pub list_said : ℕ → Option (List ℕ) → Result Given DataRefusal
 list_said line (Some cells) = Ok (listed line cells)
 list_said line None = Err (Number line)
 
--- what words say of an array: `seed` and a number, or a list of numbers
-abbrev pub row_said : ℕ → List Text → Result Given DataRefusal
-row_said line [] = Err (Line line)
-row_said line (word ∷ words) = if is_seed word then seed_said line words else list_said line (numbers_of (word ∷ words))
+-- what words say of an array, narrow or not: `seed` and a number, or a list of cells
+abbrev pub row_said : Bool → ℕ → List Text → Result Given DataRefusal
+row_said narrow line [] = Err (Line line)
+row_said narrow line (word ∷ words) =
+    if is_seed word then seed_said line words else list_said line (cells_of narrow (word ∷ words))
 
 -- the sheet with a value in a parameter's place
 abbrev pub with_value : Sheet → ℕ → Result ℕ DataRefusal → Result Sheet DataRefusal
@@ -69,18 +70,27 @@ is_given nothing = false
 is_given (listed line cells) = true
 is_given (seeded seed) = true
 
--- the sheet with what words say in a name's place
-abbrev pub written_at : Sheet → ℕ → Place → List Text → Result Sheet DataRefusal
-written_at sheet line Nowhere words = Err (UnknownName line)
-written_at sheet line (Parameter i) words = if is_some (slice_index_or sheet.values i None) then Err (Repeated line)
+-- the sheet with what words say of a parameter
+abbrev pub value_at : Sheet → ℕ → ℕ → List Text → Result Sheet DataRefusal
+value_at sheet line i words = if is_some (slice_index_or sheet.values i None) then Err (Repeated line)
     else with_value sheet i (value_said line words)
-written_at sheet line (Array j) words = if is_given (slice_index_or sheet.rows j nothing) then Err (Repeated line)
-    else with_row sheet j (row_said line words)
+
+-- the sheet with what words say of an array, narrow or not
+abbrev pub row_at : Bool → Sheet → ℕ → ℕ → List Text → Result Sheet DataRefusal
+row_at narrow sheet line j words = if is_given (slice_index_or sheet.rows j nothing) then Err (Repeated line)
+    else with_row sheet j (row_said narrow line words)
+
+-- the sheet with what words say in a name's place
+abbrev pub written_at : Program → Sheet → ℕ → Place → List Text → Result Sheet DataRefusal
+written_at program sheet line Nowhere words = Err (UnknownName line)
+written_at program sheet line (Parameter i) words = value_at sheet line i words
+written_at program sheet line (Array j) words = row_at (is_narrow program j) sheet line j words
 
 -- a line by its name and its words: there is a word
 abbrev pub with_words : Program → Sheet → ℕ → Text → List Text → Result Sheet DataRefusal
 with_words program sheet line name [] = Err (Line line)
-with_words program sheet line name (word ∷ words) = written_at sheet line (place_of program name) (word ∷ words)
+with_words program sheet line name (word ∷ words) =
+    written_at program sheet line (place_of program name) (word ∷ words)
 
 -- a line by its name and list, if it has the form
 abbrev pub with_list : Program → Sheet → ℕ → Option (Text × Text) → Result Sheet DataRefusal

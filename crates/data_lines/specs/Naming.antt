@@ -10,9 +10,9 @@ use Rattle.data_lines.specs.declared.refusal.DataRefusal.{DataRefusal}
 use Rattle.data_lines.specs.declared.refusal.DataRefusal.TheVariants.{Line, UnknownName, Repeated, Number}
 use Rattle.data_lines.specs.declared.refusal.DataRefusal.TheVariants.{ParameterRange}
 use Rattle.data_lines.specs.Words.{lines_of, words_of, unindented}
-use Rattle.data_lines.specs.Numbers.{number_of, numbers_of}
+use Rattle.data_lines.specs.Numbers.{HaveWidth, cells_of, number_of, numbers_of}
 use Rattle.data_lines.specs.Heads.{named_list}
-use Rattle.data_lines.specs.Sheets.{Given, nothing, listed, seeded, Sheet, place_of}
+use Rattle.data_lines.specs.Sheets.{Given, nothing, listed, seeded, Sheet, is_narrow, place_of}
 use Rattle.data_lines.specs.Entries.{is_seed}
 
 -- the line with this number: an empty one where there is none
@@ -63,10 +63,11 @@ pub record IsValue (value : ℕ) (words : List Text) : Type 0 where
   pub number : number_of word ≡ Some value
   pub small : value ≤ 65536
 
--- numbers, at least one
-pub record AreNumbers (cells : List ℕ) (words : List Text) : Type 0 where
+-- numbers, at least one, which the cells of an array hold, be it narrow or not
+pub record AreNumbers (narrow : Bool) (cells : List ℕ) (words : List Text) : Type 0 where
   pub numbers : numbers_of words ≡ Some cells
   pub some : 0 < length words
+  pub width : HaveWidth narrow cells
 
 -- `seed` and one word, a number
 pub record IsSeed (seed : ℕ) (words : List Text) : Type 0 where
@@ -78,7 +79,8 @@ pub record IsSeed (seed : ℕ) (words : List Text) : Type 0 where
 
 -- a line names an array and lists these cells
 abbrev pub ListsCells : Program → ℕ → List ℕ → Text → Type 0
-ListsCells program j cells line = (words : List Text) × Lists program (Array j) words line × AreNumbers cells words
+ListsCells program j cells line =
+    (words : List Text) × Lists program (Array j) words line × AreNumbers (is_narrow program j) cells words
 
 -- some line names what has this place, and lists such words
 abbrev pub SomeLine : Program → Place → (List Text → Type 0) → (ℕ → Text) → Type 0
@@ -90,7 +92,7 @@ SaysValue program i value = SomeLine program (Parameter i) (IsValue value)
 
 -- a line says the cells of an array
 abbrev pub SaysCells : Program → ℕ → List ℕ → (ℕ → Text) → Type 0
-SaysCells program j cells = SomeLine program (Array j) (AreNumbers cells)
+SaysCells program j cells = SomeLine program (Array j) (AreNumbers (is_narrow program j) cells)
 
 -- a line says a seed for the cells of an array
 abbrev pub SaysSeed : Program → ℕ → ℕ → (ℕ → Text) → Type 0
@@ -135,10 +137,15 @@ abbrev pub numerals : List Text → List Text
 numerals [] = []
 numerals (word ∷ words) = if is_seed word then words else word ∷ words
 
--- a line lists a word that is no number where one is to stand
+-- whether they are to have 32 bits: as cells of a narrow array
+abbrev pub are_narrow : Program → Place → List Text → Bool
+are_narrow program (Array j) (word ∷ words) = if is_seed word then false else is_narrow program j
+are_narrow program place words = false
+
+-- a line lists a word that is no number where one is to stand, or none of 32 bits where one of these is
 abbrev pub ListsNoNumber : Program → Text → Type 0
-ListsNoNumber program line =
-    (place : Place) × (words : List Text) × Lists program place words line × (numbers_of (numerals words) ≡ None)
+ListsNoNumber program line = (place : Place) × (words : List Text) × Lists program place words line
+    × (cells_of (are_narrow program place words) (numerals words) ≡ None)
 
 -- a line gives a parameter a number above 65536
 pub record IsAbove (program : Program) (line : Text) : Type 0 where
@@ -168,15 +175,16 @@ Breaks program lines (ParameterRange n) = IsAbove program (lines n)
 Breaks program lines other = ⊥
 
 -- words that say what their place asks for: a value of a parameter; cells of an array, or a seed
-abbrev pub SayInOrder : Place → List Text → Type 0
-SayInOrder Nowhere words = ⊥
-SayInOrder (Parameter i) words = (value : ℕ) × IsValue value words
-SayInOrder (Array j) words = ((cells : List ℕ) × AreNumbers cells words) ⊎ ((seed : ℕ) × IsSeed seed words)
+abbrev pub SayInOrder : Program → Place → List Text → Type 0
+SayInOrder program Nowhere words = ⊥
+SayInOrder program (Parameter i) words = (value : ℕ) × IsValue value words
+SayInOrder program (Array j) words =
+    ((cells : List ℕ) × AreNumbers (is_narrow program j) cells words) ⊎ ((seed : ℕ) × IsSeed seed words)
 
 -- a line by itself breaks no rule: it is blank, or names a parameter or an array and says what that asks for
 abbrev pub IsInOrder : Program → Text → Type 0
 IsInOrder program line = IsBlank line
-    ⊎ ((place : Place) × (words : List Text) × Lists program place words line × SayInOrder place words)
+    ⊎ ((place : Place) × (words : List Text) × Lists program place words line × SayInOrder program place words)
 
 -- the lines below this number break no rule: each is in order, and none names what an earlier one names
 pub record AreInOrderBefore (program : Program) (lines : ℕ → Text) (end : ℕ) : Type 0 where

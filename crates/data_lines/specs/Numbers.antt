@@ -1,5 +1,7 @@
--- The number that a word is: decimal digits, leading zeros among them, of a value of at most 64 bits.
-use Rattle.std.specs.Prelude.{ℕ, ◌+◌, ◌*◌, ◌^◌, Bool, ◌&&◌, nat_lt, if◌then◌else◌, List, [], ◌∷◌, Option, Some, None}
+-- The number that a word is: decimal digits, leading zeros among them, of a value of at most 64 bits; and the cells
+-- that a list of words says.
+use Rattle.std.specs.Prelude.{ℕ, ◌+◌, ◌*◌, ◌^◌, ◌<◌, Bool, true, false, ◌&&◌, nat_lt, if◌then◌else◌, List, [], ◌∷◌}
+use Rattle.std.specs.Prelude.{Option, Some, None, All, ⊤}
 use Rattle.std.specs.List.{list_all}
 use Rattle.scop_lexer.specs.Bytes.{Text, is_digit}
 use Rattle.scop_lexer.specs.Constants.{digit_value, number_behind}
@@ -31,3 +33,18 @@ with_number None numbers = None
 abbrev pub numbers_of : List Text → Option (List ℕ)
 numbers_of [] = Some []
 numbers_of (word ∷ words) = with_number (number_of word) (numbers_of words)
+
+-- these numbers, where each has 32 bits if it is to
+abbrev pub fitting : Bool → Option (List ℕ) → Option (List ℕ)
+fitting false numbers = numbers
+fitting true None = None
+fitting true (Some numbers) = if list_all (λ n. nat_lt n (2 ^ 32)) numbers then Some numbers else None
+
+-- the cells that words are, of a narrow array or of another: numbers of 32 bits, or of 64
+abbrev pub cells_of : Bool → List Text → Option (List ℕ)
+cells_of narrow words = fitting narrow (numbers_of words)
+
+-- cells of 32 bits have no more
+abbrev pub HaveWidth : Bool → List ℕ → Type 0
+HaveWidth true cells = All (λ cell. cell < 2 ^ 32) cells
+HaveWidth false cells = ⊤

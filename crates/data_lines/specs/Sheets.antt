@@ -1,9 +1,10 @@
 -- What data says so far: a sheet with a place for each parameter and each array, in the order of declaration.
-use Rattle.std.specs.Prelude.{◌≡◌, ◌<◌, ◌≤◌, ⊤, ℕ, All, IfSome, List, ◌++◌, map, length, replicate, Option, Some}
-use Rattle.std.specs.Prelude.{None}
+use Rattle.std.specs.Prelude.{◌≡◌, ◌<◌, ◌≤◌, ⊤, ℕ, Bool, false, All, IfSome, List, ◌++◌, map, length, replicate}
+use Rattle.std.specs.Prelude.{slice_index_or, Option, Some, None}
 use Rattle.std.specs.List.{position_from}
 use Rattle.std.specs.Str.{bytes_eq}
 use Rattle.scop_syntax.specs.Tree.{Program}
+use Rattle.scop_syntax.specs.Kernel.{narrow_arrays}
 use Rattle.scop_lexer.specs.Bytes.{Text}
 use Rattle.data_lines.specs.declared.sheet.Given.{Given as CodeGiven}
 use Rattle.data_lines.specs.declared.sheet.Given.TheVariants.{Nothing, Listed, Seeded}
@@ -59,6 +60,10 @@ parameter_place None other = other
 abbrev pub place_of : Program → Text → Place
 place_of program name =
     parameter_place (found name program.parameters) (array_place (found name (map (λ d. d.name) program.arrays)))
+
+-- whether an array has cells of 32 bits
+abbrev pub is_narrow : Program → ℕ → Bool
+is_narrow program j = slice_index_or (narrow_arrays program) j false
 
 -- one of so many parameters or arrays
 abbrev pub IsPlaceOf : ℕ → ℕ → Place → Type 0

@@ -4,11 +4,11 @@ ghost use Rattle.std.specs.Prelude.{◌≡◌, ◌<◌, ◌≤◌, Ok, Err, IfOk
 ghost use Rattle.scop_syntax.specs.View.{program_of};
 ghost use Rattle.data_lines.specs.Words.{words_of};
 ghost use Rattle.data_lines.specs.Sheets.{KeepsShape, IsSheetOf, given_of, seeded, sheet_of};
-ghost use Rattle.data_lines.specs.declared.places.Place.TheVariants.{Parameter, Array};
-ghost use Rattle.data_lines.specs.Entries.{StopsAs, is_seed, row_said, seed_said, value_said, written_at, with_words};
+ghost use Rattle.data_lines.specs.Entries.{StopsAs, is_seed, row_at, row_said, seed_said, value_at, value_said};
+ghost use Rattle.data_lines.specs.Entries.{with_words};
 
-use crate::numbers::{ListError, number_of, numbers_of};
-use crate::places::{Place, place_of};
+use crate::numbers::{ListError, cells_of, number_of};
+use crate::places::{Place, is_narrow, place_of};
 use crate::refusal::{DataRefusal, DataStop};
 use crate::sheet::{Given, Sheet};
 use crate::words::first_word;
@@ -61,9 +61,9 @@ fn seed_said(line: u64, list: &[u8]) -> Result<u64, DataRefusal>
 }
 
 /// What a list says of an array.
-fn row_said(alloc: Global, line: u64, list: &[u8]) -> Result<Given, DataStop>
-    ensures ok { IfOk result (λ given. row_said line (words_of list.now) ≡ Ok (given_of given)) }
-    ensures refused { IfErr result (StopsAs (row_said line (words_of list.now))) }
+fn row_said(alloc: Global, narrow: bool, line: u64, list: &[u8]) -> Result<Given, DataStop>
+    ensures ok { IfOk result (λ given. row_said narrow line (words_of list.now) ≡ Ok (given_of given)) }
+    ensures refused { IfErr result (StopsAs (row_said narrow line (words_of list.now))) }
 {
     let Some(first) = first_word(list) else {
         return Err(DataStop::Refused(DataRefusal::Line(line)));
@@ -74,7 +74,7 @@ fn row_said(alloc: Global, line: u64, list: &[u8]) -> Result<Given, DataStop>
             Err(refusal) => Err(DataStop::Refused(refusal)),
         };
     }
-    match numbers_of(alloc, list) {
+    match cells_of(alloc, narrow, list) {
         Ok(cells) => Ok(Given::Listed(line, cells)),
         Err(ListError::NotANumber) => Err(DataStop::Refused(DataRefusal::Number(line))),
         Err(ListError::NoMemory) => Err(DataStop::NoMemory),
@@ -89,10 +89,10 @@ fn write_value(
     list: &[u8],
 ) -> Result<(), DataRefusal>
     requires { parameter < length (sheet_of sheet.old).values }
-    ensures ok { OnOk result (written_at (sheet_of sheet.old) line (Parameter parameter) (words_of list.now) ≡ Ok
+    ensures ok { OnOk result (value_at (sheet_of sheet.old) line parameter (words_of list.now) ≡ Ok
         (sheet_of sheet.new)) }
     ensures shape { KeepsShape (sheet_of sheet.old) (sheet_of sheet.new) }
-    ensures refused { IfErr result (λ refusal. written_at (sheet_of sheet.old) line (Parameter parameter)
+    ensures refused { IfErr result (λ refusal. value_at (sheet_of sheet.old) line parameter
         (words_of list.now) ≡ Err refusal) }
 {
     if sheet.values[parameter].is_some() {
@@ -110,21 +110,22 @@ fn write_value(
 /// Writes what a list says of an array.
 fn write_row(
     alloc: Global,
+    narrow: bool,
     sheet: &mut Sheet,
     line: u64,
     array: usize,
     list: &[u8],
 ) -> Result<(), DataStop>
     requires { array < length (sheet_of sheet.old).rows }
-    ensures ok { OnOk result (written_at (sheet_of sheet.old) line (Array array) (words_of list.now) ≡ Ok
+    ensures ok { OnOk result (row_at narrow (sheet_of sheet.old) line array (words_of list.now) ≡ Ok
         (sheet_of sheet.new)) }
     ensures shape { KeepsShape (sheet_of sheet.old) (sheet_of sheet.new) }
-    ensures refused { IfErr result (StopsAs (written_at (sheet_of sheet.old) line (Array array) (words_of list.now))) }
+    ensures refused { IfErr result (StopsAs (row_at narrow (sheet_of sheet.old) line array (words_of list.now))) }
 {
     if sheet.is_given(array) {
         return Err(DataStop::Refused(DataRefusal::Repeated(line)));
     }
-    match row_said(alloc, line, list) {
+    match row_said(alloc, narrow, line, list) {
         Ok(given) => {
             sheet.set_row(array, given);
             Ok(())
@@ -158,6 +159,9 @@ pub(crate) fn write_list(
             Ok(()) => Ok(()),
             Err(refusal) => Err(DataStop::Refused(refusal)),
         },
-        Place::Array(array) => write_row(alloc, sheet, line, array, list),
+        Place::Array(array) => {
+            let narrow = is_narrow(kernel, array);
+            write_row(alloc, narrow, sheet, line, array, list)
+        }
     }
 }

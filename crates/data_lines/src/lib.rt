@@ -15,5 +15,6 @@ mod words;
 
 pub use laws::{lines_say_one_thing, sheets_hold_what_lines_say, sound_lines_break_no_rule};
 pub use lines::read_lines;
+pub use places::is_narrow;
 pub use refusal::{DataRefusal, DataStop};
 pub use sheet::{Given, Sheet};

@@ -1,8 +1,8 @@
-//! The place of a name among a kernel's parameters and arrays.
+//! The place of a name among a kernel's parameters and arrays, and the width of an array's cells.
 
 ghost use Rattle.std.specs.Prelude.{◌≡◌, ◌<◌, length, map, IfSome};
 ghost use Rattle.scop_syntax.specs.View.{program_of};
-ghost use Rattle.data_lines.specs.Sheets.{found, place_of, IsPlaceOf};
+ghost use Rattle.data_lines.specs.Sheets.{found, is_narrow, place_of, IsPlaceOf};
 
 use scop_syntax::tree::{Array, Kernel, Name};
 
@@ -51,5 +51,15 @@ pub(crate) fn place_of(kernel: &Kernel, name: &[u8]) -> Place
             Some(array) => Place::Array(array),
             None => Place::Nowhere,
         },
+    }
+}
+
+/// Whether an array has cells of 32 bits.
+pub fn is_narrow(kernel: &Kernel, array: usize) -> bool
+    ensures { result ≡ is_narrow (program_of kernel.now) array }
+{
+    match kernel.arrays.get(array) {
+        Some(declared) => declared.narrow,
+        None => false,
     }
 }

@@ -10,7 +10,7 @@ pub enum DataRefusal {
     UnknownName(u64),
     /// An earlier line has the line's name.
     Repeated(u64),
-    /// A word of the line is no number of 64 bits.
+    /// A word of the line is no number of 64 bits, or no cell of 32 bits of a narrow array.
     Number(u64),
     /// The line gives a parameter more than 65536.
     ParameterRange(u64),

@@ -1,8 +1,8 @@
 -- What a sheet makes of its values and rows is the case that the lines describe; each rule that it breaks, they break.
 use Rattle.std.proofs.Common.{◌≡◌, ◌∙◌, sym, ap, subst, refl, inl, inr, ℕ, zero, suc, ◌+◌, ◌^◌, ◌<◌, ◌≤◌, Bool}
-use Rattle.std.proofs.Common.{true, false, ltb, if◌then◌else◌, List, [], ◌∷◌, map, length, get_or, arith}
+use Rattle.std.proofs.Common.{true, false, ltb, if◌then◌else◌, List, [], ◌∷◌, map, length, drop, get_or, arith}
 use Rattle.std.proofs.Common.{ltb-true, ltb-false}
-use Rattle.std.proofs.lemmas.List.{get_or-map, get_or-replicate, length-map, length-replicate}
+use Rattle.std.proofs.lemmas.List.{get_or-drop, get_or-map, get_or-replicate, length-map, length-replicate}
 use Rattle.std.proofs.lemmas.List.FromFn.{get_or-map-range_with_len, length-map-range_with_len}
 use Rattle.std.specs.Prelude.{ℤ, pos, Option, Some, None, Result, Ok, Err}
 use Rattle.scop_lexer.specs.Bytes.{Text}
@@ -13,7 +13,8 @@ use Rattle.data_lines.specs.declared.refusal.DataRefusal.{DataRefusal}
 use Rattle.data_lines.specs.declared.refusal.DataRefusal.TheVariants.{Missing, Extent, Cells, Count}
 use Rattle.data_lines.specs.declared.refusal.DataRefusal.TheVariants.{Line, UnknownName, Repeated, Number}
 use Rattle.data_lines.specs.declared.refusal.DataRefusal.TheVariants.{ParameterRange}
-use Rattle.data_lines.specs.Sheets.{Given, nothing, listed, seeded, Sheet}
+use Rattle.scop_syntax.specs.Kernel.{narrow_arrays}
+use Rattle.data_lines.specs.Sheets.{Given, nothing, listed, seeded, Sheet, is_narrow}
 use Rattle.data_lines.specs.Naming.{AreInOrder, AreLines, AreSound, Breaks, Holds, HoldsRow, HoldsValue, SaysCells}
 use Rattle.data_lines.specs.Naming.{SaysSeed, SaysValue, line_of}
 use Rattle.data_lines.specs.Naming.{IsFirstBroken as IsFirstBrokenLine}
@@ -21,7 +22,7 @@ use Rattle.data_lines.specs.Entries.{sheet_said}
 use Rattle.data_text.specs.declared.counts.Miscount.{Miscount}
 use Rattle.data_text.specs.Cases.{Said, bad_extent, case_of_lines, cells_said, contents_said}
 use Rattle.data_text.specs.Cases.{filled, first_miscount, laid_out, miscount_of, miscounted, missing, or_else}
-use Rattle.data_text.specs.Cases.{data_said, param_of, params_of, seed_cell, told_or, too_many}
+use Rattle.data_text.specs.Cases.{data_said, param_of, params_of, seeded_cell, told_or, too_many}
 use Rattle.data_text.specs.Described.{AreComplete, AreContents, AreExtents, AreGiven, AreHeld, Describes}
 use Rattle.data_text.specs.Described.{IsFirstBroken, IsFirstMissing, IsMiscounted, cells_in}
 use Rattle.data_text.proofs.ContentLemmas.{cells_long}
@@ -188,24 +189,27 @@ none_miscounted laws program lines sheet params m n other count holds told befor
     omega (arith, before, least, found.2)
 
 -- contents, array by array
-contents_count : (layouts : List (List ℕ)) (rows : List Given) → length rows ≡ length layouts
-    → length (contents_said layouts rows) ≡ length layouts
-contents_count [] rows count = refl
-contents_count (extents ∷ layouts) [] count = absurd (omega (arith, count))
-contents_count (extents ∷ layouts) (given ∷ rows) count =
-    omega (arith, contents_count layouts rows (omega (arith, count)))
+contents_count : (narrow : List Bool) (layouts : List (List ℕ)) (rows : List Given) → length rows ≡ length layouts
+    → length (contents_said narrow layouts rows) ≡ length layouts
+contents_count narrow [] rows count = refl
+contents_count narrow (extents ∷ layouts) [] count = absurd (omega (arith, count))
+contents_count narrow (extents ∷ layouts) (given ∷ rows) count =
+    omega (arith, contents_count (drop 1 narrow) layouts rows (omega (arith, count)))
 
-contents_at : (layouts : List (List ℕ)) (rows : List Given) (j : ℕ) → length rows ≡ length layouts
-    → j < length layouts → get_or (contents_said layouts rows) j []
-    ≡ cells_said (cell_count (get_or layouts j [])) (get_or rows j nothing)
-contents_at [] rows j count within = absurd (omega (arith, within))
-contents_at (extents ∷ layouts) [] j count within = absurd (omega (arith, count))
-contents_at (extents ∷ layouts) (given ∷ rows) zero count within = refl
-contents_at (extents ∷ layouts) (given ∷ rows) (suc j) count within =
-    contents_at layouts rows j (omega (arith, count)) (omega (arith, within))
+contents_at : (narrow : List Bool) (layouts : List (List ℕ)) (rows : List Given) (j : ℕ)
+    → length rows ≡ length layouts → j < length layouts → get_or (contents_said narrow layouts rows) j []
+    ≡ cells_said (get_or narrow j false) (cell_count (get_or layouts j [])) (get_or rows j nothing)
+contents_at narrow [] rows j count within = absurd (omega (arith, within))
+contents_at narrow (extents ∷ layouts) [] j count within = absurd (omega (arith, count))
+contents_at narrow (extents ∷ layouts) (given ∷ rows) zero count within = refl
+contents_at narrow (extents ∷ layouts) (given ∷ rows) (suc j) count within =
+    let next : 1 + j ≡ suc j = omega arith in
+    contents_at (drop 1 narrow) layouts rows j (omega (arith, count)) (omega (arith, within))
+    ∙ ap (λ w. cells_said w (cell_count (get_or layouts j [])) (get_or rows j nothing))
+    (get_or-drop 1 narrow j false ∙ ap (λ n. get_or narrow n false) next)
 
 cells_held : (program : Program) (lines : ℕ → Text) (j n : ℕ) (given : Given) → HoldsRow program j lines given
-    → miscount_of n given ≡ None → AreHeld program lines j n (cells_said n given)
+    → miscount_of n given ≡ None → AreHeld program lines j n (cells_said (is_narrow program j) n given)
 cells_held program lines j n nothing held none = inl (
   held,
   record {
@@ -214,28 +218,31 @@ cells_held program lines j n nothing held none = inl (
   },
 )
 cells_held program lines j n (listed line cells) held none =
-    inr (inl ((line, held.0, held.1, held.2), cells_long n (listed line cells) none))
-cells_held program lines j n (seeded seed) held none = inr (inr (
-  seed,
-  held,
-  record {
-    count_is = length-map-range_with_len (seed_cell seed) 0 n;
-    each = λ k within. get_or-map-range_with_len (seed_cell seed) 0 n k k 0 within (omega arith);
-  },
-))
+    inr (inl ((line, held.0, held.1, held.2), cells_long (is_narrow program j) n (listed line cells) none))
+cells_held program lines j n (seeded seed) held none =
+    let cell = seeded_cell (is_narrow program j) seed in
+    inr (inr (
+      seed,
+      held,
+      record {
+        count_is = length-map-range_with_len cell 0 n;
+        each = λ k within. get_or-map-range_with_len cell 0 n k k 0 within (omega arith);
+      },
+    ))
 
 contents_are : (program : Program) (lines : ℕ → Text) (sheet : Sheet) (params : List ℤ) → Holds program lines sheet
-    → first_miscount None (layout program params) sheet.rows ≡ None
-    → AreContents program lines params (contents_said (layout program params) sheet.rows)
+    → first_miscount None (layout program params) sheet.rows ≡ None → AreContents program lines params
+    (contents_said (narrow_arrays program) (layout program params) sheet.rows)
 contents_are program lines sheet params holds none =
     let layouts = layout program params in
+    let narrow = narrow_arrays program in
     let long = row_long program lines sheet params holds in
     record {
-      count = contents_count layouts sheet.rows long ∙ layout_count program params;
+      count = contents_count narrow layouts sheet.rows long ∙ layout_count program params;
       each = λ j within.
-          let there : j < length layouts = omega (arith, within, contents_count layouts sheet.rows long) in
+          let there : j < length layouts = omega (arith, within, contents_count narrow layouts sheet.rows long) in
           subst (AreHeld program lines j (cell_count (get_or layouts j [])))
-          (sym (contents_at layouts sheet.rows j long there))
+          (sym (contents_at narrow layouts sheet.rows j long there))
           (cells_held program lines j (cell_count (get_or layouts j [])) (get_or sheet.rows j nothing) (holds.row j)
           (none_found layouts sheet.rows j none long there));
     }
@@ -245,7 +252,10 @@ filled_tells : (laws : LineLaws) (program : Program) (lines : ℕ → Text) (she
     (o : Option Miscount) → Holds program lines sheet → AreComplete program lines params → AreExtents program params
     → total_cells (layout program params) ≤ 2 ^ 22 → first_miscount None (layout program params) sheet.rows ≡ o
     → Tells program lines (told_or (miscounted o)
-    (Ok (record { params = params; contents = contents_said (layout program params) sheet.rows })))
+    (Ok (record {
+      params = params;
+      contents = contents_said (narrow_arrays program) (layout program params) sheet.rows;
+    })))
 filled_tells laws program lines sheet params (Some m) holds complete positive few is = (
   params,
   complete,
@@ -268,7 +278,7 @@ counted_tells : (laws : LineLaws) (program : Program) (lines : ℕ → Text) (sh
     (many : Bool) → Holds program lines sheet → AreComplete program lines params → AreExtents program params
     → ltb (2 ^ 22) (total_cells (layout program params)) ≡ many
     → Tells program lines (told_or (if many then Some (Cells (total_cells (layout program params))) else None)
-    (filled params (layout program params) sheet.rows))
+    (filled (narrow_arrays program) params (layout program params) sheet.rows))
 counted_tells laws program lines sheet params true holds complete positive is =
     (params, complete, positive, refl, ltb-true (2 ^ 22) (total_cells (layout program params)) is)
 counted_tells laws program lines sheet params false holds complete positive is =
@@ -279,7 +289,7 @@ laid_tells : (laws : LineLaws) (program : Program) (lines : ℕ → Text) (sheet
     (o : Option DataRefusal) → Holds program lines sheet → AreComplete program lines params
     → bad_extent params 0 program.arrays ≡ o
     → Tells program lines (told_or (or_else o (too_many (total_cells (layout program params))))
-    (filled params (layout program params) sheet.rows))
+    (filled (narrow_arrays program) params (layout program params) sheet.rows))
 laid_tells laws program lines sheet params (Some told) holds complete is =
     extent_told program lines params told complete is
 laid_tells laws program lines sheet params None holds complete is = counted_tells laws program lines sheet params

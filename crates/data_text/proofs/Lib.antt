@@ -6,6 +6,7 @@ pub mod ContentLemmas
 pub mod CaseLemmas
 pub mod FirstLemmas
 pub mod DescribedLemmas
+pub mod WidthLemmas
 pub mod OneCaseLemmas
 pub mod NumeralLemmas
 pub mod RowLemmas

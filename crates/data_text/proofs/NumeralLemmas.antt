@@ -1,6 +1,6 @@
 -- Decimals are numbers, and the text of cells is words that are their decimals.
 use Rattle.std.proofs.Common.{◌≡◌, ◌∙◌, ap, refl, ℕ, suc, ◌+◌, ◌-◌, ◌*◌, ◌^◌, ◌<◌}
-use Rattle.std.proofs.Common.{true, false, List, [], ◌∷◌, ◌++◌, map, length, get_or}
+use Rattle.std.proofs.Common.{Bool, true, false, List, [], ◌∷◌, ◌++◌, map, length, get_or}
 use Rattle.std.proofs.Common.{decimal, lt-ltb, le-leb, ne_eqb, append-nil, arith, rules}
 use Rattle.std.proofs.lemmas.List.{get_or_default}
 use Rattle.std.specs.Prelude.{All, Some, Ok}
@@ -12,7 +12,8 @@ use Rattle.std.specs.Int.{IsInRange}
 use Rattle.scop_lexer.specs.Bytes.{Text, is_digit, is_blank}
 use Rattle.scop_lexer.specs.Constants.{digit_value, number_behind}
 use Rattle.data_lines.specs.Words.{not_empty, words_of}
-use Rattle.data_lines.specs.Numbers.{decimal_value, number_of, numbers_of}
+use Rattle.data_lines.specs.Numbers.{HaveWidth, cells_of, decimal_value, fitting, number_of, numbers_of}
+use Rattle.data_lines.proofs.NumberLemmas.{fitting_all}
 use Rattle.data_lines.specs.Sheets.{listed}
 use Rattle.data_lines.specs.Entries.{is_seed, row_said}
 use Rattle.data_text.specs.ArrayText.{cells_text}
@@ -111,9 +112,12 @@ numbers_of_cells (cell ∷ cells) small =
     ) refl
 
 -- the decimals of cells are read as a list of them
-pub cells_are_listed : (line : ℕ) (cells : List ℕ) → 0 < length cells → All (λ cell. cell < 2 ^ 64) cells
-    → row_said line (map decimal cells) ≡ Ok (listed line cells)
-cells_are_listed line [] some small = absurd (omega (arith, some))
-cells_are_listed line (cell ∷ cells) some small =
+pub cells_are_listed : (narrow : Bool) (line : ℕ) (cells : List ℕ) → 0 < length cells
+    → All (λ cell. cell < 2 ^ 64) cells → HaveWidth narrow cells
+    → row_said narrow line (map decimal cells) ≡ Ok (listed line cells)
+cells_are_listed narrow line [] some small have = absurd (omega (arith, some))
+cells_are_listed narrow line (cell ∷ cells) some small have =
     let fits : cell < 2 ^ 64 = small 0 0 (omega arith) in
-    rw (not_seed (decimal cell) (digits_decimal own cell fits), numbers_of_cells (cell ∷ cells) small) refl
+    let are : cells_of narrow (map decimal (cell ∷ cells)) ≡ Some (cell ∷ cells) =
+    ap (fitting narrow) (numbers_of_cells (cell ∷ cells) small) ∙ fitting_all narrow (cell ∷ cells) have in
+    rw (not_seed (decimal cell) (digits_decimal own cell fits), are) refl

@@ -15,7 +15,8 @@ use Rattle.data_lines.specs.declared.refusal.DataRefusal.TheVariants.{Line, Unkn
 use Rattle.data_lines.specs.declared.refusal.DataRefusal.TheVariants.{ParameterRange}
 use Rattle.data_lines.specs.Naming.{AreLines, AreSound, IsLeftOut, SaysCells, SaysSeed, line_of}
 use Rattle.scop_syntax.specs.Execution.{layout, total_cells}
-use Rattle.data_text.specs.Cases.{Said, data_said, ok_said, seed_cell}
+use Rattle.data_lines.specs.Sheets.{is_narrow}
+use Rattle.data_text.specs.Cases.{Said, data_said, ok_said, seeded_cell}
 use Rattle.data_text.specs.Described.{AreCells, AreContents, AreGiven, AreHeld, Describes, IsFirstBroken, IsLow}
 use Rattle.data_text.specs.Described.{IsMiscounted, cells_in}
 use Rattle.data_text.proofs.DescribedLemmas.{LineLaws, SheetLaws, text_tells}
@@ -54,7 +55,8 @@ one_held laws program lines j n a b are (inr (inr one)) (inr (inl other)) =
     absurd (laws.either program lines j b one.0 are other.0 one.1)
 one_held laws program lines j n a b are (inr (inr one)) (inr (inr other)) =
     let same = laws.seed program lines j one.0 other.0 are one.1 other.1 in
-    same_cells n (seed_cell other.0) a b (subst (λ s. AreCells n (seed_cell s) a) same one.2) other.2
+    let cell : ℕ → ℕ → ℕ = seeded_cell (is_narrow program j) in
+    same_cells n (cell other.0) a b (subst (λ s. AreCells n (cell s) a) same one.2) other.2
 
 one_contents : (laws : LineLaws) (program : Program) (lines : ℕ → Text) (params : List ℤ) (a b : List (List ℕ))
     → AreLines program lines → AreContents program lines params a → AreContents program lines params b → a ≡ b

@@ -105,7 +105,7 @@ line_is program sheet line b bs list is =
 -- an array's line puts its cells into the place of its name
 pub row_is_read : (program : Program) (sheet : Sheet) (line : ℕ) (name : Text) (cells : List ℕ) → IsName name
     → 0 < length cells → All (λ cell. cell < 2 ^ 64) cells
-    → with_line program sheet line (row_text name cells) ≡ written_at sheet line (place_of program name)
+    → with_line program sheet line (row_text name cells) ≡ written_at program sheet line (place_of program name)
     (map decimal cells)
 row_is_read program sheet line [] cells is some small = absurd (let wrong = is.letter in cc)
 row_is_read program sheet line name [] is some small = absurd (omega (arith, some))

@@ -1,7 +1,7 @@
 -- The text of a case says the case: its lines are those of its parameters and its arrays, in the order of declaration.
 use Rattle.std.proofs.Common.{◌≡◌, ◌∙◌, sym, ap, subst, refl, inl, inr, ℕ, zero, suc, ◌+◌, ◌^◌, ◌<◌, ◌≤◌, true}
-use Rattle.std.proofs.Common.{false, List, [], ◌∷◌, ◌++◌, map, length, get_or, codes, decimal, ne_eqb, append_assoc}
-use Rattle.std.proofs.Common.{length-append, arith}
+use Rattle.std.proofs.Common.{Bool, false, List, [], ◌∷◌, ◌++◌, map, length, get_or, codes, decimal, ne_eqb}
+use Rattle.std.proofs.Common.{append_assoc, length-append, arith}
 use Rattle.std.proofs.Math.Nat.{one-le-mul}
 use Rattle.std.proofs.lemmas.Int.{ints}
 use Rattle.std.proofs.lemmas.List.{get_or_append_left, get_or-append-add, get_or-map, get_or_default, length-map}
@@ -16,7 +16,8 @@ use Rattle.scop_syntax.specs.Tree.{Declaration, Program}
 use Rattle.scop_syntax.specs.Execution.{IsShaped, cell_count, layout, size_of}
 use Rattle.scop_syntax.specs.Limits.{WithinLimits}
 use Rattle.data_lines.specs.Words.{is_line_feed, lines_of}
-use Rattle.data_lines.specs.Sheets.{names_of}
+use Rattle.data_lines.specs.Numbers.{HaveWidth}
+use Rattle.data_lines.specs.Sheets.{is_narrow, names_of}
 use Rattle.data_lines.specs.Naming.{AreNumbers, IsBlank, IsValue, line_of}
 use Rattle.data_lines.proofs.EachLemmas.{HasHead, NameEach, each_are_lines, each_says_cells, each_says_value}
 use Rattle.data_text.specs.ArrayText.{cells_text, row_text, rows_text}
@@ -281,6 +282,11 @@ array_words program params contents j count =
     ap (λ n. words_at params contents (n + j)) same
     ∙ ap (map decimal) (get_or-append-add (parameter_rows params) contents j [])
 
+width_of : (narrow : Bool) (cells : List ℕ) → ((k : ℕ) → narrow ≡ true → get_or cells k 0 < 2 ^ 32)
+    → HaveWidth narrow cells
+width_of false cells hold = tt
+width_of true cells hold = λ k d within. subst (λ n. n < 2 ^ 32) (get_or_default cells k 0 d within) (hold k refl)
+
 arrays_given : ExtentLaw → (program : Program) (params : List ℤ) (contents : List (List ℕ))
     → IsWritable program params contents
     → AreContents program (line_of (case_text program params contents)) params contents
@@ -289,16 +295,18 @@ arrays_given law program params contents is = record {
   each = λ j within.
       let cells = get_or contents j [] in
       let row = content_row law program params contents is j [] within in
-      let numbers : AreNumbers cells (map decimal cells) = record {
+      let narrow = is_narrow program j in
+      let numbers : AreNumbers narrow cells (map decimal cells) = record {
         numbers = numbers_of_cells cells row.1;
         some = omega (arith, row.0, length-map cells decimal);
+        width = width_of narrow cells (is.widths j);
       } in
       let there : j < length program.arrays =
       omega (arith, within, contents_count program params contents is.shape) in
       inr (inl (
         each_says_cells program (line_of (case_text program params contents)) (words_at params contents) j cells
             (name_each law program params contents is) there
-            (subst (AreNumbers cells) (sym (array_words program params contents j is.limits.count)) numbers),
+            (subst (AreNumbers narrow cells) (sym (array_words program params contents j is.limits.count)) numbers),
         count_at program params contents j is.shape within,
       ));
 }

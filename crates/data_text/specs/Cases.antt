@@ -1,12 +1,14 @@
 -- The case that data says of a program: the values of its parameters, and the contents of its arrays; or the first
 -- rule that the data breaks.
-use Rattle.std.specs.Prelude.{◌≡◌, ℕ, ◌+◌, ◌*◌, ◌%◌, ◌^◌, ◌==◌, nat_lt, int_le, if◌then◌else◌, ℤ, pos, List, []}
-use Rattle.std.specs.Prelude.{◌∷◌, length, map, replicate, Option, Some, None, Result, Ok, Err, ⊤}
+use Rattle.std.specs.Prelude.{◌≡◌, ℕ, ◌+◌, ◌*◌, ◌%◌, ◌^◌, ◌==◌, nat_lt, int_le, Bool, true, false, if◌then◌else◌, ℤ}
+use Rattle.std.specs.Prelude.{pos, List, [], ◌∷◌, drop, length, map, replicate, slice_index_or, Option, Some, None}
+use Rattle.std.specs.Prelude.{Result, Ok, Err, ⊤}
 use Rattle.std.specs.List.{range_with_len}
 use Rattle.scop_lexer.specs.Bytes.{Text}
 use Rattle.scop_syntax.specs.Tree.{Declaration, Program}
 use Rattle.scop_syntax.specs.Cells.{values}
 use Rattle.scop_syntax.specs.Execution.{layout, cell_count, total_cells}
+use Rattle.scop_syntax.specs.Kernel.{narrow_arrays}
 use Rattle.data_lines.specs.Sheets.{Given, nothing, listed, seeded, Sheet}
 use Rattle.data_lines.specs.Entries.{sheet_said}
 use Rattle.data_lines.specs.declared.refusal.DataRefusal.{DataRefusal}
@@ -84,17 +86,23 @@ miscounted (Some m) = Some (Count m.line m.expected m.found)
 abbrev pub seed_cell : ℕ → ℕ → ℕ
 seed_cell seed k = (seed + k + 1) * 11400714819323198485 % 2 ^ 64
 
--- the cells of an array that has so many: zeros, the list, or by the seed
-abbrev pub cells_said : ℕ → Given → List ℕ
-cells_said count nothing = replicate count 0
-cells_said count (listed line cells) = cells
-cells_said count (seeded seed) = map (seed_cell seed) (range_with_len 0 count)
+-- that of a narrow array, modulo 2^32, or of another
+abbrev pub seeded_cell : Bool → ℕ → ℕ → ℕ
+seeded_cell true seed k = seed_cell seed k % 2 ^ 32
+seeded_cell false seed k = seed_cell seed k
 
--- the cells of each array, in declared order
-abbrev pub contents_said : List (List ℕ) → List Given → List (List ℕ)
-contents_said [] rows = []
-contents_said (extents ∷ layouts) [] = []
-contents_said (extents ∷ layouts) (given ∷ rows) = cells_said (cell_count extents) given ∷ contents_said layouts rows
+-- the cells of an array, narrow or not, that has so many: zeros, the list, or by the seed
+abbrev pub cells_said : Bool → ℕ → Given → List ℕ
+cells_said narrow count nothing = replicate count 0
+cells_said narrow count (listed line cells) = cells
+cells_said narrow count (seeded seed) = map (seeded_cell narrow seed) (range_with_len 0 count)
+
+-- the cells of each array, in declared order, by which are narrow
+abbrev pub contents_said : List Bool → List (List ℕ) → List Given → List (List ℕ)
+contents_said narrow [] rows = []
+contents_said narrow (extents ∷ layouts) [] = []
+contents_said narrow (extents ∷ layouts) (given ∷ rows) =
+    cells_said (slice_index_or narrow 0 false) (cell_count extents) given ∷ contents_said (drop 1 narrow) layouts rows
 
 -- a rule that is broken is told
 abbrev pub told_or : Option DataRefusal → Result Said DataRefusal → Result Said DataRefusal
@@ -102,9 +110,9 @@ told_or (Some refusal) otherwise = Err refusal
 told_or None otherwise = otherwise
 
 -- the case by the lists of arrays with this layout
-abbrev pub filled : List ℤ → List (List ℕ) → List Given → Result Said DataRefusal
-filled params layouts rows = told_or (miscounted (first_miscount None layouts rows))
-    (Ok (record { params = params; contents = contents_said layouts rows }))
+abbrev pub filled : List Bool → List ℤ → List (List ℕ) → List Given → Result Said DataRefusal
+filled narrow params layouts rows = told_or (miscounted (first_miscount None layouts rows))
+    (Ok (record { params = params; contents = contents_said narrow layouts rows }))
 
 -- an extent that is no extent, or too many cells
 abbrev pub bad_layout : Program → List ℤ → Option DataRefusal
@@ -113,7 +121,8 @@ bad_layout program params =
 
 -- the case with these values of the parameters
 abbrev pub laid_out : Program → List ℤ → List Given → Result Said DataRefusal
-laid_out program params rows = told_or (bad_layout program params) (filled params (layout program params) rows)
+laid_out program params rows =
+    told_or (bad_layout program params) (filled (narrow_arrays program) params (layout program params) rows)
 
 -- the case of a sheet: each parameter has a line, then each extent is positive, then there are at most 2^22 cells,
 -- then each list is as long as its array

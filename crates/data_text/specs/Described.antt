@@ -11,7 +11,8 @@ use Rattle.data_lines.specs.declared.refusal.DataRefusal.TheVariants.{Missing, E
 use Rattle.data_lines.specs.Naming.{AreInOrder, AreLines, IsLeftOut, IsMissing, ListsCells, SaysCells, SaysSeed}
 use Rattle.data_lines.specs.Naming.{SaysValue}
 use Rattle.data_lines.specs.Naming.{IsFirstBroken as IsFirstBrokenLine}
-use Rattle.data_text.specs.Cases.{seed_cell}
+use Rattle.data_lines.specs.Sheets.{is_narrow}
+use Rattle.data_text.specs.Cases.{seeded_cell}
 
 -- each parameter has the value that a line says
 pub record AreGiven (program : Program) (lines : ℕ → Text) (params : List ℤ) : Type 0 where
@@ -29,7 +30,7 @@ pub record AreCells (count : ℕ) (cell : ℕ → ℕ) (cells : List ℕ) : Type
 abbrev pub AreHeld : Program → (ℕ → Text) → ℕ → ℕ → List ℕ → Type 0
 AreHeld program lines j count cells = (IsLeftOut program j lines × AreCells count (λ k. 0) cells)
     ⊎ ((SaysCells program j cells lines × (length cells ≡ count))
-    ⊎ ((seed : ℕ) × SaysSeed program j seed lines × AreCells count (seed_cell seed) cells))
+    ⊎ ((seed : ℕ) × SaysSeed program j seed lines × AreCells count (seeded_cell (is_narrow program j) seed) cells))
 
 -- how many cells an array has
 abbrev pub cells_in : Program → List ℤ → ℕ → ℕ

@@ -3,14 +3,16 @@
 ghost use Rattle.std.specs.Prelude.{◌≡◌, IfOk, IfErr, None, length, map};
 ghost use Rattle.scop_syntax.specs.View.{program_of};
 ghost use Rattle.scop_syntax.specs.Execution.{IsShaped, layout};
-ghost use Rattle.scop_syntax.specs.Kernel.{IsKernel};
+ghost use Rattle.scop_syntax.specs.Kernel.{IsKernel, narrow_arrays};
 ghost use Rattle.scop_syntax.specs.Limits.{WithinLimits};
+ghost use Rattle.scop_syntax.specs.Widths.{HoldWidths};
 ghost use Rattle.data_lines.specs.Sheets.{IsSheetOf, given_of, sheet_of};
 ghost use Rattle.data_lines.specs.Entries.{StopsAs};
 ghost use Rattle.data_text.specs.Cases.{Says, case_said, contents_said, data_said, first_miscount, ok_said};
 
 use crate::contents::{contents_of, contents_said};
 use crate::extents::{layout_of, layout_said};
+use crate::laws::texts_say_what_lines_describe;
 use crate::parameters::params_said;
 use data_lines::{DataStop, Given, Sheet, read_lines};
 use scop_syntax::arrays::{Arrays, Extents};
@@ -32,8 +34,10 @@ pub fn read_data(alloc: Global, kernel: &Kernel, text: &[u8]) -> Result<Case, Da
     ensures extents { IfOk result (λ case. case.extents ≡ layout (program_of kernel.now) case.params.items) }
     ensures limits { IfOk result (λ case. WithinLimits (program_of kernel.now) case.params.items) }
     ensures shape { IfOk result (λ case. IsShaped case.extents case.arrays) }
+    ensures widths { IfOk result (λ case. HoldWidths (narrow_arrays (program_of kernel.now)) case.arrays) }
     ensures refused { IfErr result (StopsAs (data_said (program_of kernel.now) text.now)) }
 {
+    texts_say_what_lines_describe();
     match read_lines(alloc, kernel, text) {
         Ok(sheet) => case_of(alloc, kernel, sheet),
         Err(stop) => Err(stop),
@@ -53,7 +57,7 @@ fn case_of(alloc: Global, kernel: &Kernel, sheet: Sheet) -> Result<Case, DataSto
 {
     let params = params_said(alloc, &sheet.values)?;
     let extents = layout_said(alloc, kernel, &params)?;
-    let arrays = contents_said(alloc, &extents, sheet.rows)?;
+    let arrays = contents_said(alloc, kernel, &extents, sheet.rows)?;
     Ok(Case {
         params,
         extents,
@@ -78,11 +82,12 @@ pub fn case_given(
     ensures params { IfOk result (λ case. case.params.items ≡ params.items) }
     ensures extents { IfOk result (λ case. case.extents ≡ layout (program_of kernel.now) params.items) }
     ensures arrays { IfOk result (λ case. case.arrays
-        ≡ contents_said (layout (program_of kernel.now) params.items) (map given_of rows.items)) }
+        ≡ contents_said (narrow_arrays (program_of kernel.now)) (layout (program_of kernel.now) params.items)
+        (map given_of rows.items)) }
     ensures shape { IfOk result (λ case. IsShaped case.extents case.arrays) }
 {
     let extents = layout_of(alloc, &kernel.arrays, &params)?;
-    let arrays = contents_of(alloc, &extents, rows)?;
+    let arrays = contents_of(alloc, kernel, &extents, rows)?;
     Ok(Case {
         params,
         extents,

@@ -1,12 +1,12 @@
 //! Laws of what data says, as contracts of functions that do nothing.
 
 ghost use Rattle.std.specs.Prelude.{◌≡◌, All, ◌⊎◌, ◌+◌, ◌^◌, ◌<◌, ◌++◌, ℕ, ℤ, List, Ok, Err, Some, codes, decimal};
-ghost use Rattle.std.specs.Prelude.{length, map};
+ghost use Rattle.std.specs.Prelude.{Bool, length, map};
 ghost use Rattle.std.specs.List.{join_with_byte};
 ghost use Rattle.data_lines.specs.Words.{lines_of};
 ghost use Rattle.scop_lexer.specs.Words.{IsName};
 ghost use Rattle.data_text.specs.ArrayText.{row_text};
-ghost use Rattle.data_lines.specs.Numbers.{number_of};
+ghost use Rattle.data_lines.specs.Numbers.{HaveWidth, number_of};
 ghost use Rattle.data_lines.specs.Sheets.{Sheet, listed, place_of};
 ghost use Rattle.data_lines.specs.Entries.{row_said, with_line, with_lines, written_at};
 ghost use Rattle.scop_lexer.specs.Bytes.{Text};
@@ -68,9 +68,10 @@ pub fn decimals_are_numbers()
 pub fn array_lines_are_data_lines()
     ensures line { (program : Program) (sheet : Sheet) (line : ℕ) (name : Text) (cells : List ℕ) → IsName name
         → 0 < length cells → All (λ cell. cell < 2 ^ 64) cells → with_line program sheet line (row_text name cells)
-        ≡ written_at sheet line (place_of program name) (map decimal cells) }
-    ensures cells { (line : ℕ) (cells : List ℕ) → 0 < length cells → All (λ cell. cell < 2 ^ 64) cells
-        → row_said line (map decimal cells) ≡ Ok (listed line cells) }
+        ≡ written_at program sheet line (place_of program name) (map decimal cells) }
+    ensures cells { (narrow : Bool) (line : ℕ) (cells : List ℕ) → 0 < length cells
+        → All (λ cell. cell < 2 ^ 64) cells → HaveWidth narrow cells
+        → row_said narrow line (map decimal cells) ≡ Ok (listed line cells) }
 {}
 
 /// What `write_arrays` writes of a case, behind a line for each parameter, says the case again.

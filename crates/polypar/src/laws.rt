@@ -6,7 +6,9 @@ ghost use Rattle.io_ports.specs.Reads.{SourceShows};
 ghost use Rattle.io_ports.specs.Writes.{SinkShows};
 ghost use Rattle.scop_syntax.specs.Tree.{Program};
 ghost use Rattle.scop_syntax.specs.Execution.{IsShaped, layout};
+ghost use Rattle.scop_syntax.specs.Kernel.{narrow_arrays};
 ghost use Rattle.scop_syntax.specs.Limits.{WithinLimits};
+ghost use Rattle.scop_syntax.specs.Widths.{HoldWidths};
 ghost use Rattle.scop_parser.specs.Spelling.{SpellsProgram};
 ghost use Rattle.data_text.specs.Cases.{Says};
 ghost use Rattle.data_text.specs.Written.{case_text};
@@ -32,7 +34,7 @@ use scop_parser::laws::{spelled_names_are_words, spelled_programs_are_kernels};
 pub fn printed_arrays_are_data()
     ensures { (text : List ℕ) (program : Program) (params : List ℤ) (contents : List (List ℕ))
         → SpellsProgram text program → WithinLimits program params → IsShaped (layout program params) contents
-        → All (λ array. All (λ cell. cell < 2 ^ 64) array) contents
+        → All (λ array. All (λ cell. cell < 2 ^ 64) array) contents → HoldWidths (narrow_arrays program) contents
         → Says (case_text program params contents) program params contents }
 {
     spelled_programs_are_kernels();

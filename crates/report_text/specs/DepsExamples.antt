@@ -1,5 +1,5 @@
 -- Two kernels with the sources of their reads, and the texts.
-use Rattle.std.specs.Prelude.{ℕ, ℤ, pos, negsuc, List, [], ◌∷◌, ◌++◌, Some, codes}
+use Rattle.std.specs.Prelude.{ℕ, ℤ, pos, negsuc, false, List, [], ◌∷◌, ◌++◌, Some, codes}
 use Rattle.whole_numbers.specs.Affine.{Affine, form_of}
 use Rattle.scop_lexer.specs.Bytes.{Text}
 use Rattle.scop_syntax.specs.Tree.{Access, Right, assigned, read, constant, Head, Tree, Trees}
@@ -36,7 +36,8 @@ at k b = record { array = k; subscripts = over (pos 0) b (pos 0) ∷ [] }
 
 -- uint64_t NAME[a*N]
 abbrev pub sized : Text → ℤ → Declaration
-sized name a = record { name = name; parameters_before = 1; extents = form_of (a ∷ []) (pos 0) ∷ [] }
+sized name a =
+    record { name = name; parameters_before = 1; narrow = false; extents = form_of (a ∷ []) (pos 0) ∷ [] }
 
 -- a kernel over N and the arrays A and B, of a*N cells
 abbrev pub over_two : Text → ℤ → Trees → Program

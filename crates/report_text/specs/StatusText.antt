@@ -19,7 +19,7 @@ use Rattle.scop_parser.specs.RefusalKind.TheVariants.{LoopForm, Condition}
 use Rattle.scop_parser.specs.RefusalKind.TheVariants.{SignedValue, ShiftCount, Division, Call, Rank}
 use Rattle.scop_parser.specs.RefusalKind.TheVariants.{IteratorOutside}
 use Rattle.scop_parser.specs.RefusalKind.TheVariants.{Depth, Statements, Arrays, Parameters, Reads}
-use Rattle.scop_parser.specs.RefusalKind.TheVariants.{TooLong}
+use Rattle.scop_parser.specs.RefusalKind.TheVariants.{TooLong, Width}
 use Rattle.scop_parser.specs.declared.refusal.Refusal.{Refusal}
 
 -- a number between two texts
@@ -56,6 +56,7 @@ kind_text Arrays = codes "refused: Arrays"
 kind_text Parameters = codes "refused: Parameters"
 kind_text Reads = codes "refused: Reads"
 kind_text TooLong = codes "refused: TooLong"
+kind_text Width = codes "refused: Width"
 
 -- ` LINE:COLUMN` and a line feed
 abbrev pub place_text : ℕ → ℕ → List ℕ

@@ -142,5 +142,6 @@ fn kind_text(kind: RefusalKind) -> &'static [u8]
         RefusalKind::Parameters => b"refused: Parameters",
         RefusalKind::Reads => b"refused: Reads",
         RefusalKind::TooLong => b"refused: TooLong",
+        RefusalKind::Width => b"refused: Width",
     }
 }

@@ -6,7 +6,7 @@ use Rattle.scop_syntax.specs.Tree.{Declaration}
 use Rattle.scop_syntax.specs.View.{program_of}
 use Rattle.scop_syntax.specs.Cells.{values}
 use Rattle.scop_syntax.specs.Execution.{layout, size_of}
-use Rattle.scop_syntax.specs.Kernel.{IsDeclaration}
+use Rattle.scop_syntax.specs.Kernel.{IsDeclaration, narrow_arrays}
 use Rattle.data_lines.specs.Sheets.{given_of}
 use Rattle.data_text.specs.Conditions.{AreParameters, IsLayout}
 use Rattle.data_text.proofs.LayoutLemmas.{are_layouts}
@@ -40,4 +40,4 @@ returns-clause-shape c =
     c.deref-2.ensures.value c.deref.ensures.value in
     let long : length rows ≡ length layouts = length-map c.args.rows.items given_of ∙ (c.requires.rows
     ∙ sym (length-map program.arrays (λ (d : Declaration). map size_of (values d.extents params)))) in
-    rw (c.in_ok-arrays.ensures, same) (shaped layouts rows long c.requires.lists)
+    rw (c.in_ok-arrays.ensures, same) (shaped (narrow_arrays program) layouts rows long c.requires.lists)

@@ -5,6 +5,7 @@ use Rattle.scop_syntax.specs.Tree.{Declaration}
 use Rattle.scop_syntax.specs.View.{program_of}
 use Rattle.scop_syntax.specs.Cells.{values}
 use Rattle.scop_syntax.specs.Execution.{layout, total_cells, size_of}
+use Rattle.scop_syntax.specs.Kernel.{narrow_arrays}
 use Rattle.data_lines.specs.Sheets.{given_of}
 use Rattle.data_text.specs.Cases.{bad_layout, first_miscount, param_of, params_of, too_many}
 use Rattle.data_text.specs.Conditions.{AreParameters}
@@ -49,4 +50,5 @@ returns-clause-shape c =
     ∙ sym (ap length c.in_ok-extents.ensures.extents
     ∙ length-map program.arrays (λ (d : Declaration). map size_of (values d.extents c.deref-2.result.now))) in
     ap (map length) c.in_ok-arrays.ensures.contents
-    ∙ shaped layouts rows long (none_miscounted (first_miscount None layouts rows) c.in_ok-arrays.ensures.good)
+    ∙ shaped (narrow_arrays program) layouts rows long
+    (none_miscounted (first_miscount None layouts rows) c.in_ok-arrays.ensures.good)
