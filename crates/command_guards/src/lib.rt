@@ -12,10 +12,12 @@ ghost use Rattle.io_ports.specs.Reads.{SourceShows};
 ghost use Rattle.io_ports.specs.Writes.{SinkShows};
 ghost use Rattle.scop_syntax.specs.Cells.{PlacesConflict};
 ghost use Rattle.scop_syntax.specs.Execution.{IsInside, IsShaped, exec, layout, performed_all};
+ghost use Rattle.scop_syntax.specs.Kernel.{narrow_arrays};
 ghost use Rattle.scop_syntax.specs.Limits.{HasParameters, WithinLimits};
 ghost use Rattle.scop_syntax.specs.Members.{In};
 ghost use Rattle.scop_syntax.specs.Tree.{Program};
 ghost use Rattle.scop_syntax.specs.Walk.{Visit as Walked, instance, walk_of};
+ghost use Rattle.scop_syntax.specs.Widths.{HoldWidths};
 ghost use Rattle.scop_parser.specs.Spelling.{SpellsProgram};
 ghost use Rattle.data_text.specs.Cases.{Says};
 ghost use Rattle.data_text.specs.Written.{case_text};
@@ -68,7 +70,7 @@ pub fn statuses_deserved_without_input()
 pub fn arrays_of_kernels_without_parameters()
     ensures { (text : List ℕ) (program : Program) (contents : List (List ℕ)) → SpellsProgram text program
         → WithinLimits program [] → IsShaped (layout program []) contents
-        → All (λ array. All (λ cell. cell < 2 ^ 64) array) contents
+        → All (λ array. All (λ cell. cell < 2 ^ 64) array) contents → HoldWidths (narrow_arrays program) contents
         → Says (case_text program [] contents) program [] contents }
 {
     printed_arrays_are_data();

@@ -1,19 +1,21 @@
 //! Callers of walks, executions and limits, most at a worked loop over four cells that falls by two.
 ghost use Rattle.std.specs.Prelude.{◌≡◌, ◌+◌, ◌<◌, ◌≤◌, ◌^◌, ◌<ℤ◌, ◌-ℤ◌, ◌++◌, ◌∷◌, [], All, ℕ, ℤ, List, None, Some};
-ghost use Rattle.std.specs.Prelude.{false, length, negsuc, pos, slice_get, unsigned_abs};
+ghost use Rattle.std.specs.Prelude.{false, length, negsuc, pos, slice_get, slice_index_or, true, unsigned_abs};
 ghost use Rattle.whole_numbers.specs.Affine.{value_of};
 ghost use Rattle.scop_syntax.specs.Acts.{acts_all};
 ghost use Rattle.scop_syntax.specs.Cells.{Cell, PlacesConflict, written};
 ghost use Rattle.scop_syntax.specs.Covers.{Chain, Cover};
 ghost use Rattle.scop_syntax.specs.Examples.{falling_by_two, form, head, rising};
 ghost use Rattle.scop_syntax.specs.Execution.{IsCell, IsShaped, before_place, cell_number, held, layout, performed_all};
-ghost use Rattle.scop_syntax.specs.Execution.{stored, value_stored_at};
+ghost use Rattle.scop_syntax.specs.Execution.{exec, stored, value_stored_at};
 ghost use Rattle.scop_syntax.specs.Failures.{Failure, LiesIn, VisitsAreRanked, first_outside};
+ghost use Rattle.scop_syntax.specs.Kernel.{IsKernel, narrow_arrays};
 ghost use Rattle.scop_syntax.specs.Members.{In};
 ghost use Rattle.scop_syntax.specs.Statements.{Placed, Runs, point_of, statements_of};
 ghost use Rattle.scop_syntax.specs.Tree.{Head, Program, moved_left};
 ghost use Rattle.scop_syntax.specs.Values.{stored_by};
 ghost use Rattle.scop_syntax.specs.Walk.{Falls, Visit, condition_at, loop_walk, walk_of};
+ghost use Rattle.scop_syntax.specs.Widths.{HoldTypes, HoldWidths};
 ghost use Rattle.scop_syntax.specs.Writers.{last_writer, left_by, next_of, next_writer, writes};
 ghost use Rattle.conflict_deps.specs.Examples.{two};
 
@@ -26,7 +28,9 @@ use scop_syntax::failure_laws::failures_are_the_first;
 use scop_syntax::limit_laws::{
     accesses_have_the_ranks_of_arrays, cells_lie_within_22_bits, values_lie_within_45_bits,
 };
-use scop_syntax::value_laws::values_stay_below_2_64;
+use scop_syntax::value_laws::{
+    cells_hold_numbers_of_their_types, narrow_cells_stay_narrow, values_stay_below_2_64,
+};
 use scop_syntax::walk_laws::{loops_walk_while_their_condition_holds, walks_are_acts};
 
 /// The condition of the loop falls, by `falls` of `loops_walk_while_their_condition_holds`; a condition that falls
@@ -137,4 +141,23 @@ pub fn values_are_small()
 {
     values_stay_below_2_64();
     values_lie_within_45_bits();
+}
+
+/// In a kernel whose only array has 32 bits, no cell holds more before any place of a run, by `before` of
+/// `narrow_cells_stay_narrow`, nor behind it, by `behind`; and by the clause of `cells_hold_numbers_of_their_types`.
+pub fn cells_of_32_bits()
+    ensures before { (program : Program) (params : List ℤ) (contents : List (List ℕ)) (j k : ℕ) → IsKernel program
+        → narrow_arrays program ≡ true ∷ [] → HoldWidths (true ∷ []) contents
+        → slice_index_or (slice_index_or (before_place (layout program params) contents (walk_of program params) j)
+        0 []) k 0 < 2 ^ 32 }
+    ensures behind { (program : Program) (params : List ℤ) (contents : List (List ℕ)) (k : ℕ) → IsKernel program
+        → narrow_arrays program ≡ true ∷ [] → HoldWidths (true ∷ []) contents
+        → slice_index_or (slice_index_or (exec program params contents) 0 []) k 0 < 2 ^ 32 }
+    ensures types { (program : Program) (params : List ℤ) (contents : List (List ℕ)) (j k : ℕ) → IsKernel program
+        → narrow_arrays program ≡ true ∷ [] → HoldTypes (true ∷ []) contents
+        → slice_index_or (slice_index_or (before_place (layout program params) contents (walk_of program params) j)
+        0 []) k 0 < 2 ^ 32 }
+{
+    narrow_cells_stay_narrow();
+    cells_hold_numbers_of_their_types();
 }

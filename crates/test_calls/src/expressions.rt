@@ -1,12 +1,12 @@
 //! An expression whose nodes are worked out by hand.
 
 use expression_grammar::reader::read;
-use expression_grammar::token::{Op, Suffix, Token};
+use expression_grammar::token::{Base, Op, Suffix, Token};
 use std::alloc::Global;
 
 const NAME: Token = Token::Name;
 
-const ONE: Token = Token::Constant(Suffix::Absent);
+const ONE: Token = Token::Constant(Suffix::Absent(Base::Decimal));
 
 const MINUS: Token = Token::Binary(Op::Minus);
 

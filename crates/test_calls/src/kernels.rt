@@ -1,6 +1,6 @@
 //! A kernel whose parts are worked out by hand.
 
-use expression_grammar::token::{Assign, Outside, Suffix, Token};
+use expression_grammar::token::{Assign, Base, Outside, Suffix, Token};
 use kernel_grammar::reader::read;
 use std::alloc::Global;
 
@@ -16,7 +16,7 @@ const SET: Token = Token::Outside(Outside::Assign(Assign::Set));
 
 const SEMICOLON: Token = Token::Outside(Outside::Semicolon);
 
-const ONE: Token = Token::Constant(Suffix::Absent);
+const ONE: Token = Token::Constant(Suffix::Absent(Base::Decimal));
 
 // void k(int64_t N) { A[1] = 1; }
 const TEXT: [Token; 15] = [

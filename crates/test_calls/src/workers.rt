@@ -54,6 +54,23 @@ N = 4
 A = 1 2 3 4
 ";
 
+const WRAP: &str = "void h(int64_t N, uint32_t A[N], uint64_t B[N]) {
+    for (int64_t i = 0; i < N; i++) B[i] = A[i] + 0xFFFFFFFF; }
+%%
+";
+
+const CAST: &str = "void h(int64_t N, uint32_t A[N], uint64_t B[N]) {
+    for (int64_t i = 0; i < N; i++) B[i] = (uint64_t)A[i] + 0xFFFFFFFF; }
+%%
+";
+
+const CAST_32: &str = "void k(int64_t N, uint32_t A[N]) {
+    for (int64_t i = 0; i < N; i++) A[i] = A[i] + (uint32_t)i; }
+%%
+";
+
+const LINE_ROW: &str = "row 1 band 1 parallel u (0) w 0: S1 (1) + 0\n";
+
 const PREFIX_ROW: &str = "row 1 band 1 carries u (0) w 1: S1 (1) + 0\n";
 
 const SWEEP_ROWS: &str = "row 1 band 1 carries u (0 0) w 1: S1 (1 0) + 0
@@ -137,6 +154,36 @@ const REPORTED: &[Reported] = &[
         arrays: "A = 1 2 3 4\nB = 5 6 7 8\nC = 19 22 43 50\n",
         plan: "kept: spent 1\n",
         counts: "tiles 1 waves 1",
+        edges: "edges 0\n",
+    },
+    Reported {
+        kernel: WRAP,
+        data: "N = 2\nA = 1 2\n",
+        tile: "1",
+        budget: "20000",
+        arrays: "A = 1 2\nB = 0 1\n",
+        plan: LINE_ROW,
+        counts: "tiles 2 waves 1",
+        edges: "edges 0\n",
+    },
+    Reported {
+        kernel: CAST,
+        data: "N = 2\nA = 1 2\n",
+        tile: "1",
+        budget: "20000",
+        arrays: "A = 1 2\nB = 4294967296 4294967297\n",
+        plan: LINE_ROW,
+        counts: "tiles 2 waves 1",
+        edges: "edges 0\n",
+    },
+    Reported {
+        kernel: CAST_32,
+        data: "N = 2\nA = 4294967295 4294967295\n",
+        tile: "1",
+        budget: "20000",
+        arrays: "A = 4294967295 0\n",
+        plan: LINE_ROW,
+        counts: "tiles 2 waves 1",
         edges: "edges 0\n",
     },
 ];

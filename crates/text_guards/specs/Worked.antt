@@ -1,14 +1,20 @@
 -- A worked loop, `for (int64_t i = 0; i < 7; i++) A[2 * i + 1] += i * A[i];`, outside all others: the formulas of its
--- parts, where i is the one entry of a point and A is array 0, of one dimension.
-use Rattle.std.specs.Prelude.{true, codes}
+-- parts, where i is the one entry of a point and A is array 0, of one dimension and 64 bits.
+use Rattle.std.specs.Prelude.{true, false, codes}
 use Rattle.expression_grammar.specs.Assign.TheVariants as assign
+use Rattle.expression_grammar.specs.Base.TheVariants as base
 use Rattle.expression_grammar.specs.Count.TheVariants as count
 use Rattle.expression_grammar.specs.Op.TheVariants as op
+use Rattle.expression_grammar.specs.Suffix.{Suffix}
 use Rattle.expression_grammar.specs.Suffix.TheVariants as suffix
 use Rattle.scop_roles.specs.declared.formula.Meaning.TheVariants as meaning
 use Rattle.scop_roles.specs.Formula.{Formula, binary, constant, index, name}
 use Rattle.scop_units.specs.Loops.{LoopHead, counted}
 use Rattle.scop_units.specs.Units.{Stored}
+
+-- a decimal without suffix
+abbrev pub decimal : Suffix
+decimal = suffix.Absent base.Decimal
 
 -- i
 abbrev pub i : Formula
@@ -16,19 +22,19 @@ i = name (meaning.Variable 0) 0
 
 -- i < 7
 abbrev pub below_seven : Formula
-below_seven = binary op.Less i (constant suffix.Absent 7 2) 1
+below_seven = binary op.Less i (constant decimal 7 2) 1
 
 -- 2 * i + 1
 abbrev pub odd : Formula
-odd = binary op.Plus (binary op.Times (constant suffix.Absent 2 0) i 1) (constant suffix.Absent 1 4) 3
+odd = binary op.Plus (binary op.Times (constant decimal 2 0) i 1) (constant decimal 1 4) 3
 
 -- A[2 * i + 1]
 abbrev pub odd_cell : Formula
-odd_cell = index (name (meaning.Array 0 1) 0) odd
+odd_cell = index (name (meaning.Array 0 1 false) 0) odd
 
 -- i * A[i]
 abbrev pub product : Formula
-product = binary op.Times i (index (name (meaning.Array 0 1) 2) i) 1
+product = binary op.Times i (index (name (meaning.Array 0 1 false) 2) i) 1
 
 -- A[2 * i + 1] += i * A[i]
 abbrev pub sum : Stored
@@ -42,7 +48,7 @@ head =
       new = true;
       name_at = 3;
       iterator = codes "i";
-      first = constant suffix.Absent 0 5;
+      first = constant decimal 0 5;
       second = below_seven;
       changed = i;
       change = counted count.Up;

@@ -4,12 +4,15 @@ ghost use Rattle.std.specs.Prelude.{◌+ℤ◌, ◌∷◌, ◌≡◌, ◌≢◌,
 ghost use Rattle.std.specs.Prelude.{unsigned_abs};
 ghost use Rattle.expression_grammar.specs.Grammar.{IsExpression};
 ghost use Rattle.expression_grammar.specs.Tree.{Tree};
+ghost use Rattle.expression_grammar.specs.Width.{Width};
 ghost use Rattle.whole_numbers.specs.Affine.{value_of};
 ghost use Rattle.scop_lexer.specs.Bytes.{Text};
 ghost use Rattle.scop_syntax.specs.Cells.{Cell, cell_of, reads, reads_of, values};
+ghost use Rattle.scop_syntax.specs.Execution.{held};
 ghost use Rattle.scop_syntax.specs.Statements.{AllHold};
 ghost use Rattle.scop_syntax.specs.Values.{stored_by, value_on};
 ghost use Rattle.scop_syntax.specs.Walk.{condition_at, turn_point};
+ghost use Rattle.scop_syntax.specs.Widths.{HoldWidths};
 ghost use Rattle.scop_roles.specs.declared.formula.Meaning.TheVariants as meaning;
 ghost use Rattle.scop_roles.specs.declared.formula.Role.TheVariants as role;
 ghost use Rattle.scop_roles.specs.Faults.{faults, first, place_faults};
@@ -18,11 +21,13 @@ ghost use Rattle.scop_roles.specs.Formula.{Formula, Lookup, formula};
 ghost use Rattle.scop_roles.specs.Scope.{IsArray, IsInScope};
 ghost use Rattle.scop_roles.specs.Values.{access, expression, tests};
 ghost use Rattle.scop_units.specs.Loops.{LoopHead, loop_faults, loop_of};
-ghost use Rattle.scop_units.specs.Scopes.{Scope, entries, meaning_in, with_loop};
+ghost use Rattle.scop_units.specs.Scopes.{Scope, entries, look, meaning_in, with_loop};
 ghost use Rattle.scop_units.specs.Units.{Stored, array_faults, array_of, declared_over, statement_of, stored_faults};
 ghost use Rattle.scop_units.specs.Words.{Words};
-ghost use Rattle.source_arithmetic.specs.Arithmetic.{HasCell, HasNoComma, HasTruth, HasWhole, HasWord, Holds, IsNameOf};
-ghost use Rattle.source_arithmetic.specs.Arithmetic.{after_step, cell, cells_in, cells_read, stored, whole, word};
+ghost use Rattle.source_arithmetic.specs.Arithmetic.{HasCell, HasNoComma, HasTruth, HasWhole, HasWord, HoldTypes};
+ghost use Rattle.source_arithmetic.specs.Arithmetic.{Holds, IsNameOf, after_step, cell, cell_class, cells_in};
+ghost use Rattle.source_arithmetic.specs.Arithmetic.{cells_read, class, stored, whole, word};
+ghost use Rattle.source_arithmetic.specs.Meaning.{NamesMean};
 
 use source_arithmetic::laws;
 
@@ -70,8 +75,9 @@ pub fn accesses_are_cells()
 
 /// The extents of arrays of a kernel without parameters, by the clause of `extents_are_whole_numbers`.
 pub fn extents_of_kernels_without_parameters()
-    ensures { (words : Words) (s : Scope) (at : ℕ) (fs : List Formula) → entries s ≡ 0 → array_faults words s at fs ≡ []
-        → values (declared_over 0 (array_of words s at fs)).extents [] ≡ map (λ f. whole [] f) fs }
+    ensures { (words : Words) (s : Scope) (at : ℕ) (w : Width) (fs : List Formula) → entries s ≡ 0
+        → array_faults words s at fs ≡ []
+        → values (declared_over 0 (array_of words s at w fs)).extents [] ≡ map (λ f. whole [] f) fs }
 {
     laws::extents_are_whole_numbers();
 }
@@ -81,9 +87,20 @@ pub fn values_are_words()
     ensures reads { (f : Formula) → first (faults 0 role.Value f) ≡ None
         → map (λ access. cell_of access []) (reads_of (expression 0 f)) ≡ cells_in [] f }
     ensures value { (f : Formula) (held : Cell → ℕ) → IsInScope [] f → HasNoComma f
-        → first (faults 0 role.Value f) ≡ None → value_on (expression 0 f) [] (map held (cells_in [] f)) ≡ word held [] f }
+        → first (faults 0 role.Value f) ≡ None → HoldTypes held [] f
+        → value_on (expression 0 f) [] (map held (cells_in [] f)) ≡ word held [] f }
 {
     laws::values_are_words();
+}
+
+/// Contents whose arrays of `uint32_t` hold no more have numbers of their types where an expression at the first token
+/// reads them, by the clause of `contents_hold_their_types`.
+pub fn contents_hold_their_types()
+    ensures { (words : Words) (s : Scope) (t : Tree) (contents : List (List ℕ)) → NamesMean s
+        → HoldWidths (map (λ a. a.narrow) s.arrays) contents
+        → HoldTypes (held [] contents) [] (formula (look words s) 0 t) }
+{
+    laws::contents_hold_their_types();
 }
 
 /// An expression at the first token has no comma outside of calls, by the clause of `commas_stand_in_calls`.
@@ -99,8 +116,9 @@ pub fn statements_store_words()
     ensures reads { (s : Stored) → stored_faults 0 s ≡ [] → map (λ access. cell_of access []) (reads (statement_of 0 s))
         ≡ cells_read s.assign (cell [] s.cell) (cells_in [] s.value) }
     ensures right { (s : Stored) (held : Cell → ℕ) → IsInScope [] s.value → HasNoComma s.value → stored_faults 0 s ≡ []
+        → HoldTypes held [] s.value
         → stored_by (statement_of 0 s).right [] (map held (cells_read s.assign (cell [] s.cell) (cells_in [] s.value)))
-        ≡ stored s.assign (held (cell [] s.cell)) (word held [] s.value) }
+        ≡ stored (cell_class s.cell) (class s.value) s.assign (held (cell [] s.cell)) (word held [] s.value) }
 {
     laws::statements_store_words();
 }

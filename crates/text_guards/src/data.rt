@@ -1,5 +1,5 @@
 //! Callers of the laws of data: a line that is missing, lines one by one, and numbers.
-ghost use Rattle.std.specs.Prelude.{◌≡◌, ◌+◌, ◌++◌, ◌<◌, ◌∷◌, ℕ, [], Err, List, Ok, Some, codes, decimal};
+ghost use Rattle.std.specs.Prelude.{◌≡◌, ◌+◌, ◌++◌, ◌<◌, ◌∷◌, ℕ, [], Bool, Err, List, Ok, Some, codes, decimal};
 ghost use Rattle.scop_lexer.specs.Bytes.{Text};
 ghost use Rattle.scop_lexer.specs.Words.{IsName};
 ghost use Rattle.scop_syntax.specs.Tree.{Program, none as no_trees};
@@ -57,8 +57,8 @@ pub fn small_decimals_are_numbers()
 pub fn lines_of_one_cell()
     ensures line { (program : Program) (sheet : Sheet) (line : ℕ) (name : Text) → IsName name
         → with_line program sheet line (row_text name (7 ∷ []))
-        ≡ written_at sheet line (place_of program name) (decimal 7 ∷ []) }
-    ensures cells { (line : ℕ) → row_said line (decimal 7 ∷ []) ≡ Ok (listed line (7 ∷ [])) }
+        ≡ written_at program sheet line (place_of program name) (decimal 7 ∷ []) }
+    ensures cells { (narrow : Bool) (line : ℕ) → row_said narrow line (decimal 7 ∷ []) ≡ Ok (listed line (7 ∷ [])) }
 {
     array_lines_are_data_lines();
 }

@@ -1,11 +1,11 @@
 //! Callers of what a spelled program means, where formulas stand, and which expressions are accepted: the laws of small
 //! kernels and of expressions that are given.
-ghost use Rattle.std.specs.Prelude.{◌≡◌, ◌∷◌, ◌≤◌, ◌<◌, ◌^◌, ℕ, [], All, List, None, Some, length, map, slice_get};
+ghost use Rattle.std.specs.Prelude.{◌≡◌, ◌∷◌, ◌≤◌, ◌<◌, ◌^◌, ℕ, Bool, false, [], All, List, None, Some, length};
+ghost use Rattle.std.specs.Prelude.{map, slice_get};
 ghost use Rattle.expression_grammar.specs.Tree.{name as name_tree, tokens_of, written};
 ghost use Rattle.expression_grammar.specs.Assign.TheVariants as assign;
 ghost use Rattle.expression_grammar.specs.Op.TheVariants as op;
 ghost use Rattle.expression_grammar.specs.Outside.TheVariants as outside;
-ghost use Rattle.expression_grammar.specs.Suffix.TheVariants as suffix;
 ghost use Rattle.expression_grammar.specs.Token.TheVariants as token;
 ghost use Rattle.kernel_grammar.specs.Kernel.{Kernel, none as no_items, number};
 ghost use Rattle.scop_lexer.specs.Bytes.{Text};
@@ -25,6 +25,7 @@ ghost use Rattle.scop_parser.specs.Spelling.{IsText, SpellsProgram};
 ghost use Rattle.source_arithmetic.specs.Limits.{IsFitLoop, IsLinear, IsLinearPlace};
 ghost use Rattle.source_arithmetic.specs.Arithmetic.{HasNoComma};
 ghost use Rattle.source_arithmetic.specs.Tokens.{NodeStands};
+ghost use Rattle.text_guards.specs.Worked.{decimal};
 
 use source_arithmetic::laws;
 
@@ -57,15 +58,15 @@ pub fn formulas_stand_at_their_tokens()
 /// `A[7]` of an array of one dimension, a constant as a value, and it stored in that cell; a loop within the limits;
 /// one extent.
 pub fn small_expressions_have_no_fault()
-    ensures affine { faults 0 role.Affine (constant suffix.Absent 7 0) ≡ [] }
-    ensures condition { (f : Formula) → f ≡ binary op.Less (constant suffix.Absent 1 0) (constant suffix.Absent 2 2) 1
+    ensures affine { faults 0 role.Affine (constant decimal 7 0) ≡ [] }
+    ensures condition { (f : Formula) → f ≡ binary op.Less (constant decimal 1 0) (constant decimal 2 2) 1
         → faults 0 role.Condition f ≡ [] }
-    ensures place { place_faults 0 (index (name (meaning.Array 0 1) 0) (constant suffix.Absent 7 2)) ≡ [] }
-    ensures value { faults 0 role.Value (constant suffix.Absent 7 0) ≡ [] }
-    ensures statement { (s : Stored) → s.cell ≡ index (name (meaning.Array 0 1) 0) (constant suffix.Absent 7 2)
-        → s.assign ≡ assign.Set → s.value ≡ constant suffix.Absent 7 5 → stored_faults 0 s ≡ [] }
+    ensures place { place_faults 0 (index (name (meaning.Array 0 1 false) 0) (constant decimal 7 2)) ≡ [] }
+    ensures value { faults 0 role.Value (constant decimal 7 0) ≡ [] }
+    ensures statement { (s : Stored) → s.cell ≡ index (name (meaning.Array 0 1 false) 0) (constant decimal 7 2)
+        → s.assign ≡ assign.Set → s.value ≡ constant decimal 7 5 → stored_faults 0 s ≡ [] }
     ensures loops { (s : Scope) (h : LoopHead) → IsFitLoop s h → loop_faults s h ≡ [] }
-    ensures extents { extent_faults 0 (constant suffix.Absent 7 0 ∷ []) ≡ [] }
+    ensures extents { extent_faults 0 (constant decimal 7 0 ∷ []) ≡ [] }
 {
     laws::texts_within_the_limits_have_no_fault();
 }
@@ -74,12 +75,13 @@ pub fn small_expressions_have_no_fault()
 /// expression is at most 2^20, no constant is a condition, a subscript is affine, no array is a value without
 /// subscripts, a statement stores to a place, fewer than five loops are open round one, and extents are affine.
 pub fn faultless_expressions_are_small()
-    ensures affine { (v : ℕ) → first (faults 0 role.Affine (constant suffix.Absent v 0)) ≡ None → v ≤ 2 ^ 20 }
-    ensures condition { (v : ℕ) → first (faults 0 role.Condition (constant suffix.Absent v 0)) ≡ None → ⊥ }
-    ensures place { (i : Formula) → first (place_faults 0 (index (name (meaning.Array 0 1) 0) i)) ≡ None
+    ensures affine { (v : ℕ) → first (faults 0 role.Affine (constant decimal v 0)) ≡ None → v ≤ 2 ^ 20 }
+    ensures condition { (v : ℕ) → first (faults 0 role.Condition (constant decimal v 0)) ≡ None → ⊥ }
+    ensures place { (i : Formula) → first (place_faults 0 (index (name (meaning.Array 0 1 false) 0) i)) ≡ None
         → IsLinear 0 i }
-    ensures value { (ranks : List ℕ) (r : ℕ) → All (λ r. 1 ≤ r) ranks → IsKnown ranks (meaning.Array 0 r)
-        → first (faults 0 role.Value (name (meaning.Array 0 r) 0)) ≡ None → ⊥ }
+    ensures value { (ranks : List ℕ) (r : ℕ) (narrow : Bool) → All (λ r. 1 ≤ r) ranks
+        → IsKnown ranks (meaning.Array 0 r narrow)
+        → first (faults 0 role.Value (name (meaning.Array 0 r narrow) 0)) ≡ None → ⊥ }
     ensures statement { (ranks : List ℕ) (s : Stored) → All (λ r. 1 ≤ r) ranks → IsInScope ranks s.value
         → HasNoComma s.value → stored_faults 0 s ≡ [] → IsLinearPlace 0 s.cell }
     ensures loops { (s : Scope) (h : LoopHead) → loop_faults s h ≡ [] → length s.open_loops < 5 }

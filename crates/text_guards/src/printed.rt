@@ -1,14 +1,18 @@
 //! Callers of the text of loop trees: the call, and the laws at empty trees and in kernels without parameters.
 ghost use Rattle.std.specs.Prelude.{◌≡◌, ◌↔◌, ◌∷◌, ◌<◌, ◌^◌, [], ◌-ℤ◌, ◌*ℤ◌, ℕ, ℤ, IfOk, List, None, Some, length, pos};
-ghost use Rattle.std.specs.Prelude.{IfSome, IsNone, option_map, slice_get, true};
+ghost use Rattle.std.specs.Prelude.{IfSome, IsNone, map, option_map, slice_get, slice_index_or, false, true};
 ghost use Rattle.whole_numbers.specs.Affine.{Affine, value_of, values_of};
 ghost use Rattle.whole_numbers.specs.Floor.{ceiling, floor};
 ghost use Rattle.scop_lexer.specs.Bytes.{Text};
-ghost use Rattle.scop_syntax.specs.Kernel.{IsKernel};
+ghost use Rattle.scop_syntax.specs.Cells.{cell_of, reads_of};
+ghost use Rattle.scop_syntax.specs.Execution.{held, layout, value_stored_by, values_read_by};
+ghost use Rattle.scop_syntax.specs.Kernel.{HasWidth, IsKernel, IsStatement, narrow_arrays};
 ghost use Rattle.scop_syntax.specs.Statements.{Placed, statements_of, visit_of};
-ghost use Rattle.scop_syntax.specs.Tree.{Head, Program};
+ghost use Rattle.scop_syntax.specs.Tree.{Expression, Head, Program, Right};
+ghost use Rattle.scop_syntax.specs.Values.{value_on};
 ghost use Rattle.scop_syntax.specs.View.{program_of};
-ghost use Rattle.scop_syntax.specs.Walk.{turn_point};
+ghost use Rattle.scop_syntax.specs.Walk.{Visit, turn_point, walk_of};
+ghost use Rattle.scop_syntax.specs.Widths.{HoldTypes, IsTyped};
 ghost use Rattle.loop_tree.specs.Tree.{Trees, multiple, none};
 ghost use Rattle.loop_tree.specs.View.{trees_in};
 ghost use Rattle.loop_tree.specs.Walk.{holds, max_z, min_z};
@@ -18,12 +22,14 @@ ghost use Rattle.c_printer.specs.Naming.{HasWords};
 ghost use Rattle.c_printer.specs.Nodes.{text_of};
 ghost use Rattle.c_printer.specs.Printable.{AreNodes, IsInstance, IsNamed};
 ghost use Rattle.c_printer.specs.Reading.{read_text};
+ghost use Rattle.c_printer.specs.Values.{stores, worth};
 ghost use Rattle.standings.specs.Standings.{heads_in};
 
 use c_printer::{
     kernels_tell_their_names_apart, print, printed_divisions_are_those_of_the_tree,
-    printed_iterators_are_the_source_s, printed_trees_are_read_back, read_back,
-    texts_are_of_one_tree, the_functions_of_a_text_round_and_choose, unread_texts_are_of_no_tree,
+    printed_iterators_are_the_source_s, printed_trees_are_read_back,
+    printed_values_are_those_of_the_tree, read_back, texts_are_of_one_tree,
+    the_functions_of_a_text_round_and_choose, unread_texts_are_of_no_tree,
 };
 use loop_tree::Tree;
 use scop_syntax::tree::Kernel;
@@ -120,4 +126,28 @@ pub fn even_numbers()
     ensures ceiling { (z : ℤ) → ceiling z (pos 1) ≡ z }
 {
     printed_divisions_are_those_of_the_tree();
+}
+
+/// Over one array of 32 bits a printed value is the tree's, and a printed assignment to a cell of it stores what the
+/// statement does, by `value` and `stored` of `printed_values_are_those_of_the_tree`; so does the first of a run, by `run`.
+pub fn values_over_an_array_of_32_bits()
+    ensures value { (extents contents : List (List ℕ)) (e : Expression) (point : List ℤ) → IsTyped (true ∷ []) e
+        → HoldTypes (true ∷ []) contents
+        → worth (true ∷ []) e point (map (λ access. held extents contents (cell_of access point)) (reads_of e))
+        ≡ value_on e point (map (λ access. held extents contents (cell_of access point)) (reads_of e)) }
+    ensures stored { (ranks : List ℕ) (n : ℕ) (extents contents : List (List ℕ)) (subscripts : List Affine)
+        (right : Right) (point : List ℤ)
+        → IsStatement ranks n (record { place = record { array = 0; subscripts = subscripts }; right = right })
+        → HasWidth (true ∷ []) true right → HoldTypes (true ∷ []) contents
+        → stores (true ∷ []) true right point (values_read_by extents contents
+        (record { place = record { array = 0; subscripts = subscripts }; right = right }) point)
+        ≡ value_stored_by extents contents
+        (record { place = record { array = 0; subscripts = subscripts }; right = right }) point }
+    ensures run { (program : Program) (params : List ℤ) (contents : List (List ℕ)) (v : Visit) → IsKernel program
+        → HoldTypes (narrow_arrays program) contents → slice_get (walk_of program params) 0 ≡ Some v
+        → stores (narrow_arrays program) (slice_index_or (narrow_arrays program) v.body.place.array false) v.body.right
+        v.point (values_read_by (layout program params) contents v.body v.point)
+        ≡ value_stored_by (layout program params) contents v.body v.point }
+{
+    printed_values_are_those_of_the_tree();
 }

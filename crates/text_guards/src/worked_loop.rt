@@ -12,7 +12,7 @@ ghost use Rattle.scop_roles.specs.Values.{access, expression, tests};
 ghost use Rattle.scop_units.specs.Loops.{loop_faults, loop_of};
 ghost use Rattle.scop_units.specs.Scopes.{no_scope};
 ghost use Rattle.scop_units.specs.Units.{statement_of, stored_faults};
-ghost use Rattle.source_arithmetic.specs.Arithmetic.{cell, cells_in, cells_read, stored, whole, word};
+ghost use Rattle.source_arithmetic.specs.Arithmetic.{cell, cells_in, cells_read, full, stored, whole, word};
 ghost use Rattle.text_guards.specs.Worked.{below_seven, head, i, odd, odd_cell, product, sum};
 
 use source_arithmetic::laws;
@@ -49,7 +49,7 @@ pub fn a_worked_statement()
         ≡ cell (x ∷ []) odd_cell ∷ record { array = 0; subscripts = x ∷ [] } ∷ [] }
     ensures right { (x : ℤ) (held : Cell → ℕ) → stored_by (statement_of 1 sum).right (x ∷ [])
         (map held (cells_read sum.assign (cell (x ∷ []) odd_cell) (cells_in (x ∷ []) product)))
-        ≡ stored sum.assign (held (cell (x ∷ []) odd_cell)) (word held (x ∷ []) product) }
+        ≡ stored full full sum.assign (held (cell (x ∷ []) odd_cell)) (word held (x ∷ []) product) }
 {
     laws::statements_store_words();
 }

@@ -3,5 +3,5 @@ use Rattle.command_guards.proofs.arrays_of_kernels_without_parameters.Goals as g
 
 pub returns : goal.returns
 returns c =
-    λ text program contents spelled limits shape cells.
-    c.printed_arrays_are_data.ensures text program [] contents spelled limits shape cells
+    λ text program contents spelled limits shape cells widths.
+    c.printed_arrays_are_data.ensures text program [] contents spelled limits shape cells widths

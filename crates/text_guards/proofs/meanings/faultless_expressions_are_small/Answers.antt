@@ -1,23 +1,24 @@
-use Rattle.expression_grammar.specs.Suffix.TheVariants as suffix
+use Rattle.std.proofs.Common.{false}
 use Rattle.scop_roles.specs.declared.formula.Meaning.TheVariants as meaning
 use Rattle.scop_roles.specs.Formula.{constant, index, name}
+use Rattle.text_guards.specs.Worked.{decimal}
 use Rattle.text_guards.proofs.meanings.faultless_expressions_are_small.Goals as goal
 
 pub returns-clause-affine : goal.returns-clause-affine
 returns-clause-affine c = λ v none.
-    c.faultless_texts_lie_within_the_limits.ensures.affine 0 (constant suffix.Absent v 0) none
+    c.faultless_texts_lie_within_the_limits.ensures.affine 0 (constant decimal v 0) none
 
 pub returns-clause-condition : goal.returns-clause-condition
 returns-clause-condition c = λ v none.
-    c.faultless_texts_lie_within_the_limits.ensures.condition 0 (constant suffix.Absent v 0) none
+    c.faultless_texts_lie_within_the_limits.ensures.condition 0 (constant decimal v 0) none
 
 pub returns-clause-place : goal.returns-clause-place
 returns-clause-place c = λ i none.
-    (c.faultless_texts_lie_within_the_limits.ensures.place 0 (index (name (meaning.Array 0 1) 0) i) tt none).1
+    (c.faultless_texts_lie_within_the_limits.ensures.place 0 (index (name (meaning.Array 0 1 false) 0) i) tt none).1
 
 pub returns-clause-value : goal.returns-clause-value
-returns-clause-value c = λ ranks r some known none.
-    c.faultless_texts_lie_within_the_limits.ensures.value ranks 0 (name (meaning.Array 0 r) 0) some known tt none
+returns-clause-value c = λ ranks r narrow some known none.
+    c.faultless_texts_lie_within_the_limits.ensures.value ranks 0 (name (meaning.Array 0 r narrow) 0) some known tt none
 
 pub returns-clause-statement : goal.returns-clause-statement
 returns-clause-statement c = λ ranks s some scope plain none.

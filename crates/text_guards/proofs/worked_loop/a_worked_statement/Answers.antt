@@ -1,6 +1,6 @@
 use Rattle.std.proofs.Common.{[], ◌∷◌, refl}
 use Rattle.text_guards.specs.Worked.{sum}
-use Rattle.text_guards.proofs.Product.{in_scope, no_comma}
+use Rattle.text_guards.proofs.Product.{in_scope, no_comma, hold_types}
 use Rattle.text_guards.proofs.worked_loop.a_worked_statement.Goals as goal
 
 pub returns-clause-place : goal.returns-clause-place
@@ -12,3 +12,4 @@ returns-clause-reads c = λ x. c.statements_store_words.ensures.reads 1 sum (x �
 pub returns-clause-right : goal.returns-clause-right
 returns-clause-right c = λ x held.
     c.statements_store_words.ensures.right (1 ∷ []) 1 sum (x ∷ []) held refl in_scope no_comma refl
+    (hold_types held (x ∷ []))
