@@ -105,7 +105,7 @@ class Reader:
         self.up_to("(")
         while not self.skip("{"):
             declared = self.up_to(",", ")")
-            if "uint64_t" in declared:
+            if declared[:1] in (["uint32_t"], ["uint64_t"]):
                 self.arrays.add(declared[1])
             elif declared:
                 self.parameters.append(declared[1])

@@ -3,7 +3,7 @@
 import sys
 
 from by_clock import START, input_of, kernel_in, net_times, shortest
-from harness import arrays_of, built, call_of, declarations, signature_of
+from harness import arrays_of, built, numbers_of, run_of
 from timing import rounds_of
 
 WORKERS = (1, 2, 4)
@@ -55,15 +55,9 @@ int main(void) {
 
 def c_program(kernel, values):
     """A C program that runs a kernel on arrays by the seed 0, and prints all of them as `run` does."""
-    lines = declarations(kernel, values)
-    for name, cells in arrays_of(kernel):
-        lines.append(f"  for (size_t k = 0; k < {cells}; k++) {name}[k] = (k + 1) * 11400714819323198485u;")
-    lines.append("  " + call_of(kernel))
-    for name, cells in arrays_of(kernel):
-        lines.append(f'  printf("{name} =");')
-        lines.append(f'  for (size_t k = 0; k < {cells}; k++) printf(" %llu", (unsigned long long){name}[k]);')
-        lines.append('  printf("\\n");')
-    return kernel + MAIN % "\n".join(lines)
+    data = {name: [str(value)] for name, value in values.items()}
+    data.update((name, ["seed", "0"]) for name, _ in arrays_of(kernel))
+    return kernel + MAIN % "\n".join(run_of(kernel, data))
 
 
 def commands_of(program, folder, kind, kernel, values, start):
@@ -93,9 +87,8 @@ def main():
     rounds = rounds_of(sys.argv[4:], 5)
     for kind, (file, values, tiny, instances) in CASES.items():
         kernel = kernel_in(root, file)
-        names = {name for name, extents in signature_of(kernel)[1] if not extents}
-        if names != set(values):
-            sys.exit(f"{kind}: the parameters are {sorted(names)}")
+        if set(numbers_of(kernel)) != set(values):
+            sys.exit(f"{kind}: the parameters are {numbers_of(kernel)}")
         commands = commands_of(program, folder, kind, kernel, values, "")
         starts = commands_of(program, folder, kind, kernel, tiny, START)
         tell(kind, net_times(kind, commands, starts, rounds), instances)

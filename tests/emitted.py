@@ -12,7 +12,7 @@ import sys
 import tempfile
 
 sys.path.insert(0, os.path.join(os.path.dirname(os.path.abspath(__file__)), "..", "bench"))
-from harness import arrays_of, built, call_of, declarations, signature_of  # noqa: E402
+from harness import built, run_of  # noqa: E402
 from kernel_texts import kernel_of  # noqa: E402
 
 SECONDS = 3
@@ -38,16 +38,7 @@ def data_of(file):
 
 def program_of(text, kernel, data):
     """A C program that runs a text of the kernel on the data, and prints all arrays as `run` does."""
-    values = {name: data[name][0] for name, extents in signature_of(kernel)[1] if not extents}
-    lines = declarations(kernel, values)
-    for name, _ in arrays_of(kernel):
-        lines += [f"  {name}[{k}] = {word}ULL;" for k, word in enumerate(data.get(name, []))]
-    lines.append("  " + call_of(kernel))
-    for name, cells in arrays_of(kernel):
-        lines.append(f'  printf("{name} =");')
-        lines.append(f'  for (size_t k = 0; k < {cells}; k++) printf(" %llu", (unsigned long long){name}[k]);')
-        lines.append('  printf("\\n");')
-    return text + MAIN % "\n".join(lines)
+    return text + MAIN % "\n".join(run_of(kernel, data))
 
 
 def fault_of(folder, file, compiler):
