@@ -1,5 +1,5 @@
 -- The whole points of the conflicts' systems are exactly the pairs of conflicting places, the earlier first.
-use Rattle.std.proofs.Common.{◌≡◌, ℕ, ◌+◌, ◌<◌, true, ℤ, List, [], ◌++◌, length, map, Some, ap, ap₂}
+use Rattle.std.proofs.Common.{◌≡◌, ℕ, ◌+◌, ◌<◌, true, false, ℤ, List, [], ◌++◌, length, map, Some, ap, ap₂}
 use Rattle.std.proofs.Common.{subst, sym, ◌∙◌, refl, arith, length-append}
 use Rattle.std.specs.Prelude.{◌≤◌, ◌↔◌, slice_get, slice_index_or, nat_lt}
 use Rattle.std.proofs.lemmas.List.{append_assoc, length-map}
@@ -12,11 +12,12 @@ use Rattle.scop_syntax.specs.Walk.{Visit, walk_of}
 use Rattle.scop_syntax.specs.Order.{common, Before}
 use Rattle.scop_syntax.specs.Kernel.{IsAccess, IsPlaced, ranks_of}
 use Rattle.scop_syntax.specs.Statements.{Placed, statements_of, loops_in, point_of, AllHold, Runs, visit_of}
-use Rattle.scop_syntax.specs.Cells.{accesses, values, Cell, Conflict, PlacesConflict}
+use Rattle.scop_syntax.specs.Cells.{accesses, values, Cell, Conflict, PlacesConflict, conflict_cell}
+use Rattle.scop_syntax.specs.Reductions.{is_marked}
 use Rattle.scop_syntax.proofs.Members.{in_from_place, place_of, all_in}
 use Rattle.iteration_domains.specs.Rows.{variables, variables_of_statement, point_forms, rows_of}
 use Rattle.iteration_domains.specs.Constraints.{tests_of}
-use Rattle.iteration_domains.specs.Model.{kernel_model, domain_of, modelled}
+use Rattle.iteration_domains.specs.Model.{kernel_model, domain_of, model_of, modelled}
 use Rattle.iteration_domains.specs.Dependence.{Dependence}
 use Rattle.iteration_domains.proofs.Points.{hold_append, hold_front, hold_back, satisfied, all_hold_at, tests_hold}
 use Rattle.iteration_domains.proofs.Points.{hold_tests}
@@ -25,7 +26,7 @@ use Rattle.iteration_domains.proofs.Instances.{WalkLaws, cell_of-access}
 use Rattle.iteration_domains.proofs.TreeStatements.{statement_accesses}
 use Rattle.conflict_deps.specs.Conflicts.{Side, loops_of, source_form, target_form, map_test, After, pair_size}
 use Rattle.conflict_deps.specs.Conflicts.{source_rows, target_rows, cell_rows, parameter_rows, tests_between}
-use Rattle.conflict_deps.specs.Conflicts.{system_between, dep_of, afters_of, may_conflict, conflicts_of}
+use Rattle.conflict_deps.specs.Conflicts.{system_between, dep_of, afters_of, may_conflict, conflicts_without}
 use Rattle.conflict_deps.specs.Pairs.{IsPoint, IsEnd, IsPair}
 use Rattle.conflict_deps.proofs.Orders.{after_to, after_of, one_after, value_of-source, value_of-target, rows_kept}
 use Rattle.conflict_deps.proofs.Orders.{rows_held, same_to, same_of, up_of}
@@ -257,13 +258,15 @@ system_of_pair program params xs ys p q k l f g places up hp hq runs runt before
     )
 
 -- each whole point is a pair of conflicting places
-pub points_conflict : (program : Program) (params : List ℤ) (dep : Dependence) (xs ys : List ℤ)
+pub points_conflict : (program : Program) (params : List ℤ) (marked : List ℕ) (dep : Dependence) (xs ys : List ℤ)
     → PlaceLaws program params → KernelLaws program params → length params ≡ length program.parameters
-    → IsPoint program params dep xs ys → (i : ℕ) × (j : ℕ) × IsPair program params dep xs ys i j
-points_conflict program params dep xs ys places kernel count point =
+    → In dep (conflicts_without marked (model_of program)) → IsPoint program params dep xs ys
+    → (i : ℕ) × (j : ℕ) × (pair : IsPair program params dep xs ys i j)
+    × (is_marked marked (conflict_cell pair.conflict).array ≡ false)
+points_conflict program params marked dep xs ys places kernel count among point =
     let m = length params in
     let W = walk_of program params in
-    let d = deps_to (length program.parameters) (statements_of program) dep point.among in
+    let d = deps_to (length program.parameters) (statements_of program) marked dep among in
     let p = d.source.placed in
     let q = d.target.placed in
     let k = d.from.number in
@@ -294,6 +297,7 @@ points_conflict program params dep xs ys places kernel count point =
     may ordered lx ly rows in
     let v = visit_of p params xs in
     let w = visit_of q params ys in
+    let touched : d.source.access ≡ r.touch.first = (let e = sym d.source.is_access ∙ r.touch.is_first in cc) in
     let i = place_of W v r.first in
     let j = place_of W w r.second in (
       i.0,
@@ -320,15 +324,18 @@ points_conflict program params dep xs ys places kernel count point =
         source_turns = refl;
         target_turns = refl;
       },
+      subst (λ (g : Access). is_marked marked g.array ≡ false) touched
+          (sym (ap (λ (z : Side). is_marked marked z.access.array) es) ∙ d.unmarked),
     )
 
 -- and each such pair is a whole point
-pub conflicts_are_points : (program : Program) (params : List ℤ) (i j : ℕ) (c : PlacesConflict (walk_of program
-    params) i j)
-    → PlaceLaws program params → length params ≡ length program.parameters → NotNegative params
-    → (dep : Dependence) × IsPoint program params dep c.earlier.turns c.later.turns
+pub conflicts_are_points : (program : Program) (params : List ℤ) (marked : List ℕ) (i j : ℕ)
+    (c : PlacesConflict (walk_of program params) i j) → PlaceLaws program params
+    → is_marked marked (conflict_cell c).array ≡ false → length params ≡ length program.parameters
+    → NotNegative params → (dep : Dependence) × IsPoint program params dep c.earlier.turns c.later.turns
     × IsEnd dep.source c.earlier c.first × IsEnd dep.target c.later c.second
-conflicts_are_points program params i j c places count up =
+    × In dep (conflicts_without marked (model_of program))
+conflicts_are_points program params marked i j c places unmarked count up =
     let m = length params in
     let ps = statements_of program in
     let W = walk_of program params in
@@ -353,11 +360,13 @@ conflicts_are_points program params i j c places count up =
     let subscripts = ap (λ (z : Cell). z.subscripts) touch.cell in
     let r = system_of_pair program params xs ys p q c.first c.second touch.first touch.second places up f.2 g.2 f.3 g.3
     before subscripts in
-    let among = deps_from m ps s t r.0 hs ht (may_of s t array touch.writes) r.1 in
+    let among : (ms : List ℕ) → is_marked ms touch.first.array ≡ false
+    → In (dep_of m s t r.0) (conflicts_without ms (model_of program)) =
+    λ ms free. subst (λ (n : ℕ). In (dep_of m s t r.0) (conflicts_without ms (kernel_model n (map (modelled n) ps))))
+    count (deps_from m ps ms s t r.0 hs ht free (may_of s t array touch.writes) r.1) in
     let point : IsPoint program params (dep_of m s t r.0) xs ys =
     record {
-      among = subst (λ (n : ℕ). In (dep_of m s t r.0) (conflicts_of
-          (kernel_model n (map (modelled n) ps)))) count among;
+      among = among [] refl;
       source = places.walk.turns p.scopes params xs f.3;
       target = places.walk.turns q.scopes params ys g.3;
       holds = r.2;
@@ -369,6 +378,7 @@ conflicts_are_points program params i j c places count up =
           (subst (λ (z : List ℤ). IsPoint program params (dep_of m s t r.0) xs z) wy point),
       record { statement = ap (λ (z : Visit). z.number) (sym f.4); access = refl },
       record { statement = ap (λ (z : Visit). z.number) (sym g.4); access = refl },
+      among marked unmarked,
     )
 
 -- two sides with the same numbers are one
@@ -396,8 +406,8 @@ one_system program params dep other xs ys laws p q s k t l =
     let m = length program.parameters in
     let ps = statements_of program in
     let x = xs ++ (ys ++ params) in
-    let f = deps_to m ps dep p.among in
-    let g = deps_to m ps other q.among in
+    let f = deps_to m ps [] dep p.among in
+    let g = deps_to m ps [] other q.among in
     let es = same_side program params m f.from g.from laws f.source g.source
     (sym (ap (λ (z : Dependence). z.source.statement) f.is) ∙ (s ∙ ap (λ (z : Dependence). z.source.statement) g.is))
     (sym (ap (λ (z : Dependence). z.source.access) f.is) ∙ (k ∙ ap (λ (z : Dependence). z.source.access) g.is)) in

@@ -8,6 +8,7 @@ use Rattle.whole_numbers.proofs.Entries.{get_map}
 use Rattle.scop_syntax.specs.Tree.{Access}
 use Rattle.scop_syntax.specs.Members.{In}
 use Rattle.scop_syntax.specs.Order.{common}
+use Rattle.scop_syntax.specs.Reductions.{is_marked}
 use Rattle.scop_syntax.specs.Statements.{Placed}
 use Rattle.scop_syntax.specs.Cells.{accesses, OneWrites}
 use Rattle.scop_syntax.proofs.Members.{in_append, in_map, in_map_from, in_if, in_if_from, both}
@@ -15,7 +16,7 @@ use Rattle.iteration_domains.specs.Model.{Modelled, kernel_model, access_over, m
 use Rattle.iteration_domains.specs.Dependence.{Dependence}
 use Rattle.iteration_domains.proofs.OutsideLaws.{in_flat_map}
 use Rattle.conflict_deps.specs.Conflicts.{Side, side, sides_from, sides_of, After, dep_of, afters_of, may_conflict}
-use Rattle.conflict_deps.specs.Conflicts.{deps_between, conflicts_of}
+use Rattle.conflict_deps.specs.Conflicts.{deps_between, deps_on, conflicts_without}
 
 pub in_flat_map_from : {A B : Type 0} (f : A → List B) (xs : List A) (y : B) → In y (flat_map f xs)
     → (x : A) × In x xs × In y (f x)
@@ -121,24 +122,33 @@ sides_from_access m ps p k f h e =
     (side_from (modelled m p) 0 (modelled m p).accesses k (access_over m p f) g) in
     in_flat_map sides_of (map (modelled m) ps) (modelled m p) (side_at m p k f) (in_map (modelled m) p ps h) there
 
--- a dependence is one of two sides
-pub record IsDep (m : ℕ) (ps : List Placed) (dep : Dependence) : Type 0 where
+pub in_unless : {A : Type 0} (b : Bool) (x : A) (xs : List A) → b ≡ false → In x xs → In x (if b then [] else xs)
+in_unless true x xs h g = absurd cc
+in_unless false x xs h g = g
+
+pub in_unless_from : {A : Type 0} (b : Bool) (x : A) (xs : List A) → In x (if b then [] else xs) → (b ≡ false) × In x xs
+in_unless_from true x xs h = absurd h
+in_unless_from false x xs h = (refl, h)
+
+-- a dependence is one of two sides, of an array that is not marked
+pub record IsDep (m : ℕ) (ps : List Placed) (marked : List ℕ) (dep : Dependence) : Type 0 where
   pub from : Side
   pub to : Side
   pub source : IsSide m ps from
   pub target : IsSide m ps to
   pub order : After
+  pub unmarked : is_marked marked from.access.array ≡ false
   pub may : may_conflict from to ≡ true
   pub ordered : In order (afters_of m from to)
   pub is : dep ≡ dep_of m from to order
 
-pub deps_to : (m : ℕ) (ps : List Placed) (dep : Dependence)
-    → In dep (conflicts_of (kernel_model m (map (modelled m) ps)))
-    → IsDep m ps dep
-deps_to m ps dep h =
+pub deps_to : (m : ℕ) (ps : List Placed) (marked : List ℕ) (dep : Dependence)
+    → In dep (conflicts_without marked (kernel_model m (map (modelled m) ps))) → IsDep m ps marked dep
+deps_to m ps marked dep h =
     let all = flat_map sides_of (map (modelled m) ps) in
-    let s = in_flat_map_from (λ (s : Side). flat_map (deps_between m s) all) all dep h in
-    let t = in_flat_map_from (deps_between m s.0) all dep s.2 in
+    let s = in_flat_map_from (deps_on marked (kernel_model m (map (modelled m) ps))) all dep h in
+    let kept = in_unless_from (is_marked marked s.0.access.array) dep (flat_map (deps_between m s.0) all) s.2 in
+    let t = in_flat_map_from (deps_between m s.0) all dep kept.1 in
     let b = in_if_from (may_conflict s.0 t.0) dep (map (dep_of m s.0 t.0) (afters_of m s.0 t.0)) t.2 in
     let a = in_map_from (dep_of m s.0 t.0) dep (afters_of m s.0 t.0) b.1 in
     record {
@@ -147,17 +157,20 @@ deps_to m ps dep h =
       source = sides_to m ps s.0 s.1;
       target = sides_to m ps t.0 t.1;
       order = a.0;
+      unmarked = kept.0;
       may = b.0;
       ordered = a.1;
       is = a.2;
     }
 
-pub deps_from : (m : ℕ) (ps : List Placed) (s t : Side) (a : After) → In s (flat_map sides_of (map (modelled m) ps))
-    → In t (flat_map sides_of (map (modelled m) ps)) → may_conflict s t ≡ true → In a (afters_of m s t)
-    → In (dep_of m s t a) (conflicts_of (kernel_model m (map (modelled m) ps)))
-deps_from m ps s t a hs ht may ha =
+pub deps_from : (m : ℕ) (ps : List Placed) (marked : List ℕ) (s t : Side) (a : After)
+    → In s (flat_map sides_of (map (modelled m) ps)) → In t (flat_map sides_of (map (modelled m) ps))
+    → is_marked marked s.access.array ≡ false → may_conflict s t ≡ true → In a (afters_of m s t)
+    → In (dep_of m s t a) (conflicts_without marked (kernel_model m (map (modelled m) ps)))
+deps_from m ps marked s t a hs ht unmarked may ha =
     let all = flat_map sides_of (map (modelled m) ps) in
-    in_flat_map (λ (s : Side). flat_map (deps_between m s) all) all s (dep_of m s t a) hs
+    in_flat_map (deps_on marked (kernel_model m (map (modelled m) ps))) all s (dep_of m s t a) hs
+    (in_unless (is_marked marked s.access.array) (dep_of m s t a) (flat_map (deps_between m s) all) unmarked
     (in_flat_map (deps_between m s) all t (dep_of m s t a) ht
     (in_if (may_conflict s t) (dep_of m s t a) (map (dep_of m s t) (afters_of m s t)) may
-    (in_map (dep_of m s t) a (afters_of m s t) ha)))
+    (in_map (dep_of m s t) a (afters_of m s t) ha))))

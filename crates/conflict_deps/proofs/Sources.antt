@@ -1,6 +1,6 @@
 -- The earlier writers of the cell that an access touches are the points of the systems from writes to that access, the
 -- later ones those from that access to writes.
-use Rattle.std.proofs.Common.{◌≡◌, ℕ, ◌<◌, ◌≤◌, true, false, ℤ, List, length, Option, Some, inl, inr, ap, ap₂, subst}
+use Rattle.std.proofs.Common.{◌≡◌, ℕ, ◌<◌, ◌≤◌, true, false, ℤ, List, [], length, Option, Some, inl, inr, ap, ap₂, subst}
 use Rattle.std.proofs.Common.{sym, ◌∙◌, refl, arith}
 use Rattle.std.specs.Prelude.{slice_get}
 use Rattle.whole_numbers.specs.Lists.{NotNegative}
@@ -19,7 +19,7 @@ pub writers_are_points : (program : Program) (params : List ℤ) (k j : ℕ) (u 
     → TouchesAt program params j w b c → WritesBefore program params k j u c
     → (dep : Dependence) × IsPoint program params dep u.turns w.turns × IsEnd dep.source u 0 × IsEnd dep.target w b
 writers_are_points program params k j u w b c places count up reads writer =
-    conflicts_are_points program params k j
+    let r = conflicts_are_points program params [] k j
     (record {
       earlier = u;
       later = w;
@@ -37,7 +37,8 @@ writers_are_points program params k j u w b c places count up reads writer =
         cell = writer.writes ∙ sym reads.cell;
       };
     })
-    places count up
+    places refl count up in
+    (r.0, r.1, r.2, r.3)
 
 pub points_are_writers : (program : Program) (params : List ℤ) (j : ℕ) (w : Visit) (b : ℕ) (c : Cell) (dep : Dependence)
     (xs : List ℤ) → PlaceLaws program params → KernelLaws program params
@@ -48,7 +49,7 @@ pub points_are_writers : (program : Program) (params : List ℤ) (j : ℕ) (w : 
     → IsEnd dep.target w b
     → (k : ℕ) × (u : Visit) × WritesBefore program params k j u c × IsEnd dep.source u 0 × (u.turns ≡ xs)
 points_are_writers program params j w b c dep xs places kernel once count reads point write target =
-    let r = points_conflict program params dep xs w.turns places kernel count point in
+    let r = points_conflict program params [] dep xs w.turns places kernel count point.among point in
     let k = r.0 in
     let j' = r.1 in
     let pair = r.2 in
@@ -88,7 +89,7 @@ pub writers_behind_are_points : (program : Program) (params : List ℤ) (k j : �
     → TouchesAt program params j w b c → WritesBehind program params k j u c
     → (dep : Dependence) × IsPoint program params dep w.turns u.turns × IsEnd dep.source w b × IsEnd dep.target u 0
 writers_behind_are_points program params k j u w b c places count up reads writer =
-    conflicts_are_points program params j k
+    let r = conflicts_are_points program params [] j k
     (record {
       earlier = w;
       later = u;
@@ -106,7 +107,8 @@ writers_behind_are_points program params k j u w b c places count up reads write
         cell = reads.cell ∙ sym writer.writes;
       };
     })
-    places count up
+    places refl count up in
+    (r.0, r.1, r.2, r.3)
 
 pub points_are_writers_behind : (program : Program) (params : List ℤ) (j : ℕ) (w : Visit) (b : ℕ) (c : Cell)
     (dep : Dependence) (xs : List ℤ) → PlaceLaws program params → KernelLaws program params
@@ -117,7 +119,7 @@ pub points_are_writers_behind : (program : Program) (params : List ℤ) (j : ℕ
     → dep.target.access ≡ 0
     → (k : ℕ) × (u : Visit) × WritesBehind program params k j u c × IsEnd dep.target u 0 × (u.turns ≡ xs)
 points_are_writers_behind program params j w b c dep xs places kernel once count reads point source write =
-    let r = points_conflict program params dep w.turns xs places kernel count point in
+    let r = points_conflict program params [] dep w.turns xs places kernel count point.among point in
     let j' = r.0 in
     let k = r.1 in
     let pair = r.2 in

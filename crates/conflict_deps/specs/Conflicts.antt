@@ -7,6 +7,7 @@ use Rattle.whole_numbers.specs.Affine.{Affine, form_of, sum_of_forms, multiple_o
 use Rattle.integer_sets.specs.Constraints.{Constraints}
 use Rattle.scop_syntax.specs.Tree.{Access, Test, at_least, equal}
 use Rattle.scop_syntax.specs.Order.{common}
+use Rattle.scop_syntax.specs.Reductions.{is_marked}
 use Rattle.iteration_domains.specs.Rows.{variable, variables}
 use Rattle.iteration_domains.specs.Constraints.{constraints_of, tests_of}
 use Rattle.iteration_domains.specs.Model.{Modelled, KernelModel}
@@ -154,7 +155,15 @@ may_conflict s t =
 abbrev pub deps_between : ℕ → Side → Side → List Dependence
 deps_between m s t = if may_conflict s t then map (dep_of m s t) (afters_of m s t) else []
 
--- all of them, by source statement, its access, target statement, its access and depth
+-- those on an access of the model, but on one to a marked array none
+abbrev pub deps_on : List ℕ → KernelModel → Side → List Dependence
+deps_on marked model s =
+    if is_marked marked s.access.array then [] else flat_map (deps_between model.parameters s) (sides_in model)
+
+-- all but those on marked arrays, by source statement, its access, target statement, its access and depth
+abbrev pub conflicts_without : List ℕ → KernelModel → List Dependence
+conflicts_without marked model = flat_map (deps_on marked model) (sides_in model)
+
+-- all of them
 abbrev pub conflicts_of : KernelModel → List Dependence
-conflicts_of model =
-    flat_map (λ s. flat_map (deps_between model.parameters s) (sides_in model)) (sides_in model)
+conflicts_of model = conflicts_without [] model

@@ -4,7 +4,7 @@ ghost use Rattle.std.specs.List.{flat_map};
 ghost use Rattle.scop_syntax.specs.Order.{common};
 ghost use Rattle.iteration_domains.specs.Sizes.{HaveOneCount};
 ghost use Rattle.conflict_deps.specs.Conflicts.{afters_of, cell_rows, conflicts_of, dep_of, deps_between, end_of};
-ghost use Rattle.conflict_deps.specs.Conflicts.{loops_of};
+ghost use Rattle.conflict_deps.specs.Conflicts.{conflicts_without as exact_without, deps_on, loops_of};
 ghost use Rattle.conflict_deps.specs.Conflicts.{may_conflict, pair_size, parameter_rows};
 ghost use Rattle.conflict_deps.specs.Conflicts.{sides_in, sides_of, source_rows, target_rows};
 ghost use Rattle.conflict_deps.specs.View.{CanPair, GainsTests, ShowsTests, order_at, side_of};
@@ -16,6 +16,7 @@ use integer_sets::System;
 use iteration_domains::{
     AccessForms, Dep, DepEnd, Form, Model, StatementModel, push, push_variables,
 };
+use scop_syntax::marks::is_marked;
 use std::alloc::{AllocError, Global};
 
 /// An access of a statement, with its number.
@@ -333,18 +334,39 @@ fn push_from_access(
     Ok(())
 }
 
+/// Appends the dependences from an access to all, but none where its array is marked.
+fn push_unmarked(
+    deps: &mut Vec<Dep>,
+    alloc: Global,
+    model: &Model,
+    source: &AccessOf,
+    marked: &[usize],
+) -> Result<(), AllocError>
+    requires source { CanPair model.now.parameters (side_of source.now) }
+    requires one { All (HaveOneCount source.now.statement.now) model.now.statements }
+    ensures { OnOk result
+        (deps.new.items ≡ deps.old.items ++ deps_on marked.now model.now (side_of source.now)) }
+{
+    let access = source.access;
+    if is_marked(marked, access.array) {
+        Ok(())
+    } else {
+        push_from_access(deps, alloc, model, source)
+    }
+}
+
 /// Appends the dependences from the accesses of a statement.
 fn push_from_statement(
     deps: &mut Vec<Dep>,
     alloc: Global,
     model: &Model,
     statement: &StatementModel,
+    marked: &[usize],
 ) -> Result<(), AllocError>
     requires statement { statement.now.domain.parameters ≡ model.now.parameters }
     requires one { All (HaveOneCount statement.now) model.now.statements }
-    ensures { OnOk result (deps.new.items ≡ deps.old.items
-        ++ flat_map (λ s. flat_map (deps_between model.now.parameters s) (sides_in model.now))
-        (sides_of statement.now)) }
+    ensures { OnOk result
+        (deps.new.items ≡ deps.old.items ++ flat_map (deps_on marked.now model.now) (sides_of statement.now)) }
 {
     let accesses = statement.accesses();
     let _loops = statement.loops();
@@ -354,23 +376,37 @@ fn push_from_statement(
             number,
             access: &accesses[number],
         };
-        push_from_access(deps, alloc, model, &source)?;
+        push_unmarked(deps, alloc, model, &source, marked)?;
     }
     Ok(())
 }
 
-/// The dependences of a model: one for each ordered pair of accesses to one array of which one writes, and each depth
-/// at which the target may come after the source; by source statement, its access, target statement, its access and
-/// depth.
+/// The dependences of a model but for those on marked arrays: one for each ordered pair of accesses to one array of which
+/// one writes, and each depth at which the target may come after the source; by source statement, its access, target
+/// statement, its access and depth.
+///
+/// # Errors
+/// `AllocError` alone.
+pub fn conflicts_without(
+    alloc: Global,
+    model: &Model,
+    marked: &[usize],
+) -> Result<Vec<Dep>, AllocError>
+    ensures { IfOk result (λ deps. deps.items ≡ exact_without marked.now model.now) }
+{
+    let mut deps = Vec::new(alloc);
+    for statement in model.statements() {
+        push_from_statement(&mut deps, alloc, model, statement, marked)?;
+    }
+    Ok(deps)
+}
+
+/// All of them.
 ///
 /// # Errors
 /// `AllocError` alone.
 pub fn conflicts(alloc: Global, model: &Model) -> Result<Vec<Dep>, AllocError>
     ensures { IfOk result (λ deps. deps.items ≡ conflicts_of model.now) }
 {
-    let mut deps = Vec::new(alloc);
-    for statement in model.statements() {
-        push_from_statement(&mut deps, alloc, model, statement)?;
-    }
-    Ok(deps)
+    conflicts_without(alloc, model, &[])
 }

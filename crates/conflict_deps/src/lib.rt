@@ -12,5 +12,5 @@ mod forms;
 pub mod source_laws;
 mod worked_rows;
 
-pub use deps::{AccessOf, conflicts};
+pub use deps::{AccessOf, conflicts, conflicts_without};
 pub use forms::{push_sources, push_subscripts, push_targets};

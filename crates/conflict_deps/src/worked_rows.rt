@@ -3,7 +3,7 @@ ghost use Rattle.std.specs.Prelude.{◌≡◌, [], ◌∷◌, map, negsuc, pos, 
 ghost use Rattle.integer_sets.specs.Constraints.{system_of};
 ghost use Rattle.whole_numbers.specs.Affine.{form_of};
 ghost use Rattle.iteration_domains.specs.Model.{model_of};
-ghost use Rattle.conflict_deps.specs.Conflicts.{conflicts_of};
+ghost use Rattle.conflict_deps.specs.Conflicts.{conflicts_of, conflicts_without};
 ghost use Rattle.conflict_deps.specs.Examples.{falling, odd, two};
 
 /// A loop downwards by 2 under a guard of two comparisons: the turn is not negative, the condition with the stride in
@@ -18,13 +18,14 @@ pub fn a_falling_loop_under_a_guard()
         ∷ [] }
 {}
 
-/// Which pairs of accesses have systems, at which depths, in their order.
+/// Which pairs of accesses have systems, at which depths, in their order; and which where the first array is marked.
 pub fn the_order_of_dependences()
     ensures sources { map (λ d. d.source.statement) (conflicts_of (model_of two)) ≡ 0 ∷ 0 ∷ 0 ∷ 0 ∷ 0 ∷ 1 ∷ 1 ∷ [] }
     ensures from { map (λ d. d.source.access) (conflicts_of (model_of two)) ≡ 0 ∷ 0 ∷ 0 ∷ 0 ∷ 1 ∷ 0 ∷ 1 ∷ [] }
     ensures targets { map (λ d. d.target.statement) (conflicts_of (model_of two)) ≡ 0 ∷ 0 ∷ 1 ∷ 1 ∷ 0 ∷ 1 ∷ 0 ∷ [] }
     ensures to { map (λ d. d.target.access) (conflicts_of (model_of two)) ≡ 0 ∷ 1 ∷ 1 ∷ 1 ∷ 0 ∷ 0 ∷ 0 ∷ [] }
     ensures depths { map (λ d. d.depth) (conflicts_of (model_of two)) ≡ 1 ∷ 1 ∷ 1 ∷ 2 ∷ 1 ∷ 1 ∷ 1 ∷ [] }
+    ensures unmarked { map (λ d. d.source.statement) (conflicts_without (0 ∷ []) (model_of two)) ≡ 1 ∷ [] }
     ensures none_by_text { map (λ d. d.depth) (conflicts_of (model_of odd)) ≡ 1 ∷ 1 ∷ 1 ∷ [] }
 {}
 

@@ -1,10 +1,10 @@
 -- An order without doubles that keeps the covers of a walk keeps its conflicts.
 use Rattle.std.proofs.Common.{◌≡◌, ℕ, List, [], ◌∷◌, Some, inl, inr, sym}
 use Rattle.std.specs.Prelude.{slice_get}
-use Rattle.scop_syntax.specs.Cells.{PlacesConflict}
+use Rattle.scop_syntax.specs.Cells.{PlacesConflict, conflict_cell}
 use Rattle.scop_syntax.specs.Covers.{Chain}
 use Rattle.scop_syntax.specs.Walk.{Visit}
-use Rattle.scop_syntax.proofs.Covers.{along_covers}
+use Rattle.scop_syntax.proofs.Covers.{along_covers, cover_by}
 use Rattle.conflict_orders.specs.Orders.{AreDistinct, StandsBefore, KeepsConflicts, KeepsCovers}
 use Rattle.conflict_orders.proofs.Precedence.{later_in}
 
@@ -23,11 +23,13 @@ AreOrdered visits order i j =
     (v w : Visit) → slice_get visits i ≡ Some v → slice_get visits j ≡ Some w → StandsBefore order v w
 
 pub conflicts_are_kept : (visits order : List Visit)
-    → ((i j : ℕ) → PlacesConflict visits i j → Chain visits i j) → AreDistinct order → KeepsCovers visits order
-    → KeepsConflicts visits order
+    → ((i j : ℕ) (c : PlacesConflict visits i j) → Chain visits (conflict_cell c) i j) → AreDistinct order
+    → KeepsCovers visits order → KeepsConflicts visits order
 conflicts_are_kept visits order closure distinct keeps i j p =
     let chain = closure i j p in
-    along_covers visits (AreOrdered visits order)
+    let c = conflict_cell p in
+    along_covers visits c (AreOrdered visits order)
     (λ a m b z at h k v w is_v is_w. stands_goes order v z w distinct (h v z is_v at) (k z w at is_w))
-    (λ a b cover v w is_v is_w. keeps a b v w is_v is_w cover) i chain.0 j chain.1 p.earlier p.later p.is_earlier
+    (λ a b cover v w is_v is_w. keeps a b v w is_v is_w (cover_by visits c a b cover)) i
+    chain.0 j chain.1 p.earlier p.later p.is_earlier
     p.is_later

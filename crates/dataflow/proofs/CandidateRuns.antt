@@ -1,7 +1,7 @@
 -- The run over a read's candidates, one by one, and the sources of reads, one by one.
 use Rattle.std.proofs.Common.{◌≡◌, ℕ, zero, suc, ◌+◌, ◌-◌, ◌<◌, ◌≤◌, Bool, true, false, List, [], ◌∷◌, ◌++◌, drop}
 use Rattle.std.proofs.Common.{get_or}
-use Rattle.std.proofs.Common.{length, map, ℤ, Option, Some, Result, Ok, Err, refl, sym, ap, subst, ◌∙◌, arith}
+use Rattle.std.proofs.Common.{length, map, ℤ, Option, Some, Result, Ok, Err, refl, sym, ap, ap₂, subst, ◌∙◌, arith}
 use Rattle.std.proofs.Common.{append_assoc, add-one, drop-cons}
 use Rattle.std.specs.Prelude.{slice_get, nat_eq, nat_lt, if◌then◌else◌}
 use Rattle.std.proofs.lemmas.Bool.{eqb-true}
@@ -31,7 +31,8 @@ use Rattle.iteration_domains.specs.Dependence.{Dependence}
 use Rattle.dataflow.specs.ReadSources.{IsSourceOf, AreSources, reads_from, reads_in}
 use Rattle.dataflow.specs.ReadSources.{reads_of_statement, reads_of, NameWriters}
 use Rattle.dataflow.specs.Places.{Names}
-use Rattle.dataflow.specs.WriterRuns.{Stopped, writers_run, solve_run, is_candidate, chosen_deps, turns_in}
+use Rattle.dataflow.specs.WriterRuns.{Stopped, writers_run, solve_run, candidates_of, is_candidate, chosen_deps}
+use Rattle.dataflow.specs.WriterRuns.{turns_in}
 use Rattle.dataflow.specs.WriterRuns.{read_variables}
 use Rattle.dataflow.specs.Runs.{Halt, then_join, sources_run}
 use Rattle.dataflow.specs.Sources.{writer_end, reader_end, wanted_writer}
@@ -140,9 +141,7 @@ pub record Running (way : Way) (model : KernelModel) (budget statement access : 
     : Type 0 where
   pub joinable : IsJoinable (read_variables model statement) found
   pub run : sources_run way (read_variables model statement) (solve_run way model budget) (tree_of found)
-      (chosen_deps (is_candidate way statement access) (drop i deps))
-      ≡ sources_run way (read_variables model statement) (solve_run way model budget) initial
-      (chosen_deps (is_candidate way statement access) deps)
+      (chosen_deps (is_candidate way statement access) (drop i deps)) ≡ writers_run way model budget statement access
 
 -- a candidate more
 pub run_on : (way : Way) (model : KernelModel) (budget statement access : ℕ) (deps : List Dependence) (i : ℕ)
@@ -225,15 +224,16 @@ statement_gathered way model budget ss i s old new here h g gains =
 pub run_begins : (way : Way) (model : KernelModel) (budget access : ℕ) (s : Modelled) (deps : List Dependence)
     (found : Postfix) → ((k : ℕ) (t : Modelled) → slice_get model.statements k ≡ Some t → t.number ≡ k) → In s model.statements
     → found.parameters ≡ model.parameters + s.domain.dimensions → tree_of found ≡ initial
+    → chosen_deps (is_candidate way s.number access) deps ≡ candidates_of way model s.number access
     → Running way model budget s.number access deps 0 found
-run_begins way model budget access s deps found places h over is =
+run_begins way model budget access s deps found places h over is candidates =
     record {
       joinable = record {
         parameters = over ∙ sym (variables_are model s places h);
         leaves = subst (LeavesWithin leaf_limit) (sym is) tt;
       };
-      run = ap (λ (t : Tree). sources_run way (read_variables model s.number) (solve_run way model budget) t
-          (chosen_deps (is_candidate way s.number access) deps)) is;
+      run = ap₂ (λ (t : Tree) (ds : List Dependence). sources_run way (read_variables model s.number)
+          (solve_run way model budget) t ds) is candidates;
     }
 
 -- all reads have their sources

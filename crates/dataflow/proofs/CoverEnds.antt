@@ -3,6 +3,7 @@ use Rattle.std.proofs.Common.{◌≡◌, ℕ, ◌+◌, ◌≤◌, Bool, true, fa
 use Rattle.std.proofs.Common.{ap, subst, sym, ◌∙◌, refl, arith, inl, inr}
 use Rattle.std.specs.Prelude.{slice_get, nat_eq, if◌then◌else◌}
 use Rattle.scop_syntax.specs.Members.{In}
+use Rattle.scop_syntax.specs.Reductions.{is_marked}
 use Rattle.scop_syntax.specs.Tree.{Access}
 use Rattle.scop_syntax.proofs.Members.{in_append}
 use Rattle.quast_trees.specs.Source.{Source}
@@ -15,10 +16,11 @@ use Rattle.iteration_domains.specs.Sizes.{IsKernelModel}
 use Rattle.iteration_domains.specs.Dependence.{Dependence}
 use Rattle.conflict_deps.specs.Conflicts.{Side, loops_of, sides_in, end_of, conflicts_of}
 use Rattle.conflict_deps.proofs.Parts.{parts_of, stands}
-use Rattle.conflict_deps.proofs.Sides.{in_flat_map_from}
+use Rattle.conflict_deps.proofs.Sides.{in_flat_map_from, in_unless_from}
 use Rattle.dataflow.specs.WriterRuns.{turns_in, writers_run}
 use Rattle.dataflow.specs.Leaves.{leaf_dep, deps_with, deps_of_leaf, written_side, written_of, writer_of}
-use Rattle.dataflow.specs.Covering.{LiesBetween, is_in_role, told_deps, role_deps, next_deps, covers_at, covers_of}
+use Rattle.dataflow.specs.Covering.{LiesBetween, is_in_role, told_deps, role_deps, roles_at, next_deps}
+use Rattle.dataflow.specs.Covering.{covers_at, covers_of}
 use Rattle.dataflow.proofs.ResolvedWriters.{chosen_in}
 
 -- an access stands at its statement's place
@@ -120,12 +122,13 @@ next_between budget model reader d false is here h =
     role_between Earlier model reader (writers_run Earlier model budget reader.statement.number reader.number) d is here
     h
 
-pub covers_between : (model : KernelModel) (budget : ℕ) (d : Dependence) → IsKernelModel model
-    → In d (covers_of budget model) → LiesBetween model d
-covers_between model budget d is h =
-    let r = in_flat_map_from (covers_at budget model) (sides_in model) d h in
+pub covers_between : (model : KernelModel) (budget : ℕ) (marked : List ℕ) (d : Dependence) → IsKernelModel model
+    → In d (covers_of budget marked model) → LiesBetween model d
+covers_between model budget marked d is h =
+    let r = in_flat_map_from (covers_at budget marked model) (sides_in model) d h in
+    let kept = in_unless_from (is_marked marked r.0.access.array) d (roles_at budget model r.0) r.2 in
     let here = stands model r.0 is r.1 in
-    elim (in_append d (role_deps budget Later model r.0) (next_deps budget model r.0) r.2) [
+    elim (in_append d (role_deps budget Later model r.0) (next_deps budget model r.0) kept.1) [
       | inl last ↦ role_between Later model r.0
           (writers_run Later model budget r.0.statement.number r.0.number) d is here last
       | inr next ↦ next_between budget model r.0 d (nat_eq r.0.number 0) is here next

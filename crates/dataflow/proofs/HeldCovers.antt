@@ -21,8 +21,10 @@ use Rattle.quast_joins.specs.declared.way.Way.{Way}
 use Rattle.quast_joins.specs.declared.way.Way.TheVariants.{Later, Earlier}
 use Rattle.scop_syntax.specs.Cells.{Cell, accesses, cell_at, cell_of, written}
 use Rattle.scop_syntax.specs.Members.{In}
+use Rattle.scop_syntax.specs.Reductions.{is_marked}
 use Rattle.scop_syntax.specs.Tree.{Access, Program}
 use Rattle.scop_syntax.specs.Walk.{Visit, instance, walk_of}
+use Rattle.scop_syntax.specs.Writers.{last_writer, next_writer}
 use Rattle.scop_syntax.proofs.Members.{in_back, in_from_place, in_front, member_at}
 use Rattle.scop_syntax.proofs.Writers.{last_is, next_is}
 use Rattle.scop_syntax.proofs.Writers as writers
@@ -35,8 +37,9 @@ use Rattle.conflict_deps.specs.Conflicts.{Side, loops_of, sides_in, conflicts_of
 use Rattle.conflict_deps.specs.Pairs.{IsEnd, TouchesAt}
 use Rattle.conflict_deps.proofs.Parts.{parts_of}
 use Rattle.conflict_deps.proofs.RelatedPairs.{none_bound, pair_of}
+use Rattle.conflict_deps.proofs.Sides.{in_unless}
 use Rattle.dataflow.specs.Candidates.{Writes}
-use Rattle.dataflow.specs.Covering.{covers_at, covers_of, is_in_role, next_deps, role_deps, told_deps}
+use Rattle.dataflow.specs.Covering.{covers_at, covers_of, is_in_role, next_deps, role_deps, roles_at, told_deps}
 use Rattle.dataflow.specs.LeafRows.{path_rows, turn_equalities}
 use Rattle.dataflow.specs.Leaves.{deps_of_leaf, deps_with, first_of, leaf_dep, leaf_deps, leaf_layout, pair_dep}
 use Rattle.dataflow.specs.Leaves.{pair_equalities, pair_rows, pair_system, second_of, writer_begins, writer_of, written_of}
@@ -340,6 +343,7 @@ then_from f o y h = option_and_then_some f o y h (λ x is goes. (x, is, goes))
 -- what the access at place j touches, and who writes it at place k
 pub record Meets (way : Way) (program : Program) (params : List ℤ) (j k a : ℕ) (w : Visit) : Type 0 where
   pub cell : Cell
+  pub at : cell_at (walk_of program params) j a ≡ Some cell
   pub touches : TouchesAt program params j w a cell
   pub wanted : wanted_writer way (walk_of program params) j cell ≡ Some k
 
@@ -358,6 +362,7 @@ meets way program params j k a w there h =
     same v.2) in
     record {
       cell = c.0;
+      at = c.1;
       touches = record { place = there; access = g.0; is_access = g.1; cell = g.2 };
       wanted = c.2;
     }
@@ -390,15 +395,16 @@ met_pair way program params budget reader j k w u laws among number there m =
 -- each access of an instance and its writer are a pair of some access's dependences
 pub some_pair : (way : Way) (program : Program) (params : List ℤ) (budget : ℕ) (j k a : ℕ) (w u : Visit)
     → CoverLaws program params budget → slice_get (walk_of program params) k ≡ Some u
-    → Meets way program params j k a w
+    → (m : Meets way program params j k a w)
     → (reader : Side) × In reader (sides_in (model_of program)) × (reader.number ≡ a)
-    × IsRolePair way program params budget reader w u
+    × (reader.access.array ≡ m.cell.array) × IsRolePair way program params budget reader w u
 some_pair way program params budget j k a w u laws there m =
     let r = has_side program params budget w a m.touches.access laws
     (in_from_place (walk_of program params) j w m.touches.place) m.touches.is_access in (
       r.0,
       r.1,
       r.2,
+      ap (λ (c : Cell). c.array) (r.3.cell ∙ m.touches.cell),
       met_pair way program params budget r.0 j k w u laws r.1 (sym r.3.number) there
           (subst (λ (i : ℕ). Meets way program params j k i w) (sym r.2) m),
     )
@@ -411,29 +417,44 @@ is_read n r e = by (nat_eq n 0) refl
     by false h = h
     by true h = let z = eqb-true n 0 h in absurd (omega (arith, z, e))
 
--- so is each cover
-pub covers_held : (program : Program) (params : List ℤ) (budget : ℕ) → CoverLaws program params budget
-    → HoldCovers program params (covers_of budget (model_of program))
-covers_held program params budget laws i j v w at_i at_j (inl last) =
+-- the array of what is touched is not marked
+unmarked_there : (marked : List ℕ) (visits : List Visit) (j a : ℕ) (c d : Cell) → cell_at visits j a ≡ Some c
+    → cell_at visits j a ≡ Some d → is_marked marked c.array ≡ false → (array : ℕ) → array ≡ d.array
+    → is_marked marked array ≡ false
+unmarked_there marked visits j a c d touches there free array is =
+    let same : c ≡ d = (let e = sym touches ∙ there in cc) in
+    ap (is_marked marked) is ∙ subst (λ (z : Cell). is_marked marked z.array ≡ false) same free
+
+-- so is each cover by a cell of an array that is not marked
+pub covers_held : (program : Program) (params : List ℤ) (budget : ℕ) (marked : List ℕ) → CoverLaws program params budget
+    → HoldCovers program params marked (covers_of budget marked (model_of program))
+covers_held program params budget marked laws i j c v w at_i at_j (inl (a, touches, last)) free =
     let model = model_of program in
-    let m = some_pair Later program params budget j i last.0 w v laws at_i
-    (meets Later program params j i last.0 w at_j last.1) in
-    let pair = m.3 in (
+    let visits = walk_of program params in
+    let met = meets Later program params j i a w at_j (ap (option_and_then (last_writer visits j)) touches ∙ last) in
+    let m = some_pair Later program params budget j i a w v laws at_i met in
+    let pair = m.4 in (
       pair.0,
-      in_flat (covers_at budget model) (sides_in model) m.0 pair.0 m.1
-          (in_front pair.0 (role_deps budget Later model m.0) (next_deps budget model m.0) pair.1),
+      in_flat (covers_at budget marked model) (sides_in model) m.0 pair.0 m.1
+          (in_unless (is_marked marked m.0.access.array) pair.0 (roles_at budget model m.0)
+          (unmarked_there marked visits j a c met.cell touches met.at free m.0.access.array m.3)
+          (in_front pair.0 (role_deps budget Later model m.0) (next_deps budget model m.0) pair.1)),
       pair.2,
     )
-covers_held program params budget laws i j v w at_i at_j (inr next) =
+covers_held program params budget marked laws i j c v w at_i at_j (inr (r, touches, next)) free =
     let model = model_of program in
-    let m = some_pair Earlier program params budget i j (suc next.0) v w laws at_j
-    (meets Earlier program params i j (suc next.0) v at_i next.1) in
-    let pair = m.3 in
+    let visits = walk_of program params in
+    let met = meets Earlier program params i j (suc r) v at_i
+    (ap (option_and_then (next_writer visits i)) touches ∙ next) in
+    let m = some_pair Earlier program params budget i j (suc r) v w laws at_j met in
+    let pair = m.4 in
     let there : In pair.0 (next_deps budget model m.0) =
     subst (λ (b : Bool). In pair.0 (if b then [] else role_deps budget Earlier model m.0))
-    (sym (is_read m.0.number next.0 m.2)) pair.1 in (
+    (sym (is_read m.0.number r m.2)) pair.1 in (
       pair.0,
-      in_flat (covers_at budget model) (sides_in model) m.0 pair.0 m.1
-          (in_back pair.0 (role_deps budget Later model m.0) (next_deps budget model m.0) there),
+      in_flat (covers_at budget marked model) (sides_in model) m.0 pair.0 m.1
+          (in_unless (is_marked marked m.0.access.array) pair.0 (roles_at budget model m.0)
+          (unmarked_there marked visits i (suc r) c met.cell touches met.at free m.0.access.array m.3)
+          (in_back pair.0 (role_deps budget Later model m.0) (next_deps budget model m.0) there)),
       pair.2,
     )

@@ -100,7 +100,7 @@ sources_held program params budget trees laws are i j v w r at_i at_j last =
     let model = model_of program in
     let m = some_pair Later program params budget j i (suc r) w v laws at_i
     (meets Later program params j i (suc r) w at_j last) in
-    let pair = m.3 in
+    let pair = m.4 in
     let has = has_tree model budget (read_sides_in model) trees m.0
     (subst (λ (rs : List (ℕ × ℕ)). AreLastTrees model budget rs trees) (sym (all_reads model.statements)) are)
     (in_reads model m.0 r m.1 m.2) in (

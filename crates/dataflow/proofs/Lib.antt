@@ -12,6 +12,7 @@ pub mod Lists
 pub mod Fits
 pub mod CandidateQuasts
 pub mod CandidateRuns
+pub mod UnmarkedConflicts
 pub mod NodeNumbers
 pub mod TellableSources
 pub mod LeafForms

@@ -3,6 +3,8 @@ use Rattle.std.specs.Prelude.{◌≡◌, ℕ, Bool, false, List, [], ◌++◌, n
 use Rattle.std.specs.Prelude.{Some, slice_get}
 use Rattle.std.specs.List.{flat_map}
 use Rattle.quast_trees.specs.Tree.{Tree}
+use Rattle.scop_syntax.specs.Members.{In}
+use Rattle.scop_syntax.specs.Reductions.{is_marked}
 use Rattle.quast_joins.specs.declared.way.Way.{Way}
 use Rattle.quast_joins.specs.declared.way.Way.TheVariants.{Later, Earlier}
 use Rattle.iteration_domains.specs.Model.{Modelled, KernelModel}
@@ -36,12 +38,22 @@ abbrev pub next_deps : ℕ → KernelModel → Side → List Dependence
 next_deps budget model reader = if nat_eq reader.number 0 then [] else role_deps budget Earlier model reader
 
 -- an access with its last writers, and behind them, where it is a read, its next
-abbrev pub covers_at : ℕ → KernelModel → Side → List Dependence
-covers_at budget model reader = role_deps budget Later model reader ++ next_deps budget model reader
+abbrev pub roles_at : ℕ → KernelModel → Side → List Dependence
+roles_at budget model reader = role_deps budget Later model reader ++ next_deps budget model reader
+
+-- the same of an access to an array that is not marked; of another none
+abbrev pub covers_at : ℕ → List ℕ → KernelModel → Side → List Dependence
+covers_at budget marked model reader = if is_marked marked reader.access.array then [] else roles_at budget model reader
 
 -- those of all accesses, by statement and access
-abbrev pub covers_of : ℕ → KernelModel → List Dependence
-covers_of budget model = flat_map (covers_at budget model) (sides_in model)
+abbrev pub covers_of : ℕ → List ℕ → KernelModel → List Dependence
+covers_of budget marked model = flat_map (covers_at budget marked model) (sides_in model)
+
+-- dependences of a model, and all those with an access in its role, in their order
+pub record HoldConflicts (way : Way) (model : KernelModel) (statement access : ℕ) (deps : List Dependence)
+    : Type 0 where
+  pub among : (d : Dependence) → In d deps → In d (conflicts_of model)
+  pub role : chosen_deps (is_in_role way statement access) deps ≡ conflicts_at way model statement access
 
 -- a dependence between two statements of a model, with their numbers of loops, over the model's parameters
 pub record LiesBetween (model : KernelModel) (d : Dependence) : Type 0 where

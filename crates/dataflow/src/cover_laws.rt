@@ -29,16 +29,16 @@ use scop_syntax::walk_laws::{
 
 /// Each of them lies between two statements of the model, with their numbers of loops, and is over its parameters.
 pub fn covers_lie_between_statements()
-    ensures { (model : KernelModel) (budget : ℕ) (d : Dependence) → IsOfKernel model
-        → In d (covers_of budget model) → LiesBetween model d }
+    ensures { (model : KernelModel) (budget : ℕ) (marked : List ℕ) (d : Dependence) → IsOfKernel model
+        → In d (covers_of budget marked model) → LiesBetween model d }
 {
     statements_are_numbered();
 }
 
-/// Each cover of a walk is a pair of one of them.
+/// Each cover of a walk by a cell of an array that is not marked is a pair of one of them.
 pub fn covers_are_held()
-    ensures { (program : Program) (params : List ℤ) (budget : ℕ) → HasParameters program params
-        → HoldCovers program params (covers_of budget (model_of program)) }
+    ensures { (program : Program) (params : List ℤ) (budget : ℕ) (marked : List ℕ) → HasParameters program params
+        → HoldCovers program params marked (covers_of budget marked (model_of program)) }
 {
     instances_are_those_of_statements();
     statements_are_numbered();

@@ -1,12 +1,13 @@
 //! The dependences that hold each access with its last writer and each read with its next writer: one for each leaf of
 //! their quasts, and where a quast is not told all conflicts with the access in that role.
-ghost use Rattle.std.specs.Prelude.{◌≡◌, ◌++◌, ◌∷◌, [], IfOk, IfSome, OnOk, MatchOption, None, Some};
+ghost use Rattle.std.specs.Prelude.{◌≡◌, ◌++◌, ◌∷◌, [], IfOk, IfSome, OnOk, MatchOption, None, Some, slice_get};
 ghost use Rattle.std.specs.List.{flat_map};
 ghost use Rattle.scop_syntax.specs.Members.{In};
+ghost use Rattle.quast_joins.specs.declared.way.Way.{Way};
 ghost use Rattle.quast_trees.specs.Postfix.{tree_of};
-ghost use Rattle.conflict_deps.specs.Conflicts.{conflicts_of, sides_of};
+ghost use Rattle.conflict_deps.specs.Conflicts.{conflicts_without, sides_of};
 ghost use Rattle.conflict_deps.specs.View.{CanPair, side_of};
-ghost use Rattle.dataflow.specs.Covering.{conflicts_at, covers_at, covers_of, is_in_role, next_deps, role_deps};
+ghost use Rattle.dataflow.specs.Covering.{HoldConflicts, covers_at, covers_of, is_in_role, role_deps, roles_at};
 ghost use Rattle.dataflow.specs.LeafSteps.{CanTellAll, CanTellWriter, IsReader};
 ghost use Rattle.dataflow.specs.Leaves.{deps_of_leaf, leaf_deps, writer_of};
 ghost use Rattle.dataflow.specs.Posed.{IsOfKernel};
@@ -21,6 +22,7 @@ use conflict_deps::AccessOf;
 use iteration_domains::{Dep, Model, StatementModel};
 use quast_joins::Way;
 use quast_trees::{Path, Quast};
+use scop_syntax::marks::is_marked;
 use scop_syntax::walk_laws::statements_are_numbered;
 use std::alloc::{AllocError, Global};
 
@@ -145,7 +147,8 @@ fn push_role(
     budget: u64,
 ) -> Result<(), AllocError>
     requires kernel { IsOfKernel model.now }
-    requires conflicts { conflicts.now ≡ conflicts_of model.now }
+    requires conflicts { HoldConflicts way model.now (side_of reader.now).statement.number reader.now.number
+        conflicts.now }
     requires reader { IsReader model.now (side_of reader.now) }
     ensures { OnOk result
         (out.new.items ≡ out.old.items ++ role_deps budget way model.now (side_of reader.now)) }
@@ -175,7 +178,7 @@ fn push_role(
 }
 
 // Appends the dependences of an access with its last writers, and behind them, where it is a read, its next.
-fn push_access(
+fn push_roles(
     out: &mut Vec<Dep>,
     alloc: Global,
     model: &Model,
@@ -184,15 +187,43 @@ fn push_access(
     budget: u64,
 ) -> Result<(), AllocError>
     requires kernel { IsOfKernel model.now }
-    requires conflicts { conflicts.now ≡ conflicts_of model.now }
+    requires conflicts { (way : Way)
+        → HoldConflicts way model.now (side_of reader.now).statement.number reader.now.number conflicts.now }
     requires reader { IsReader model.now (side_of reader.now) }
-    ensures { OnOk result (out.new.items ≡ out.old.items ++ covers_at budget model.now (side_of reader.now)) }
+    ensures { OnOk result (out.new.items ≡ out.old.items ++ roles_at budget model.now (side_of reader.now)) }
 {
     push_role(out, alloc, Way::Later, model, conflicts, reader, budget)?;
     if reader.number == 0 {
         return Ok(());
     }
     push_role(out, alloc, Way::Earlier, model, conflicts, reader, budget)
+}
+
+// Appends those of an access, but none where its array is marked.
+fn push_access(
+    out: &mut Vec<Dep>,
+    alloc: Global,
+    model: &Model,
+    conflicts: &[Dep],
+    reader: &AccessOf,
+    marked: &[usize],
+    budget: u64,
+) -> Result<(), AllocError>
+    requires kernel { IsOfKernel model.now }
+    requires conflicts { conflicts.now ≡ conflicts_without marked.now model.now }
+    requires reader { IsReader model.now (side_of reader.now) }
+    requires access { slice_get (side_of reader.now).statement.accesses reader.now.number
+        ≡ Some (side_of reader.now).access }
+    ensures { OnOk result
+        (out.new.items ≡ out.old.items ++ covers_at budget marked.now model.now (side_of reader.now)) }
+{
+    statements_are_numbered();
+    let access = reader.access;
+    if is_marked(marked, access.array) {
+        Ok(())
+    } else {
+        push_roles(out, alloc, model, conflicts, reader, budget)
+    }
 }
 
 // Appends those of a statement's accesses.
@@ -202,14 +233,15 @@ fn push_statement(
     model: &Model,
     conflicts: &[Dep],
     statement: &StatementModel,
+    marked: &[usize],
     budget: u64,
 ) -> Result<(), AllocError>
     requires kernel { IsOfKernel model.now }
-    requires conflicts { conflicts.now ≡ conflicts_of model.now }
+    requires conflicts { conflicts.now ≡ conflicts_without marked.now model.now }
     requires statement { In statement.now model.now.statements }
     requires parameters { statement.now.domain.parameters ≡ model.now.parameters }
     ensures { OnOk result
-        (out.new.items ≡ out.old.items ++ flat_map (covers_at budget model.now) (sides_of statement.now)) }
+        (out.new.items ≡ out.old.items ++ flat_map (covers_at budget marked.now model.now) (sides_of statement.now)) }
 {
     let accesses = statement.accesses();
     let _loops = statement.loops();
@@ -219,13 +251,14 @@ fn push_statement(
             number,
             access: &accesses[number],
         };
-        push_access(out, alloc, model, conflicts, &reader, budget)?;
+        push_access(out, alloc, model, conflicts, &reader, marked, budget)?;
     }
     Ok(())
 }
 
 /// The dependences that hold each access with its last writers and each read with its next, by statement and access, in a
-/// budget of moves for each candidate's problem. `conflicts` are those of the model.
+/// budget of moves for each candidate's problem, but for accesses to marked arrays. `conflicts` are those of the model
+/// without these arrays.
 ///
 /// # Errors
 /// `AllocError` alone.
@@ -233,15 +266,18 @@ pub fn covering(
     alloc: Global,
     model: &Model,
     conflicts: &[Dep],
+    marked: &[usize],
     budget: u64,
 ) -> Result<Vec<Dep>, AllocError>
     requires kernel { IsOfKernel model.now }
-    requires conflicts { conflicts.now ≡ conflicts_of model.now }
-    ensures deps { IfOk result (λ v. v.items ≡ covers_of budget model.now) }
+    requires conflicts { conflicts.now ≡ conflicts_without marked.now model.now }
+    ensures deps { IfOk result (λ v. v.items ≡ covers_of budget marked.now model.now) }
 {
     let mut deps = Vec::new(alloc);
     for statement in model.statements() {
-        push_statement(&mut deps, alloc, model, conflicts, statement, budget)?;
+        push_statement(
+            &mut deps, alloc, model, conflicts, statement, marked, budget,
+        )?;
     }
     Ok(deps)
 }

@@ -10,6 +10,7 @@ ghost use Rattle.quast_joins.specs.Limits.{IsStopOf, leaf_limit, node_limit};
 ghost use Rattle.quast_joins.specs.Sizes.{LeavesWithin};
 ghost use Rattle.quast_joins.specs.declared.way.Way.TheVariants.{Earlier, Later};
 ghost use Rattle.conflict_deps.specs.Conflicts.{conflicts_of};
+ghost use Rattle.dataflow.specs.Covering.{HoldConflicts};
 ghost use Rattle.dataflow.specs.Posed.{IsOfKernel};
 ghost use Rattle.dataflow.specs.ReadSources.{IsSourceOf, AreSources, reads_of, reads_of_statement};
 ghost use Rattle.dataflow.specs.ReadSources.{NameLastWriters, NameNextWriters};
@@ -105,7 +106,7 @@ fn candidates_joined(
     budget: u64,
 ) -> Result<ReadSource, AllocError>
     requires kernel { IsOfKernel model.now }
-    requires deps { deps.now ≡ conflicts_of model.now }
+    requires deps { HoldConflicts way model.now statement.now.number access deps.now }
     requires statement { In statement.now model.now.statements }
     ensures run { IfOk result (IsSourceOf way model.now budget statement.now.number access) }
     ensures numbers { IfOk result IsHeldSource }
@@ -143,7 +144,7 @@ pub fn source_of(
     budget: u64,
 ) -> Result<ReadSource, AllocError>
     requires kernel { IsOfKernel model.now }
-    requires deps { deps.now ≡ conflicts_of model.now }
+    requires deps { HoldConflicts way model.now statement.now.number access deps.now }
     requires statement { In statement.now model.now.statements }
     ensures run { IfOk result (IsSourceOf way model.now budget statement.now.number access) }
     ensures numbers { IfOk result IsHeldSource }

@@ -12,7 +12,7 @@ use Rattle.loop_tree.specs.Tree.{Tree, loop, guard, instance as leaf, Trees, non
 use Rattle.loop_tree.specs.Walk.{Visit, all_hold, given, walk_all, visits}
 use Rattle.loop_tree.specs.Scans.{Within}
 use Rattle.loop_tree.specs.Shape.{AreSerial}
-use Rattle.loop_tree.specs.Tiling.{TileRow, Items, Tiling, kept, tiled, items_at, order_of, IsGoodPlan}
+use Rattle.loop_tree.specs.Tiling.{TileRow, Items, Tiling, kept, tiled, items_at, order_of, IsGoodFor}
 
 -- the instances of the walk, in its order
 abbrev pub walked : Program → List ℤ → List Instance
@@ -80,10 +80,11 @@ AreMarked (tiled size statements) ts params =
     → v.parallel ≡ first_coordinate size (items_at statements v.number).band v.turns)
     × (has_rows statements ≡ false → AreSerial ts)
 
--- trees that carry out a plan of the program at these parameters: the plan is good, they visit each walked instance
--- once, in the plan's order, and their parallel loops may run in any order
-pub record CarryOut (program : Program) (params : List ℤ) (plan : Tiling) (ts : Trees) : Type 0 where
-  pub good : IsGoodPlan program params plan
+-- trees that carry out a plan of the program at these parameters, where some arrays are only added to: the plan is good
+-- but for these, they visit each walked instance once, in the plan's order, and where there is no such array their
+-- parallel loops may run in any order
+pub record CarryOut (program : Program) (params : List ℤ) (sums : List ℕ) (plan : Tiling) (ts : Trees) : Type 0 where
+  pub good : IsGoodFor program params sums plan
   pub exact : AreInOrder program params plan (visits ts params)
-  pub free : AreFree (Conflict program params) ts params []
+  pub free : sums ≡ [] → AreFree (Conflict program params) ts params []
   pub marked : AreMarked plan ts params

@@ -27,4 +27,5 @@ pub use stop::CertifyStop;
 pub use report_text::{
     DataRefusal, FaultKind, KeptLine, Outside, Refusal, RefusalKind, Status, deps_text, edges_text,
     kept_text, schedule_text, status_line, tiles_text, uncertified_text, waves_edges_text,
+    waves_reduce_text,
 };

@@ -1,5 +1,5 @@
 -- The source's own tree is one of the kept order.
-use Rattle.std.proofs.Common.{◌≡◌, ◌^◌, ℤ, List, [], length, map, subst, sym, arith}
+use Rattle.std.proofs.Common.{◌≡◌, ◌^◌, ℕ, ℤ, List, [], length, map, subst, sym, arith}
 use Rattle.scop_syntax.specs.Kernel.{IsKernel}
 use Rattle.scop_syntax.specs.Limits.{HasParameters}
 use Rattle.scop_syntax.specs.Tree.{Program}
@@ -28,9 +28,9 @@ pub record IsSource (program : Program) (ts : Trees) : Type 0 where
   pub instances : TreesAreOf program ts
   pub small : TreesAreUpTo (2 ^ 45) ts
 
-pub kept_trees : (program : Program) (ts : Trees) → IsKernel program
-    → ((params : List ℤ) → IsGoodPlan program params kept) → IsSource program ts → AreTreesOf program kept ts
-kept_trees program ts is good s =
+pub kept_trees : (program : Program) (marked : List ℕ) (ts : Trees) → IsKernel program
+    → ((params : List ℤ) → IsGoodPlan program params kept) → IsSource program ts → AreTreesOf program marked kept ts
+kept_trees program marked ts is good s =
     record {
       flat = s.flat;
       statements = s.instances;
@@ -40,9 +40,9 @@ kept_trees program ts is good s =
       even = tt;
       fits = λ params has. (s.walked params has).fits;
       carry_out = λ params has. record {
-        good = good params;
+        good = λ i j c free. good params i j c;
         exact = s.visits_are params has.count;
-        free = serial_is_free (Conflict program params) ts params [] s.serial;
+        free = λ none. serial_is_free (Conflict program params) ts params [] s.serial;
         marked = s.serial;
       };
     }

@@ -1,15 +1,16 @@
 -- Conflicting places of the walk are visited in their order by a tree that carries out a plan.
 use Rattle.std.proofs.Common.{◌≡◌, ℕ, ◌-◌, ◌<◌, ℤ, pos, List, [], ◌∷◌, ◌++◌, length, inl, inr, ap, subst, sym}
-use Rattle.std.proofs.Common.{◌∙◌, arith}
+use Rattle.std.proofs.Common.{◌∙◌, arith, false}
 use Rattle.std.specs.Prelude.{slice_get, Some}
 use Rattle.std.specs.Option.{option_map}
 use Rattle.std.proofs.lemmas.List.{length-map}
 use Rattle.std.proofs.lemmas.Option.{slice_get-map, slice_get_within}
 use Rattle.whole_numbers.specs.Lists.{zeros}
 use Rattle.whole_numbers.proofs.Lexicographic.{LexLess-irrefl, LexLess-asym, LexLess-front}
-use Rattle.scop_syntax.specs.Cells.{PlacesConflict}
+use Rattle.scop_syntax.specs.Cells.{PlacesConflict, conflict_cell}
 use Rattle.scop_syntax.specs.Members.{In, Sorted}
 use Rattle.scop_syntax.specs.Statements.{statements_of}
+use Rattle.scop_syntax.specs.Reductions.{is_marked}
 use Rattle.scop_syntax.specs.Tree.{Program}
 use Rattle.scop_syntax.specs.Walk.{Instance, instance, Visit, walk_of}
 use Rattle.scop_syntax.proofs.Members.{in_from_place, in_map, nat_cases, place_of, sorted_places}
@@ -17,7 +18,7 @@ use Rattle.scop_syntax.proofs.Statements.{found_at, placed_number}
 use Rattle.iteration_domains.specs.Model.{model_of, modelled}
 use Rattle.loop_tree.specs.Plans.{AreInOrder, CarryOut, Precedes, walked}
 use Rattle.loop_tree.specs.Tiling.{Items, Tiling, kept, tiled, item_values, items_at, order_of, tile_of, wave_of}
-use Rattle.loop_tree.specs.Tiling.{IsGoodPlan, IsInOrder}
+use Rattle.loop_tree.specs.Tiling.{IsGoodFor, IsInOrder}
 use Rattle.loop_tree.specs.Tree.{Trees}
 use Rattle.loop_tree.specs.Walk.{visits}
 use Rattle.tile_skew.specs.Items.{Block}
@@ -88,17 +89,18 @@ instance_there program params k v h =
     slice_get-map instance (walk_of program params) k ∙ ap (option_map instance) h
 
 -- what is listed in the plan's order has conflicting places in theirs
-listed : (program : Program) (params : List ℤ) (plan : Tiling) (xs : List Instance) → AreEven program plan
-    → IsGoodPlan program params plan → AreInOrder program params plan xs → (i j : ℕ)
-    (c : PlacesConflict (walk_of program params) i j) → StandInOrder xs (instance c.earlier) (instance c.later)
-listed program params kept xs even good same i j c = (
+listed : (program : Program) (params : List ℤ) (marked : List ℕ) (plan : Tiling) (xs : List Instance)
+    → AreEven program plan → IsGoodFor program params marked plan → AreInOrder program params plan xs → (i j : ℕ)
+    (c : PlacesConflict (walk_of program params) i j) → is_marked marked (conflict_cell c).array ≡ false
+    → StandInOrder xs (instance c.earlier) (instance c.later)
+listed program params marked kept xs even good same i j c free = (
   i,
   j,
   c.order,
   ap (λ ys. slice_get ys i) same ∙ instance_there program params i c.earlier c.is_earlier,
   ap (λ ys. slice_get ys j) same ∙ instance_there program params j c.later c.is_later,
 )
-listed program params (tiled size statements) xs even good (sorted, all) i j c =
+listed program params marked (tiled size statements) xs even good (sorted, all) i j c free =
     let v = c.earlier in
     let w = c.later in
     let first = in_from_place (walk_of program params) i v c.is_earlier in
@@ -108,10 +110,11 @@ listed program params (tiled size statements) xs even good (sorted, all) i j c =
     (λ x y. LexLess-asym (order_of size statements x) (order_of size statements y)) sorted (instance v) (instance w)
     ((all (instance v)).1 (in_map instance v (walk_of program params) first))
     ((all (instance w)).1 (in_map instance w (walk_of program params) second))
-    (precedes size statements i j (instance v) (instance w) alike.0 (good i j c))
+    (precedes size statements i j (instance v) (instance w) alike.0 (good i j c free))
 
-pub conflicts_in_order : (program : Program) (params : List ℤ) (plan : Tiling) (ts : Trees) → AreEven program plan
-    → CarryOut program params plan ts → (i j : ℕ) (c : PlacesConflict (walk_of program params) i j)
+pub conflicts_in_order : (program : Program) (params : List ℤ) (marked : List ℕ) (plan : Tiling) (ts : Trees)
+    → AreEven program plan → CarryOut program params marked plan ts → (i j : ℕ)
+    (c : PlacesConflict (walk_of program params) i j) → is_marked marked (conflict_cell c).array ≡ false
     → StandInOrder (visits ts params) (instance c.earlier) (instance c.later)
-conflicts_in_order program params plan ts even carry i j c =
-    listed program params plan (visits ts params) even carry.good carry.exact i j c
+conflicts_in_order program params marked plan ts even carry i j c free =
+    listed program params marked plan (visits ts params) even carry.good carry.exact i j c free

@@ -68,7 +68,7 @@ listed_distinct program params (tiled size statements) xs once (sorted, all) =
 
 -- of the trees' own visits none stands where it may not
 visits_may : (program : Program) (params : List ℤ) (plan : Tiling) (ts : Trees) → StandOnce program params
-    → AreEven program plan → CarryOut program params plan ts
+    → AreEven program plan → CarryOut program params [] plan ts
     → Sorted (MayPrecede program params) (visits ts params)
 visits_may program params plan ts once even carry =
     let xs = visits ts params in
@@ -76,7 +76,7 @@ visits_may program params plan ts once even carry =
     sorted_by_places (MayPrecede program params) xs (λ a b x y less at_x at_y. (
       sorted_places (λ (u w : Instance). u ≢ w) xs distinct a b x y at_x at_y less,
       λ late.
-          let s = conflicts_in_order program params plan ts even carry late.0 late.1 late.2 in
+          let s = conflicts_in_order program params [] plan ts even carry late.0 late.1 late.2 refl in
           let first = distinct_places xs distinct s.0 b y (s.3 ∙ ap Some late.3) at_y in
           let second = distinct_places xs distinct s.1 a x (s.4 ∙ ap Some late.4) at_x in
           let before = s.2 in
@@ -85,17 +85,17 @@ visits_may program params plan ts once even carry =
 
 -- nor what a run of them visits
 run_may : (program : Program) (params : List ℤ) (plan : Tiling) (ts : Trees) (xs : List Visited)
-    → StandOnce program params → AreEven program plan → CarryOut program params plan ts → MayRunAll ts params [] xs
+    → StandOnce program params → AreEven program plan → CarryOut program params [] plan ts → MayRunAll ts params [] xs
     → Sorted (λ (v w : Visited). MayPrecede program params (given v) (given w)) xs
 run_may program params plan ts xs once even carry run =
     sorted_all (Conflict program params) (MayPrecede program params) (may_turn program params) ts params [] xs
-    carry.free run
+    (carry.free refl) run
     (sorted_unmapped (MayPrecede program params) given (walk_all ts params [])
     (visits_may program params plan ts once even carry))
 
 -- the instances of a run are those of the walk
 run_same : (program : Program) (params : List ℤ) (plan : Tiling) (ts : Trees) (xs : List Visited)
-    → CarryOut program params plan ts → MayRunAll ts params [] xs → (x : Instance)
+    → CarryOut program params [] plan ts → MayRunAll ts params [] xs → (x : Instance)
     → In x (map given xs) ↔ In x (walked program params)
 run_same program params plan ts xs carry run x =
     let ws = walk_all ts params [] in
@@ -110,7 +110,7 @@ run_same program params plan ts xs carry run x =
 
 -- so each walked instance is visited once
 pub run_visits_once : (program : Program) (params : List ℤ) (plan : Tiling) (ts : Trees) (xs : List Visited)
-    → StandOnce program params → AreEven program plan → CarryOut program params plan ts → MayRunAll ts params [] xs
+    → StandOnce program params → AreEven program plan → CarryOut program params [] plan ts → MayRunAll ts params [] xs
     → IsOrderOf (map given xs) (walked program params)
 run_visits_once program params plan ts xs once even carry run =
     record {
@@ -121,7 +121,7 @@ run_visits_once program params plan ts xs once even carry run =
 
 -- visits of the walk for a run's instances stand as they do
 run_visits_may : (program : Program) (params : List ℤ) (plan : Tiling) (ts : Trees) (xs : List Visited)
-    (us : List Visit) → StandOnce program params → AreEven program plan → CarryOut program params plan ts
+    (us : List Visit) → StandOnce program params → AreEven program plan → CarryOut program params [] plan ts
     → MayRunAll ts params [] xs → AreVisitsOf program params (map given xs) us
     → Sorted (λ (v w : Visit). MayPrecede program params (instance v) (instance w)) us
 run_visits_may program params plan ts xs us once even carry run are =
@@ -147,7 +147,7 @@ visits_for vs (x ∷ xs) among =
     )
 
 pub run_has_visits : (program : Program) (params : List ℤ) (plan : Tiling) (ts : Trees) (xs : List Visited)
-    → CarryOut program params plan ts → MayRunAll ts params [] xs
+    → CarryOut program params [] plan ts → MayRunAll ts params [] xs
     → (us : List Visit) × AreVisitsOf program params (map given xs) us
 run_has_visits program params plan ts xs carry run =
     let r = visits_for (walk_of program params) (map given xs)
@@ -156,7 +156,7 @@ run_has_visits program params plan ts xs carry run =
 
 -- the visits of a run are those of the walk, each once
 pub run_is_order : (program : Program) (params : List ℤ) (plan : Tiling) (ts : Trees) (xs : List Visited)
-    (us : List Visit) → StandOnce program params → AreEven program plan → CarryOut program params plan ts
+    (us : List Visit) → StandOnce program params → AreEven program plan → CarryOut program params [] plan ts
     → MayRunAll ts params [] xs → AreVisitsOf program params (map given xs) us
     → IsOrderOf us (walk_of program params)
 run_is_order program params plan ts xs us once even carry run are =
@@ -177,7 +177,7 @@ run_is_order program params plan ts xs us once even carry run are =
 
 -- and in the order of all that conflict
 pub run_keeps : (program : Program) (params : List ℤ) (plan : Tiling) (ts : Trees) (xs : List Visited)
-    (us : List Visit) → StandOnce program params → AreEven program plan → CarryOut program params plan ts
+    (us : List Visit) → StandOnce program params → AreEven program plan → CarryOut program params [] plan ts
     → MayRunAll ts params [] xs → AreVisitsOf program params (map given xs) us
     → KeepsConflicts (walk_of program params) us
 run_keeps program params plan ts xs us once even carry run are i j c =

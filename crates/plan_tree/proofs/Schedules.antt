@@ -12,9 +12,9 @@ use Rattle.plan_tree.specs.Trees.{IsScheduleFor}
 use Rattle.plan_tree.specs.steps.Scanning.{IsTiled, sets_of}
 
 -- its blocks are those of a tiling
-pub tiled_blocks : (program : Program) (size : ℕ) (s : Scheduled) (r : IsScheduled s) → 0 < size → size ≤ 1024
-    → IsScheduleFor program s → IsTiled program size r.blocks
-tiled_blocks program size s r some few is =
+pub tiled_blocks : (program : Program) (marked : List ℕ) (size : ℕ) (s : Scheduled) (r : IsScheduled s) → 0 < size
+    → size ≤ 1024 → IsScheduleFor program marked s → IsTiled program marked size r.blocks
+tiled_blocks program marked size s r some few is =
     record {
       kernel = is.kernel;
       some = some;
@@ -26,6 +26,6 @@ tiled_blocks program size s r some few is =
     }
 
 -- its scan sets are those of the tiling
-pub tiled_sets_of : (program : Program) (size : ℕ) (s : Scheduled) (r : IsScheduled s) → IsScheduleFor program s
-    → scan_sets (pos size) r.blocks s.model ≡ sets_of program size r.blocks
-tiled_sets_of program size s r is = ap (scan_sets (pos size) r.blocks) is.model
+pub tiled_sets_of : (program : Program) (marked : List ℕ) (size : ℕ) (s : Scheduled) (r : IsScheduled s)
+    → IsScheduleFor program marked s → scan_sets (pos size) r.blocks s.model ≡ sets_of program size r.blocks
+tiled_sets_of program marked size s r is = ap (scan_sets (pos size) r.blocks) is.model

@@ -35,9 +35,10 @@ same_marks p params (tiled size statements) ts us same h m = (
   (λ none. h.serial (m.1 none)),
 )
 
-pub simpler : (program : Program) (plan : Tiling) (ts us : Trees) → AreTreesOf program plan ts
-    → Simplifies (length program.parameters) ts us → AreTreesOf program plan us
-simpler program plan ts us a h =
+pub simpler : (program : Program) (marked : List ℕ) (plan : Tiling) (ts us : Trees)
+    → AreTreesOf program marked plan ts → Simplifies (length program.parameters) ts us
+    → AreTreesOf program marked plan us
+simpler program marked plan ts us a h =
     record {
       flat = h.flat a.flat;
       statements = h.statements program a.statements;
@@ -52,7 +53,7 @@ simpler program plan ts us a h =
           record {
             good = c.good;
             exact = subst (AreInOrder program params plan) (sym (same_visits params ts us same)) c.exact;
-            free = h.free program params has.count has.parameters c.free;
+            free = λ none. h.free program params has.count has.parameters (c.free none);
             marked = same_marks (length program.parameters) params plan ts us same h c.marked;
           };
     }

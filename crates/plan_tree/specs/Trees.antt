@@ -36,10 +36,10 @@ AreEven program (tiled size statements) =
 abbrev pub StandInOrder : List Instance → Instance → Instance → Type 0
 StandInOrder xs x y = (a : ℕ) × (b : ℕ) × (a < b) × (slice_get xs a ≡ Some x) × (slice_get xs b ≡ Some y)
 
--- trees of a plan of the program: flat, of its statements, forms over loops and parameters, of numbers within 2^45, not
--- too many loops in one another; the plan has waves and tiles of one length; for all parameters in 0..=65536 each
--- number of their walk fits, and they carry out the plan
-pub record AreTreesOf (program : Program) (plan : Tiling) (ts : Trees) : Type 0 where
+-- trees of a plan of the program, where some arrays are marked: flat, of its statements, forms over loops and
+-- parameters, of numbers within 2^45, not too many loops in one another; the plan has waves and tiles of one length; for
+-- all parameters in 0..=65536 each number of their walk fits, and they carry out the plan
+pub record AreTreesOf (program : Program) (marked : List ℕ) (plan : Tiling) (ts : Trees) : Type 0 where
   pub flat : FlatAll ts
   pub statements : TreesAreOf program ts
   pub over : TreesAreOver (length program.parameters) ts
@@ -47,15 +47,15 @@ pub record AreTreesOf (program : Program) (plan : Tiling) (ts : Trees) : Type 0 
   pub nested : (n : ℕ) × (n < 2 ^ 32) × NestAllTo n ts
   pub even : AreEven program plan
   pub fits : (params : List ℤ) → HasParameters program params → FitsAll ts params []
-  pub carry_out : (params : List ℤ) → HasParameters program params → CarryOut program params plan ts
+  pub carry_out : (params : List ℤ) → HasParameters program params → CarryOut program params marked plan ts
 
--- the schedule is one of dependences between the program's statements that hold the covers of its walk, for all
--- parameters in 0..=65536
-pub record IsScheduleFor (program : Program) (s : Scheduled) : Type 0 where
+-- the schedule is one of dependences between the program's statements that hold the covers of its walk, but for those
+-- by cells of marked arrays, for all parameters in 0..=65536
+pub record IsScheduleFor (program : Program) (marked : List ℕ) (s : Scheduled) : Type 0 where
   pub kernel : IsKernel program
   pub model : s.model ≡ model_of program
   pub sized : (d : Dependence) → In d s.deps → IsSizedDep (loops_in s.model) d
-  pub covers : (params : List ℤ) → HasParameters program params → HoldCovers program params s.deps
+  pub covers : (params : List ℤ) → HasParameters program params → HoldCovers program params marked s.deps
 
 -- the tiling of a program's schedule by tiles of a size
 abbrev pub tiling_of : Program → ℕ → List Block → Tiling

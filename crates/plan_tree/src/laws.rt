@@ -1,11 +1,12 @@
 //! What a tree of a plan is for, as contracts of functions that call the laws which their proofs use.
-ghost use Rattle.std.specs.Prelude.{◌≡◌, ℕ, ℤ, List, [], All, FitsSigned, length, map};
+ghost use Rattle.std.specs.Prelude.{◌≡◌, ℕ, ℤ, List, [], All, FitsSigned, false, length, map};
 ghost use Rattle.std.specs.Int.{w64};
 ghost use Rattle.whole_numbers.specs.Affine.{value_of};
-ghost use Rattle.scop_syntax.specs.Cells.{PlacesConflict};
+ghost use Rattle.scop_syntax.specs.Cells.{PlacesConflict, conflict_cell};
 ghost use Rattle.scop_syntax.specs.Execution.{IsInside, IsShaped, exec, layout, performed_all};
 ghost use Rattle.scop_syntax.specs.Limits.{HasParameters};
 ghost use Rattle.scop_syntax.specs.Members.{In};
+ghost use Rattle.scop_syntax.specs.Reductions.{is_marked};
 ghost use Rattle.scop_syntax.specs.Tree.{Program};
 ghost use Rattle.scop_syntax.specs.Walk.{Instance, instance, Visit as Walked, walk_of};
 ghost use Rattle.iteration_domains.specs.Model.{model_of};
@@ -28,11 +29,13 @@ use scop_syntax::walk_laws::{
 };
 use tile_skew::schedules_have_small_items;
 
-/// Of two places of the walk that conflict, a tree that carries out a plan visits the earlier one's instance before the
-/// later one's, where all statements have as many leading scalars and rows in the first band.
+/// Of two places of the walk that conflict on an array that is not marked, a tree that carries out a plan visits the
+/// earlier one's instance before the later one's, where all statements have as many leading scalars and rows in the
+/// first band.
 pub fn trees_keep_conflicts_in_order()
-    ensures { (program : Program) (params : List ℤ) (plan : Tiling) (ts : Trees) → AreEven program plan
-        → CarryOut program params plan ts → (i j : ℕ) (c : PlacesConflict (walk_of program params) i j)
+    ensures { (program : Program) (params : List ℤ) (marked : List ℕ) (plan : Tiling) (ts : Trees)
+        → AreEven program plan → CarryOut program params marked plan ts → (i j : ℕ)
+        (c : PlacesConflict (walk_of program params) i j) → is_marked marked (conflict_cell c).array ≡ false
         → StandInOrder (visits ts params) (instance c.earlier) (instance c.later) }
 {}
 
@@ -41,15 +44,15 @@ pub fn trees_keep_conflicts_in_order()
 /// every subscript is inside. The trees' visits in their own order are such a run.
 pub fn loops_end_as_the_source_does()
     ensures ends { (program : Program) (params : List ℤ) (plan : Tiling) (ts : Trees) (contents : List (List ℕ))
-        (run : List Visit) (order : List Walked) → AreTreesOf program plan ts → HasParameters program params
+        (run : List Visit) (order : List Walked) → AreTreesOf program [] plan ts → HasParameters program params
         → IsInside program params → IsShaped (layout program params) contents → MayRunAll ts params [] run
         → AreVisitsOf program params (map given run) order
         → performed_all (layout program params) contents order ≡ exec program params contents }
     ensures visits { (program : Program) (params : List ℤ) (plan : Tiling) (ts : Trees) (run : List Visit)
-        → AreTreesOf program plan ts → HasParameters program params → MayRunAll ts params [] run
+        → AreTreesOf program [] plan ts → HasParameters program params → MayRunAll ts params [] run
         → (order : List Walked) × AreVisitsOf program params (map given run) order }
     ensures once { (program : Program) (params : List ℤ) (plan : Tiling) (ts : Trees) (run : List Visit)
-        → AreTreesOf program plan ts → HasParameters program params → MayRunAll ts params [] run
+        → AreTreesOf program [] plan ts → HasParameters program params → MayRunAll ts params [] run
         → IsOrderOf (map given run) (walked program params) }
     ensures walk { (ts : Trees) (params : List ℤ) → MayRunAll ts params [] (walk_all ts params []) }
 {
@@ -60,8 +63,8 @@ pub fn loops_end_as_the_source_does()
 /// For parameters in 0..=65536 the trees of a plan can be walked: divisors are at least 1, every number of the walk
 /// fits, and so does each instance.
 pub fn trees_of_plans_can_be_walked()
-    ensures { (program : Program) (params : List ℤ) (plan : Tiling) (ts : Trees) → AreTreesOf program plan ts
-        → HasParameters program params → CanWalk ts params [] }
+    ensures { (program : Program) (params : List ℤ) (marked : List ℕ) (plan : Tiling) (ts : Trees)
+        → AreTreesOf program marked plan ts → HasParameters program params → CanWalk ts params [] }
 {
     instances_are_those_of_statements();
     statements_are_numbered();
@@ -70,7 +73,8 @@ pub fn trees_of_plans_can_be_walked()
 
 /// The waves of what a plan's trees visit have one length, and so have the tiles.
 pub fn waves_have_one_length()
-    ensures { (program : Program) (params : List ℤ) (plan : Tiling) (ts : Trees) → AreTreesOf program plan ts
+    ensures { (program : Program) (params : List ℤ) (marked : List ℕ) (plan : Tiling) (ts : Trees)
+        → AreTreesOf program marked plan ts
         → HasParameters program params → (x y : Instance) → In x (visits ts params) → In y (visits ts params)
         → (length (wave_of plan x) ≡ length (wave_of plan y))
         × (length (tile_of plan x) ≡ length (tile_of plan y)) }
@@ -78,8 +82,9 @@ pub fn waves_have_one_length()
 
 /// At what the trees of a schedule's tiles visit, the values of the rows of the first band have 64 bits.
 pub fn rows_of_schedules_fit()
-    ensures { (program : Program) (params : List ℤ) (size : ℕ) (s : Scheduled) (run : IsScheduled s) (ts : Trees)
-        → IsScheduleFor program s → AreTreesOf program (tiling_of program size run.blocks) ts
+    ensures { (program : Program) (params : List ℤ) (marked : List ℕ) (size : ℕ) (s : Scheduled)
+        (run : IsScheduled s) (ts : Trees) → IsScheduleFor program marked s
+        → AreTreesOf program marked (tiling_of program size run.blocks) ts
         → HasParameters program params → (x : Instance) → In x (visits ts params)
         → All (λ r. FitsSigned w64 (value_of r.form x.turns))
         (items_at (statements_from run.blocks 0 (length (model_of program).statements)) x.number).band }

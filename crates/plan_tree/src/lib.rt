@@ -1,8 +1,8 @@
 //! The loop tree of a plan: of a schedule's tiles, or of the order of the source, which is kept. Promises that for all
-//! parameters in 0..=65536 it visits each instance of the kernel once, in the plan's order, and that iterations of its
-//! parallel loops do not conflict (U. Bondhugula and others, "A practical automatic polyhedral parallelizer and
-//! locality optimizer", PLDI 2008; C. Bastoul, "Code generation in the polyhedral model is easier than you think", PACT
-//! 2004).
+//! parameters in 0..=65536 it visits each instance of the kernel once, in the plan's order, and, where no array is
+//! marked, that iterations of its parallel loops do not conflict (U. Bondhugula and others, "A practical automatic
+//! polyhedral parallelizer and locality optimizer", PLDI 2008; C. Bastoul, "Code generation in the polyhedral model is
+//! easier than you think", PACT 2004).
 #![tactic(auto)]
 
 pub mod laws;

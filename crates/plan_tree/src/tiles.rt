@@ -21,14 +21,14 @@ use tile_skew::schedules_have_small_items;
 /// The scan sets of a schedule can be scanned together: they have one shape, not too many dimensions, and rising
 /// numbers.
 pub fn sets_can_be_scanned()
-    ensures scanned { (program : Program) (size : ℕ) (blocks : List Block) → IsTiled program size blocks
-        → AreScanned (sets_of program size blocks) }
-    ensures rise { (program : Program) (size : ℕ) (blocks : List Block) → IsTiled program size blocks
-        → NumbersRise (sets_of program size blocks) }
-    ensures few { (program : Program) (size : ℕ) (blocks : List Block) → IsTiled program size blocks
-        → dimensions_of (sets_of program size blocks) < 2 ^ 32 }
-    ensures parameters { (program : Program) (size : ℕ) (blocks : List Block) → IsTiled program size blocks
-        → 0 < length (sets_of program size blocks)
+    ensures scanned { (program : Program) (marked : List ℕ) (size : ℕ) (blocks : List Block)
+        → IsTiled program marked size blocks → AreScanned (sets_of program size blocks) }
+    ensures rise { (program : Program) (marked : List ℕ) (size : ℕ) (blocks : List Block)
+        → IsTiled program marked size blocks → NumbersRise (sets_of program size blocks) }
+    ensures few { (program : Program) (marked : List ℕ) (size : ℕ) (blocks : List Block)
+        → IsTiled program marked size blocks → dimensions_of (sets_of program size blocks) < 2 ^ 32 }
+    ensures parameters { (program : Program) (marked : List ℕ) (size : ℕ) (blocks : List Block)
+        → IsTiled program marked size blocks → 0 < length (sets_of program size blocks)
         → parameters_of (sets_of program size blocks) ≡ length program.parameters }
 {
     scan_sets_can_be_scanned();
@@ -38,8 +38,8 @@ pub fn sets_can_be_scanned()
 /// The visits of a tree that scans them stand at the places of walked instances, and give each of these once, in the
 /// tiling's order.
 pub fn visits_are_in_order()
-    ensures { (program : Program) (params : List ℤ) (size : ℕ) (blocks : List Block) (vs : List Visit)
-        → IsTiled program size blocks → length params ≡ length program.parameters
+    ensures { (program : Program) (params : List ℤ) (marked : List ℕ) (size : ℕ) (blocks : List Block)
+        (vs : List Visit) → IsTiled program marked size blocks → length params ≡ length program.parameters
         → Exact (Keys (sets_of program size blocks) params) vs → GiveIterators (sets_of program size blocks) vs
         → AreVisits program params size blocks vs }
 {
@@ -52,9 +52,9 @@ pub fn visits_are_in_order()
 
 /// A tree that scans them is one of the tiling.
 pub fn scans_are_trees_of_tilings()
-    ensures { (program : Program) (size : ℕ) (blocks : List Block) (ts : Trees) → IsTiled program size blocks
-        → IsScan (length program.parameters) (sets_of program size blocks) ts
-        → AreTreesOf program (tiling_of program size blocks) ts }
+    ensures { (program : Program) (marked : List ℕ) (size : ℕ) (blocks : List Block) (ts : Trees)
+        → IsTiled program marked size blocks → IsScan (length program.parameters) (sets_of program size blocks) ts
+        → AreTreesOf program marked (tiling_of program size blocks) ts }
 {
     scan_sets_can_be_scanned();
     sets_can_be_scanned();

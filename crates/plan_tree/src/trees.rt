@@ -1,6 +1,6 @@
 //! The trees of both kinds of plans.
 
-ghost use Rattle.std.specs.Prelude.{◌≡◌, ◌≤◌, ◌<◌, ◌^◌, [], ℕ, pos, IfErr, IfOk};
+ghost use Rattle.std.specs.Prelude.{◌≡◌, ◌≤◌, ◌<◌, ◌^◌, [], ℕ, pos, IfErr, IfOk, List};
 ghost use Rattle.scop_syntax.specs.Kernel.{IsKernel};
 ghost use Rattle.scop_syntax.specs.Tree.{Program};
 ghost use Rattle.scop_syntax.specs.View.{program_of};
@@ -30,7 +30,7 @@ use tree_simplification::simplified;
 /// The scan sets of a kernel's schedule, which can be scanned together.
 fn tiled_sets(alloc: Global, schedule: &Schedule, size: u64) -> Result<Vec<ScanSet>, AllocError>
     requires size { (0 < size) × (size ≤ 1024) }
-    requires schedule { (program : Program) × IsScheduleFor program schedule.now }
+    requires schedule { (program : Program) × (marked : List ℕ) × IsScheduleFor program marked schedule.now }
     ensures sets { IfOk result (λ sets. (s : IsScheduled schedule.now)
         → sets.items ≡ scan_sets (pos size) s.blocks schedule.now.model) }
     ensures scanned { IfOk result (λ sets. AreScanned sets.items) }
@@ -79,9 +79,10 @@ fn scanned_tree(
     budget: Option<u64>,
 ) -> Result<Tree, FmStop>
     requires size { (0 < size) × (size ≤ 1024) }
-    requires schedule { (program : Program) × IsScheduleFor program schedule.now }
-    ensures tree { IfOk result (λ t. (program : Program) → IsScheduleFor program schedule.now
-        → (s : IsScheduled schedule.now) → AreTreesOf program (tiling_of program size s.blocks) (trees_in t)) }
+    requires schedule { (program : Program) × (marked : List ℕ) × IsScheduleFor program marked schedule.now }
+    ensures tree { IfOk result (λ t. (program : Program) (marked : List ℕ)
+        → IsScheduleFor program marked schedule.now → (s : IsScheduled schedule.now)
+        → AreTreesOf program marked (tiling_of program size s.blocks) (trees_in t)) }
     ensures numbers { IfOk result (λ t. TreesAreUpTo (2 ^ 40) (trees_in t)) }
     ensures small { IfOk result (λ t. (d : ℕ) × (d < 2 ^ 32) × AreSmallTrees d (trees_in t)) }
     ensures stops { IfErr result (λ stop. (s : IsScheduled schedule.now)
@@ -106,9 +107,10 @@ fn scanned_tree(
 /// `Wide`, `Crowded` and `Large` only where the scan of the schedule's scan sets stops so; `NoMemory`.
 pub fn hull_tree(alloc: Global, schedule: &Schedule, size: u64) -> Result<Tree, FmStop>
     requires size { (0 < size) × (size ≤ 1024) }
-    requires schedule { (program : Program) × IsScheduleFor program schedule.now }
-    ensures tree { IfOk result (λ t. (program : Program) → IsScheduleFor program schedule.now
-        → (s : IsScheduled schedule.now) → AreTreesOf program (tiling_of program size s.blocks) (trees_in t)) }
+    requires schedule { (program : Program) × (marked : List ℕ) × IsScheduleFor program marked schedule.now }
+    ensures tree { IfOk result (λ t. (program : Program) (marked : List ℕ)
+        → IsScheduleFor program marked schedule.now → (s : IsScheduled schedule.now)
+        → AreTreesOf program marked (tiling_of program size s.blocks) (trees_in t)) }
     ensures stops { IfErr result (λ stop. (s : IsScheduled schedule.now)
         → StopsTiled schedule.now.model size s.blocks stop) }
 {
@@ -129,9 +131,10 @@ pub fn tiled_tree(
     budget: u64,
 ) -> Result<Tree, FmStop>
     requires size { (0 < size) × (size ≤ 1024) }
-    requires schedule { (program : Program) × IsScheduleFor program schedule.now }
-    ensures tree { IfOk result (λ t. (program : Program) → IsScheduleFor program schedule.now
-        → (s : IsScheduled schedule.now) → AreTreesOf program (tiling_of program size s.blocks) (trees_in t)) }
+    requires schedule { (program : Program) × (marked : List ℕ) × IsScheduleFor program marked schedule.now }
+    ensures tree { IfOk result (λ t. (program : Program) (marked : List ℕ)
+        → IsScheduleFor program marked schedule.now → (s : IsScheduled schedule.now)
+        → AreTreesOf program marked (tiling_of program size s.blocks) (trees_in t)) }
     ensures stops { IfErr result (λ stop. (s : IsScheduled schedule.now)
         → StopsTiled schedule.now.model size s.blocks stop) }
 {
@@ -154,7 +157,7 @@ pub fn tiled_tree(
 pub fn source_tree(alloc: Global, kernel: &Kernel) -> Result<Tree, AllocError>
     requires { IsKernel (program_of kernel.now) }
     ensures own { IfOk result (λ t. trees_in t ≡ source_of (program_of kernel.now)) }
-    ensures trees { IfOk result (λ t. AreTreesOf (program_of kernel.now) kept (trees_in t)) }
+    ensures trees { IfOk result (λ t. (marked : List ℕ) → AreTreesOf (program_of kernel.now) marked kept (trees_in t)) }
 {
     kept_orders_are_good_plans();
     let tree = Tree::of_source(alloc, kernel)?;

@@ -1,12 +1,14 @@
 -- Along a schedule of dependences that hold the covers of a walk the values of conflicting places rise.
-use Rattle.std.proofs.Common.{◌≡◌, ℕ, ◌<◌, ℤ, List, [], ◌∷◌, sym, ◌∙◌, ap, subst, inl, inr, length, Some}
+use Rattle.std.proofs.Common.{◌≡◌, ℕ, ◌<◌, ℤ, List, [], ◌∷◌, sym, ◌∙◌, ap, subst, inl, inr, length, Some, false}
 use Rattle.std.specs.Prelude.{slice_get}
 use Rattle.whole_numbers.specs.Lexicographic.{LexLess}
-use Rattle.scop_syntax.specs.Covers.{Chain, Cover, Follows}
+use Rattle.scop_syntax.specs.Cells.{Cell}
+use Rattle.scop_syntax.specs.Covers.{Chain, CoverBy, Follows}
 use Rattle.scop_syntax.specs.Members.{In}
+use Rattle.scop_syntax.specs.Reductions.{is_marked}
 use Rattle.scop_syntax.specs.Tree.{Program}
 use Rattle.scop_syntax.specs.Walk.{Instance, Visit, walk_of, instance}
-use Rattle.scop_syntax.proofs.Covers.{cover_conflicts}
+use Rattle.scop_syntax.proofs.Covers.{cover_by, cover_conflicts}
 use Rattle.iteration_domains.specs.Dependence.{Dependence}
 use Rattle.iteration_domains.specs.Held.{HoldCovers}
 use Rattle.iteration_domains.specs.Related.{Relates}
@@ -37,27 +39,30 @@ target_turned loops d params x y s r = (
 )
 
 -- with which cover a chain begins and with which it ends
-first_cover : (visits : List Visit) (i : ℕ) (ks : List ℕ) (j : ℕ) → Follows visits i ks j → (k : ℕ) × Cover visits i k
-first_cover visits i [] j h = (j, h)
-first_cover visits i (k ∷ ks) j h = (k, h.0)
+first_cover : (visits : List Visit) (c : Cell) (i : ℕ) (ks : List ℕ) (j : ℕ) → Follows visits c i ks j
+    → (k : ℕ) × CoverBy visits c i k
+first_cover visits c i [] j h = (j, h)
+first_cover visits c i (k ∷ ks) j h = (k, h.0)
 
-last_cover : (visits : List Visit) (i : ℕ) (ks : List ℕ) (j : ℕ) → Follows visits i ks j → (k : ℕ) × Cover visits k j
-last_cover visits i [] j h = (i, h)
-last_cover visits i (k ∷ ks) j h = last_cover visits k ks j h.1
+last_cover : (visits : List Visit) (c : Cell) (i : ℕ) (ks : List ℕ) (j : ℕ) → Follows visits c i ks j
+    → (k : ℕ) × CoverBy visits c k j
+last_cover visits c i [] j h = (i, h)
+last_cover visits c i (k ∷ ks) j h = last_cover visits c k ks j h.1
 
 -- so both places of a conflict are
-pub places_turned : (program : Program) (params : List ℤ) (loops : List ℕ) (deps : List Dependence)
-    → ((d : Dependence) → In d deps → IsSizedDep loops d) → HoldCovers program params deps → (i j : ℕ)
-    → Chain (walk_of program params) i j → (v w : Visit) → slice_get (walk_of program params) i ≡ Some v
-    → slice_get (walk_of program params) j ≡ Some w → IsTurned loops (instance v) × IsTurned loops (instance w)
-places_turned program params loops deps sized holds i j chain v w at there =
+pub places_turned : (program : Program) (params : List ℤ) (marked : List ℕ) (loops : List ℕ) (deps : List Dependence)
+    (c : Cell) → ((d : Dependence) → In d deps → IsSizedDep loops d) → HoldCovers program params marked deps
+    → is_marked marked c.array ≡ false → (i j : ℕ) → Chain (walk_of program params) c i j → (v w : Visit)
+    → slice_get (walk_of program params) i ≡ Some v → slice_get (walk_of program params) j ≡ Some w
+    → IsTurned loops (instance v) × IsTurned loops (instance w)
+places_turned program params marked loops deps c sized holds free i j chain v w at there =
     let visits = walk_of program params in
-    let first = first_cover visits i chain.0 j chain.1 in
-    let z = cover_conflicts visits i first.0 first.1 in
-    let d = holds i first.0 v z.later at z.is_later first.1 in
-    let last = last_cover visits i chain.0 j chain.1 in
-    let y = cover_conflicts visits last.0 j last.1 in
-    let e = holds last.0 j y.earlier w y.is_earlier there last.1 in (
+    let first = first_cover visits c i chain.0 j chain.1 in
+    let z = cover_conflicts visits i first.0 (cover_by visits c i first.0 first.1) in
+    let d = holds i first.0 c v z.later at z.is_later first.1 free in
+    let last = last_cover visits c i chain.0 j chain.1 in
+    let y = cover_conflicts visits last.0 j (cover_by visits c last.0 j last.1) in
+    let e = holds last.0 j c y.earlier w y.is_earlier there last.1 free in (
       source_turned loops d.0 params (instance v) (instance z.later) (sized d.0 d.1) d.2,
       target_turned loops e.0 params (instance y.earlier) (instance w) (sized e.0 e.1) e.2,
     )

@@ -1,9 +1,10 @@
 //! What a schedule is for, and that a search has one answer, as contracts of functions that call the laws which their
 //! proofs use.
-ghost use Rattle.std.specs.Prelude.{◌≡◌, ℕ, ℤ, List, Result, length};
+ghost use Rattle.std.specs.Prelude.{◌≡◌, ℕ, ℤ, List, Result, length, false};
 ghost use Rattle.whole_numbers.specs.Lexicographic.{LexLess};
-ghost use Rattle.scop_syntax.specs.Cells.{PlacesConflict};
+ghost use Rattle.scop_syntax.specs.Cells.{PlacesConflict, conflict_cell};
 ghost use Rattle.scop_syntax.specs.Members.{In};
+ghost use Rattle.scop_syntax.specs.Reductions.{is_marked};
 ghost use Rattle.scop_syntax.specs.Tree.{Program};
 ghost use Rattle.scop_syntax.specs.Walk.{walk_of, instance};
 ghost use Rattle.iteration_domains.specs.Dependence.{Dependence};
@@ -22,13 +23,14 @@ use schedule_rows::each_state_has_one_outcome;
 use scop_syntax::cover_laws::conflicts_are_chains_of_covers;
 use scop_syntax::walk_laws::walks_are_in_order;
 
-/// Along a schedule of dependences that hold all covers of a program's walk the item values of two conflicting places
-/// rise from the earlier to the later.
+/// Along a schedule of dependences that hold the covers of a program's walk, but for those on marked arrays, the item
+/// values of two places that conflict on another array rise from the earlier to the later.
 pub fn schedules_order_conflicts()
-    ensures { (program : Program) (deps : List Dependence) (blocks : List Block) (params : List ℤ) (i j : ℕ)
-        (c : PlacesConflict (walk_of program params) i j) → length params ≡ length program.parameters
+    ensures { (program : Program) (marked : List ℕ) (deps : List Dependence) (blocks : List Block) (params : List ℤ)
+        (i j : ℕ) (c : PlacesConflict (walk_of program params) i j) → is_marked marked (conflict_cell c).array ≡ false
+        → length params ≡ length program.parameters
         → ((d : Dependence) → In d deps → IsSizedDep (loops_in (model_of program)) d)
-        → HoldCovers program params deps
+        → HoldCovers program params marked deps
         → IsSchedule (model_of program).parameters (loops_in (model_of program)) deps blocks
         → LexLess (values blocks (instance c.earlier)) (values blocks (instance c.later)) }
 {

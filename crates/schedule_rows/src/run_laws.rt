@@ -1,9 +1,11 @@
 //! What the determined run gives.
-ghost use Rattle.std.specs.Prelude.{◌≡◌, ℕ, ◌≤◌, ℤ, pos, ◌<ℤ◌, ◌≤ℤ◌, ◌+ℤ◌, ◌-ℤ◌, List, [], ◌∷◌, ◌++◌, length, ◌⊎◌};
+ghost use Rattle.std.specs.Prelude.{◌≡◌, ℕ, ◌≤◌, ℤ, pos, ◌<ℤ◌, ◌≤ℤ◌, ◌+ℤ◌, ◌-ℤ◌, List, [], ◌∷◌, ◌++◌, ◌⊎◌};
+ghost use Rattle.std.specs.Prelude.{false, length};
 ghost use Rattle.whole_numbers.specs.Lexicographic.{LexLess};
 ghost use Rattle.whole_numbers.specs.Lists.{dot};
-ghost use Rattle.scop_syntax.specs.Cells.{PlacesConflict};
+ghost use Rattle.scop_syntax.specs.Cells.{PlacesConflict, conflict_cell};
 ghost use Rattle.scop_syntax.specs.Members.{In};
+ghost use Rattle.scop_syntax.specs.Reductions.{is_marked};
 ghost use Rattle.scop_syntax.specs.Tree.{Program};
 ghost use Rattle.scop_syntax.specs.Walk.{Instance, instance, walk_of};
 ghost use Rattle.schedule_rows.specs.Items.{Row, Marked, Block, band, phi, values};
@@ -68,17 +70,18 @@ pub fn schedules_are_good_plans()
         → IsGoodPair size blocks n x y }
 {}
 
-/// A schedule of dependences that hold all covers of a walk is a good plan for each of its conflicts, with any size of
-/// tiles: each conflict is a chain of covers.
+/// A schedule of dependences that hold the covers of a walk, but for those on marked arrays, is a good plan for each of
+/// its conflicts on another array, with any size of tiles: each conflict is a chain of covers.
 pub fn schedules_of_covers_are_good_plans()
-    ensures { (program : Program) (params : List ℤ) (m : ℕ) (loops : List ℕ) (deps : List Dependence)
+    ensures { (program : Program) (params : List ℤ) (marked : List ℕ) (m : ℕ) (loops : List ℕ) (deps : List Dependence)
         (blocks : List Block) (size : ℤ) (n : ℕ)
         → pos 0 <ℤ size
         → length params ≡ m
         → ((d : Dependence) → In d deps → IsSizedDep loops d)
         → IsSchedule m loops deps blocks
-        → HoldCovers program params deps
+        → HoldCovers program params marked deps
         → (i j : ℕ) (c : PlacesConflict (walk_of program params) i j)
+        → is_marked marked (conflict_cell c).array ≡ false
         → IsGoodPair size blocks n (instance c.earlier) (instance c.later) }
 {
     conflicts_are_chains_of_covers();

@@ -18,6 +18,7 @@ pub mod Values
 pub mod Widths
 pub mod Conflicts
 pub mod Covers
+pub mod ReducedArrays
 pub mod WrappedSums
 pub mod FallingLoop
 pub mod NarrowValues

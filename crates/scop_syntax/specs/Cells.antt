@@ -87,3 +87,7 @@ pub record PlacesConflict (visits : List Visit) (i j : ℕ) : Type 0 where
   pub is_earlier : slice_get visits i ≡ Some earlier
   pub is_later : slice_get visits j ≡ Some later
   pub conflict : Conflict earlier first later second
+
+-- the cell that both touch
+abbrev pub conflict_cell : {visits : List Visit} {i j : ℕ} → PlacesConflict visits i j → Cell
+conflict_cell p = cell_of p.conflict.first p.earlier.point

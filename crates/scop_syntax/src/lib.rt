@@ -12,6 +12,8 @@ pub mod execution_laws;
 pub mod failure_laws;
 pub mod instance;
 pub mod limit_laws;
+pub mod marks;
+pub mod reduction_laws;
 pub mod tree;
 pub mod value_laws;
 pub mod walk_laws;

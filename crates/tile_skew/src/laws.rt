@@ -15,7 +15,7 @@ ghost use Rattle.iteration_domains.specs.Dependence.{Dependence};
 ghost use Rattle.iteration_domains.specs.Held.{HoldCovers};
 ghost use Rattle.iteration_domains.specs.Instances.{IsInstanceOf};
 ghost use Rattle.iteration_domains.specs.Model.{KernelModel, Modelled, model_of};
-ghost use Rattle.loop_tree.specs.Tiling.{IsGoodPlan, item_values, kept, order_of};
+ghost use Rattle.loop_tree.specs.Tiling.{IsGoodFor, IsGoodPlan, item_values, kept, order_of};
 ghost use Rattle.schedule_rows.specs.Items.{Block, Marked, values};
 ghost use Rattle.schedule_rows.specs.Next.{IsSizedDep};
 ghost use Rattle.schedule_rows.specs.Outcomes.{IsSchedule};
@@ -30,15 +30,16 @@ use null_space::{kernel_vectors_are_kept, rows_take_kernel_vectors};
 use schedule_rows::{schedules_have_small_items, schedules_of_covers_are_good_plans};
 use scop_syntax::walk_laws::{instances_are_those_of_statements, statements_are_numbered};
 
-/// The tiling of a schedule of dependences that hold all covers of a program's walk is a good plan, for any size of
-/// tiles: two conflicting places lie in one tile, the earlier first, or the wave rises from the earlier to the later.
+/// The tiling of a schedule of dependences that hold the covers of a program's walk, but for those on marked arrays, is
+/// a good plan but for these, for any size of tiles: two places that conflict on another array lie in one tile, the
+/// earlier first, or the wave rises from the earlier to the later.
 pub fn tiled_schedules_are_good_plans()
-    ensures { (program : Program) (deps : List Dependence) (blocks : List Block) (params : List ℤ) (size : ℕ)
-        → length params ≡ length program.parameters → 0 < size
+    ensures { (program : Program) (marked : List ℕ) (deps : List Dependence) (blocks : List Block) (params : List ℤ)
+        (size : ℕ) → length params ≡ length program.parameters → 0 < size
         → ((d : Dependence) → In d deps → IsSizedDep (loops_in (model_of program)) d)
-        → HoldCovers program params deps
+        → HoldCovers program params marked deps
         → IsSchedule (model_of program).parameters (loops_in (model_of program)) deps blocks
-        → IsGoodPlan program params (schedule_tiling size (length (model_of program).statements) blocks) }
+        → IsGoodFor program params marked (schedule_tiling size (length (model_of program).statements) blocks) }
 {
     instances_are_those_of_statements();
     statements_are_numbered();

@@ -30,15 +30,15 @@ use Rattle.plain_scan.specs.Scanning.{AreOfSets, GiveIterators, dimensions_of, m
 use Rattle.plain_scan.specs.Sets.{Keys}
 use Rattle.plan_tree.specs.Trees.{tiling_of}
 
--- the blocks are those of a schedule of dependences that hold the covers of the kernel's walk, for tiles of a size
--- within 1 to 1024
-pub record IsTiled (program : Program) (size : ℕ) (blocks : List Block) : Type 0 where
+-- the blocks are those of a schedule of dependences that hold the covers of the kernel's walk, but for those on marked
+-- arrays, for tiles of a size within 1 to 1024
+pub record IsTiled (program : Program) (marked : List ℕ) (size : ℕ) (blocks : List Block) : Type 0 where
   pub kernel : IsKernel program
   pub some : 0 < size
   pub few : size ≤ 1024
   pub deps : List Dependence
   pub sized : (d : Dependence) → In d deps → IsSizedDep (loops_in (model_of program)) d
-  pub covers : (params : List ℤ) → HasParameters program params → HoldCovers program params deps
+  pub covers : (params : List ℤ) → HasParameters program params → HoldCovers program params marked deps
   pub schedule : IsSchedule (model_of program).parameters (loops_in (model_of program)) deps blocks
 
 -- its scan sets

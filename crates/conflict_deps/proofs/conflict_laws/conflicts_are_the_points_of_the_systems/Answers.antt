@@ -2,8 +2,8 @@ use Rattle.conflict_deps.proofs.Pairs.{points_conflict, conflicts_are_points, on
 use Rattle.conflict_deps.proofs.conflict_laws.conflicts_are_the_points_of_the_systems.Goals as goal
 
 pub returns-clause-points : goal.returns-clause-points
-returns-clause-points c = λ program params dep xs ys is count.
-    points_conflict program params dep xs ys
+returns-clause-points c = λ program params marked dep xs ys is count.
+    points_conflict program params marked dep xs ys
     (record {
       walk = record {
         found = c.instances_are_those_of_statements.ensures.found program params;
@@ -20,8 +20,8 @@ returns-clause-points c = λ program params dep xs ys is count.
     count
 
 pub returns-clause-conflicts : goal.returns-clause-conflicts
-returns-clause-conflicts c = λ program params i j k.
-    conflicts_are_points program params i j k
+returns-clause-conflicts c = λ program params marked i j k.
+    conflicts_are_points program params marked i j k
     (record {
       walk = record {
         found = c.instances_are_those_of_statements.ensures.found program params;

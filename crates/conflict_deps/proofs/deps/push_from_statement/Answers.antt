@@ -1,12 +1,12 @@
 use Rattle.std.proofs.Common.{◌++◌, List}
 use Rattle.std.specs.List.{flat_map}
 use Rattle.iteration_domains.specs.Dependence.{Dependence}
-use Rattle.conflict_deps.specs.Conflicts.{Side, deps_between, sides_from, sides_in}
+use Rattle.conflict_deps.specs.Conflicts.{Side, deps_on, sides_from}
 use Rattle.conflict_deps.proofs.GatheredDependences.{pair_can, sides_step}
 use Rattle.conflict_deps.proofs.deps.push_from_statement.Goals as goal
 
-pub push_from_access-requires-clause-source : goal.push_from_access-requires-clause-source
-push_from_access-requires-clause-source c =
+pub push_unmarked-requires-clause-source : goal.push_unmarked-requires-clause-source
+push_unmarked-requires-clause-source c =
     pair_can c.args.model.now.parameters c.args.statement.now c.loop-number.number _ c.accesses-accesses.result.now
     c.loops-loops.result.now c.loops-loops.ensures.loops c.loops-loops.ensures.dimensions c.loops-loops.ensures.few
     c.requires.statement
@@ -15,8 +15,8 @@ push_from_access-requires-clause-source c =
 pub loop-number-preserved : goal.loop-number-preserved
 loop-number-preserved c =
     let model = c.args.model.now in
-    let f : Side → List Dependence = λ s. flat_map (deps_between model.parameters s) (sides_in model) in
+    let f : Side → List Dependence = deps_on c.args.marked.now model in
     sides_step f c.args.statement.now c.accesses-accesses.result.now c.loop-number.number
-    c.index-accesses-number.result c.loop-number.deps.items c.push_from_access.new.deps.items
+    c.index-accesses-number.result c.loop-number.deps.items c.push_unmarked.new.deps.items
     (c.args.deps.now.items ++ flat_map f (sides_from c.args.statement.now 0 c.accesses-accesses.result.now))
-    c.index-accesses-number.is c.loop-number-test.true c.loop-number.invariant c.in_ok-push_from_access.ensures
+    c.index-accesses-number.is c.loop-number-test.true c.loop-number.invariant c.in_ok-push_unmarked.ensures

@@ -1,11 +1,11 @@
 use Rattle.std.proofs.Common.{◌≡◌, ◌++◌, drop}
 use Rattle.std.specs.List.{flat_map}
-use Rattle.conflict_deps.specs.Conflicts.{deps_between, sides_from, sides_in}
+use Rattle.conflict_deps.specs.Conflicts.{deps_on, sides_from}
 use Rattle.conflict_deps.proofs.deps.push_from_statement.Given as goal
 
 abbrev pub invariant-loop-number : goal.invariant-loop-number
 invariant-loop-number l =
-    l.deps.items ++ flat_map (λ s. flat_map (deps_between l.model.parameters s) (sides_in l.model))
+    l.deps.items ++ flat_map (deps_on l.marked l.model)
     (sides_from l.statement l.number (drop l.number l.accesses))
-    ≡ l.fn.deps.items ++ flat_map (λ s. flat_map (deps_between l.model.parameters s) (sides_in l.model))
+    ≡ l.fn.deps.items ++ flat_map (deps_on l.marked l.model)
     (sides_from l.statement 0 l.accesses)

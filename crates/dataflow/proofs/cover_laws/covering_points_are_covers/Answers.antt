@@ -1,4 +1,4 @@
-use Rattle.std.proofs.Common.{pos, ◌≤ℤ◌, ◌<ℤ◌, ◌^◌, All, length, map, subst, sym, refl}
+use Rattle.std.proofs.Common.{pos, [], ◌≤ℤ◌, ◌<ℤ◌, ◌^◌, All, length, map, subst, sym, refl}
 use Rattle.scop_syntax.specs.Statements.{statements_of}
 use Rattle.scop_syntax.specs.Walk.{Visit}
 use Rattle.iteration_domains.specs.Model.{modelled}
@@ -54,6 +54,11 @@ returns-clause-stopped c = λ program params budget way reader stop x y has run.
     stopped_points way program params budget reader stop x y
     (model_is_one program m (map (modelled m) (statements_of program)) has.kernel
     (c.statements_are_numbered.ensures.same program) (c.statements_are_numbered.ensures.number program) refl)
-    (λ dep xs ys point. points.points program params dep xs ys has.kernel has.count point)
-    (λ i j pair. points.conflicts program params i j pair has.count (up_bounded (pos 65536) params has.parameters))
+    (λ dep xs ys point.
+    let pair = points.points program params [] dep xs ys has.kernel has.count point.among point in
+    (pair.0, pair.1, pair.2))
+    (λ i j pair.
+    let found = points.conflicts program params [] i j pair refl has.count
+    (up_bounded (pos 65536) params has.parameters) in
+    (found.0, found.1, found.2, found.3))
     run

@@ -5,8 +5,8 @@ use Rattle.dataflow.proofs.HeldCovers.{covers_held}
 use Rattle.dataflow.proofs.cover_laws.covers_are_held.Goals as goal
 
 pub returns : goal.returns
-returns c = λ program params budget has.
-    covers_held program params budget
+returns c = λ program params budget marked has.
+    covers_held program params budget marked
     (let found = c.instances_are_those_of_statements.ensures.found program params in
     let numbered = c.statements_are_numbered.ensures in
     let leaves = c.answers_are_live_leaves.ensures in

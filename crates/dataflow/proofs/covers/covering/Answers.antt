@@ -21,7 +21,7 @@ push_statement-requires-clause-statement c =
 
 pub loop-statement-preserved : goal.loop-statement-preserved
 loop-statement-preserved c =
-    let f = covers_at c.args.budget c.args.model.now in
+    let f = covers_at c.args.budget c.args.marked.now c.args.model.now in
     statements_step f c.statements-statement-items.result.now c.loop-statement.statement-index
     c.statement-item.result c.loop-statement.deps.items c.push_statement.new.out.items
     (flat_map f (flat_map sides_of c.statements-statement-items.result.now))

@@ -53,6 +53,6 @@ returns c =
     let role : ℕ → List Dependence → List Dependence = λ n ds. chosen_deps (is_in_role way n reader.number) ds in
     on_ok_weaker c.push_conflicts.result
     (λ put. put ∙ (ap (λ (n : ℕ). old ++ role n c.args.conflicts.now) c.number.ensures
-    ∙ (ap (λ (ds : List Dependence). old ++ role reader.statement.number ds) c.requires.conflicts
+    ∙ (ap (λ (ds : List Dependence). old ++ ds) c.requires.conflicts.role
     ∙ ap (λ (ds : List Dependence). old ++ ds) (sym (unresolved_told way model c.args.budget reader _ _ why)))))
     c.push_conflicts.ensures

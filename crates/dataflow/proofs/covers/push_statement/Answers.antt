@@ -1,5 +1,8 @@
-use Rattle.std.proofs.Common.{◌++◌}
+use Rattle.std.proofs.Common.{◌≡◌, ◌∙◌, ◌++◌, List, Some, ap, subst, sym}
+use Rattle.std.specs.Prelude.{slice_get}
 use Rattle.std.specs.List.{flat_map}
+use Rattle.std.proofs.lemmas.Option.{slice_get-get_or}
+use Rattle.scop_syntax.specs.Tree.{Access}
 use Rattle.conflict_deps.specs.Conflicts.{sides_from}
 use Rattle.conflict_deps.proofs.GatheredDependences.{pair_can, sides_step}
 use Rattle.dataflow.specs.Covering.{covers_at}
@@ -14,9 +17,17 @@ push_access-requires-clause-reader c = record {
       c.accesses-accesses.ensures.narrow c.index-accesses-number.is c.loop-number-test.true;
 }
 
+pub push_access-requires-clause-access : goal.push_access-requires-clause-access
+push_access-requires-clause-access c =
+    subst (λ (fs : List Access). slice_get fs c.loop-number.number ≡ Some c.index-accesses-number.result)
+    c.accesses-accesses.ensures.accesses
+    (slice_get-get_or c.accesses-accesses.result.now c.loop-number.number c.index-accesses-number.result
+    c.loop-number-test.true
+    ∙ ap Some (sym c.index-accesses-number.is))
+
 pub loop-number-preserved : goal.loop-number-preserved
 loop-number-preserved c =
-    let f = covers_at c.args.budget c.args.model.now in
+    let f = covers_at c.args.budget c.args.marked.now c.args.model.now in
     sides_step f c.args.statement.now c.accesses-accesses.result.now c.loop-number.number
     c.index-accesses-number.result c.loop-number.out.items c.push_access.new.out.items
     (c.args.out.now.items ++ flat_map f (sides_from c.args.statement.now 0 c.accesses-accesses.result.now))

@@ -1,9 +1,8 @@
-use Rattle.std.proofs.Common.{◌+◌, ◌∙◌, ℕ, List, ap, ap₂, subst, sym}
-use Rattle.scop_syntax.specs.Members.{In}
+use Rattle.std.proofs.Common.{◌+◌, ◌∙◌, ℕ, ap, ap₂, subst, sym}
 use Rattle.scop_syntax.proofs.Members.{member_at}
-use Rattle.iteration_domains.specs.Dependence.{Dependence}
 use Rattle.dataflow.specs.WriterRuns.{is_candidate}
 use Rattle.dataflow.proofs.CandidateRuns.{Running, numbers_are, run_begins, run_on, run_past}
+use Rattle.dataflow.proofs.UnmarkedConflicts.{candidates_held}
 use Rattle.dataflow.proofs.reads.candidates_joined.Goals as goal
 use Rattle.dataflow.proofs.reads.candidates_joined.Goals.{then-is_candidate+in-Ok-joined, else-is_candidate}
 
@@ -17,10 +16,12 @@ loop-dep-init c =
     (c.in-Ok.ensures.parameters
     ∙ ap₂ (λ (m d : ℕ). m + d) c.parameters.ensures.parameters c.loops.ensures.dimensions)
     c.in-Ok.ensures.tree
+    (candidates_held c.args.way c.args.model.now c.args.statement.now.number c.args.access c.args.deps.now
+    c.requires.deps)
 
 pub joined-requires-clause-dep : goal.joined-requires-clause-dep
 joined-requires-clause-dep c =
-    subst (λ (ds : List Dependence). In c.dep-item.result ds) c.requires.deps
+    c.requires.deps.among c.dep-item.result
     (member_at c.args.deps.now c.loop-dep.dep-index c.dep-item.result c.dep-item.is c.loop-dep-test.true)
 
 pub loop-dep-preserved : goal.loop-dep-preserved

@@ -4,7 +4,13 @@ use Rattle.dataflow.specs.ReadSources.{reads_of_statement}
 use Rattle.dataflow.specs.Steps.{IsHeldSource}
 use Rattle.dataflow.specs.declared.source.ReadSource.{ReadSource}
 use Rattle.dataflow.proofs.CandidateRuns.{read_gathered}
+use Rattle.dataflow.proofs.UnmarkedConflicts.{all_held}
 use Rattle.dataflow.proofs.reads.push_reads.Goals as goal
+
+pub source_of-requires-clause-deps : goal.source_of-requires-clause-deps
+source_of-requires-clause-deps c =
+    all_held c.args.way c.args.model.now c.args.statement.now.number c.loop-access.access c.args.deps.now
+    c.requires.deps
 
 pub loop-access-preserved : goal.loop-access-preserved
 loop-access-preserved c =

@@ -1,4 +1,4 @@
-use Rattle.std.proofs.Common.{◌+◌, ◌<◌, ◌∙◌, ap₂, sym, subst, length}
+use Rattle.std.proofs.Common.{[], ◌+◌, ◌<◌, ◌∙◌, ap₂, refl, sym, subst, length}
 use Rattle.scop_syntax.specs.Walk.{instance}
 use Rattle.scop_syntax.proofs.Limits.{params_not_negative}
 use Rattle.iteration_domains.specs.Model.{model_of}
@@ -16,7 +16,7 @@ returns c program plan params size kernel count range positive suits none i j p 
     let deps = conflicts_of model in
     let m = model.parameters in
     let n = length model.statements in
-    let found = c.conflicts_are_the_points_of_the_systems.ensures.conflicts program params i j p count
+    let found = c.conflicts_are_the_points_of_the_systems.ensures.conflicts program params [] i j p refl count
     (params_not_negative params range) in
     let d = found.0 in
     let point = found.1 in

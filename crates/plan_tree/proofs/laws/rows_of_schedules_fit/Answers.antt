@@ -6,7 +6,7 @@ use Rattle.plan_tree.proofs.WalkedVisits.{are_walked}
 use Rattle.plan_tree.proofs.laws.rows_of_schedules_fit.Goals as goal
 
 pub returns : goal.returns
-returns c program params size s run ts is trees has x i =
+returns c program params marked size s run ts is trees has x i =
     tiled_rows_fit program (loops_in s.model) run.blocks x
     (c.schedules_have_small_items.ensures s.model.parameters (loops_in s.model) s.deps run.blocks run.run)
     (are_walked program params (tiling_of program size run.blocks) (visits ts params)

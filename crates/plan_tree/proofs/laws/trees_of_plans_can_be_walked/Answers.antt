@@ -2,7 +2,7 @@ use Rattle.plan_tree.proofs.WalkedVisits.{walkable}
 use Rattle.plan_tree.proofs.laws.trees_of_plans_can_be_walked.Goals as goal
 
 pub returns : goal.returns
-returns c program params plan ts trees has =
+returns c program params marked plan ts trees has =
     walkable program params plan ts
     (record {
       found = c.instances_are_those_of_statements.ensures.found program params;

@@ -1,4 +1,6 @@
-use Rattle.std.proofs.Common.{◌^◌, [], arith}
+use Rattle.std.proofs.Common.{◌≡◌, ℕ, ◌^◌, List, [], arith, false, refl, subst, sym}
+use Rattle.scop_syntax.specs.Cells.{conflict_cell}
+use Rattle.scop_syntax.specs.Reductions.{is_marked}
 use Rattle.loop_tree.specs.Walk.{walk_all}
 use Rattle.loop_tree.proofs.LargerBounds.{trees_more}
 use Rattle.plan_tree.specs.steps.Scanning.{sets_of}
@@ -11,7 +13,7 @@ use Rattle.plain_scan.specs.Scanning.{dimensions_of}
 use Rattle.plan_tree.proofs.tiles.scans_are_trees_of_tilings.Goals as goal
 
 pub returns : goal.returns
-returns c program size blocks ts is scan =
+returns c program marked size blocks ts is scan =
     let sets = sets_of program size blocks in
     let n = most_iterators (model_of program).statements in
     record {
@@ -20,20 +22,22 @@ returns c program size blocks ts is scan =
           (λ s i. c.scan_sets_can_be_scanned.ensures.statements program blocks size s i) ts scan.instances;
       over = scan.over;
       small = trees_more (2 ^ 40) (2 ^ 45) ts (omega arith) scan.small;
-      nested = (dimensions_of sets, c.sets_can_be_scanned.ensures.few program size blocks is, scan.nested);
+      nested = (dimensions_of sets, c.sets_can_be_scanned.ensures.few program marked size blocks is, scan.nested);
       even = tilings_are_even program size blocks;
       fits = λ params has. scan.fits params has.parameters has.count;
       carry_out = λ params has.
-          let good = c.tiled_schedules_are_good_plans.ensures program is.deps blocks params size has.count is.some is.sized
-          (is.covers params has) is.schedule in
-          let visits = c.visits_are_in_order.ensures program params size blocks (walk_all ts params []) is has.count
-          (scan.exact params has.parameters) (scan.iterators params has.parameters) in
+          let good = c.tiled_schedules_are_good_plans.ensures program marked is.deps blocks params size has.count
+          is.some is.sized (is.covers params has) is.schedule in
+          let visits = c.visits_are_in_order.ensures program params marked size blocks (walk_all ts params []) is
+          has.count (scan.exact params has.parameters) (scan.iterators params has.parameters) in
           let gives = scan.iterators params has.parameters in
           let stands : StandAt size n blocks (walk_all ts params []) = λ v i. (visits.placed v i).values in
           record {
             good = good;
             exact = visits.order;
-            free = tiles_are_free program params size n blocks ts good scan.marks gives stands;
+            free = λ none. tiles_are_free program params size n blocks ts
+                (λ i j c. good i j c (subst (λ (ms : List ℕ). is_marked ms (conflict_cell c).array ≡ false) (sym none)
+                refl)) scan.marks gives stands;
             marked = tiles_are_marked program params size n blocks ts scan.marks gives stands;
           };
     }

@@ -9,7 +9,7 @@ use Rattle.plan_tree.proofs.ExactVisits.{PlaceFacts, in_order, placed_there}
 use Rattle.plan_tree.proofs.tiles.visits_are_in_order.Goals as goal
 
 pub returns : goal.returns
-returns c program params size blocks vs is count exact gives =
+returns c program params marked size blocks vs is count exact gives =
     let model = model_of program in
     let ss = model.statements in
     let n = most_iterators ss in

@@ -16,18 +16,18 @@ pub tree_of_sets-requires-clause-rise : goal.tree_of_sets-requires-clause-rise
 tree_of_sets-requires-clause-rise c = subst NumbersRise (sym c.deref.ensures.value) c.in-Ok.ensures.rise
 
 pub returns-clause-tree : goal.returns-clause-tree
-returns-clause-tree c program is s =
+returns-clause-tree c program marked is s =
     let size = c.args.size in
     let ts = trees_in c.in-Ok-tree_of_sets.tree in
     let made = c.in-Ok-tree_of_sets.ensures in
     let same : c.deref.result.now ≡ sets_of program size s.blocks =
-    c.deref.ensures.value ∙ (c.in-Ok.ensures.sets s ∙ tiled_sets_of program size c.args.schedule.now s is) in
-    let tiling = tiled_blocks program size c.args.schedule.now s c.requires.size.0 c.requires.size.1 is in
+    c.deref.ensures.value ∙ (c.in-Ok.ensures.sets s ∙ tiled_sets_of program marked size c.args.schedule.now s is) in
+    let tiling = tiled_blocks program marked size c.args.schedule.now s c.requires.size.0 c.requires.size.1 is in
     let there = subst (λ (ss : List Scanned). IsScan (parameters_of ss) ss ts) same made.scan in
     let empty = subst (λ (ss : List Scanned). ss ≡ [] → ts ≡ none) same made.empty in
-    c.scans_are_trees_of_tilings.ensures program size s.blocks ts tiling
+    c.scans_are_trees_of_tilings.ensures program marked size s.blocks ts tiling
     (own_scans (length program.parameters) (sets_of program size s.blocks) ts
-    (c.sets_can_be_scanned.ensures.parameters program size s.blocks tiling) empty there)
+    (c.sets_can_be_scanned.ensures.parameters program marked size s.blocks tiling) empty there)
 
 pub returns-in-Err-tree_of_sets-clause-stops : goal.returns-in-Err-tree_of_sets-clause-stops
 returns-in-Err-tree_of_sets-clause-stops c s =

@@ -10,7 +10,7 @@ use Rattle.tile_skew.proofs.WalkedInstances.{number_within}
 use Rattle.tile_skew.proofs.laws.tiled_schedules_are_good_plans.Goals as goal
 
 pub returns : goal.returns
-returns c program deps blocks params size count positive sized holds schedule i j p =
+returns c program marked deps blocks params size count positive sized holds schedule i j p free =
     let model = model_of program in
     let runs = c.instances_are_those_of_statements.ensures.found program params in
     let numbered = c.statements_are_numbered.ensures.number program in
@@ -19,5 +19,5 @@ returns c program deps blocks params size count positive sized holds schedule i 
     in_order size (length model.statements) blocks i j (instance p.earlier) (instance p.later)
     (number_within program params p.earlier runs numbered (in_from_place walk i p.earlier p.is_earlier))
     (number_within program params p.later runs numbered (in_from_place walk j p.later p.is_later))
-    (c.schedules_of_covers_are_good_plans.ensures program params model.parameters (loops_in model) deps blocks (pos size)
-    5 size_is count sized schedule holds i j p)
+    (c.schedules_of_covers_are_good_plans.ensures program params marked model.parameters (loops_in model) deps blocks
+    (pos size) 5 size_is count sized schedule holds i j p free)

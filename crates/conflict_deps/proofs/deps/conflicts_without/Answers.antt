@@ -3,9 +3,9 @@ use Rattle.std.specs.Prelude.{All}
 use Rattle.std.specs.List.{flat_map}
 use Rattle.iteration_domains.specs.Dependence.{Dependence}
 use Rattle.iteration_domains.specs.Sizes.{HaveOneCount}
-use Rattle.conflict_deps.specs.Conflicts.{Side, deps_between, sides_in, sides_of}
+use Rattle.conflict_deps.specs.Conflicts.{Side, deps_on, sides_of}
 use Rattle.conflict_deps.proofs.GatheredDependences.{statement_has, statements_step}
-use Rattle.conflict_deps.proofs.deps.conflicts.Goals as goal
+use Rattle.conflict_deps.proofs.deps.conflicts_without.Goals as goal
 
 pub push_from_statement-requires-clause-statement : goal.push_from_statement-requires-clause-statement
 push_from_statement-requires-clause-statement c =
@@ -23,7 +23,7 @@ push_from_statement-requires-clause-one c =
 pub loop-statement-preserved : goal.loop-statement-preserved
 loop-statement-preserved c =
     let model = c.args.model.now in
-    let f : Side → List Dependence = λ s. flat_map (deps_between model.parameters s) (sides_in model) in
+    let f : Side → List Dependence = deps_on c.args.marked.now model in
     statements_step f c.statements-statement-items.result.now c.loop-statement.statement-index
     c.statement-item.result c.loop-statement.deps.items c.push_from_statement.new.deps.items
     (flat_map f (flat_map sides_of c.statements-statement-items.result.now))

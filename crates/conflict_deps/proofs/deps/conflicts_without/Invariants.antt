@@ -1,0 +1,11 @@
+use Rattle.std.proofs.Common.{◌≡◌, ◌++◌, drop}
+use Rattle.std.specs.List.{flat_map}
+use Rattle.conflict_deps.specs.Conflicts.{deps_on, sides_of}
+use Rattle.conflict_deps.proofs.deps.conflicts_without.Given as goal
+
+abbrev pub invariant-loop-statement : goal.invariant-loop-statement
+invariant-loop-statement l =
+    l.deps.items ++ flat_map (deps_on l.marked l.model)
+    (flat_map sides_of (drop l.statement-index l.statement-items))
+    ≡ flat_map (deps_on l.marked l.model) (flat_map sides_of
+    l.statement-items)
