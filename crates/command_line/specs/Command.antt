@@ -39,7 +39,7 @@ number_in name usual rows = option_map_or (number_of usual) (one_of name rows) u
 abbrev pub flag_in : Text → List Row → Bool
 flag_in name rows = option_map_or (λ text. bytes_eq text (codes "true")) (one_of name rows) false
 
--- the options of a run whose tiles begin so; a command without `--report` has no row of that name
+-- the options of a run whose tiles begin so; a command without `--report` and `--reduce` has no rows of these names
 abbrev pub run_options_in : Sync → List Row → RunOptions
 run_options_in sync rows = record {
   workers = number_in (codes "workers") usual_workers rows;
@@ -47,6 +47,7 @@ run_options_in sync rows = record {
   budget = number_in (codes "budget") most_moves rows;
   report = flag_in (codes "report") rows;
   sync = sync;
+  reduce = flag_in (codes "reduce") rows;
 }
 
 -- when tiles begin, by a text
@@ -58,11 +59,6 @@ sync_named text =
 -- the value of `--sync`: by waves where it is not given
 abbrev pub sync_in : List Row → Option Sync
 sync_in rows = option_map_or sync_named (first_of (codes "sync") rows) (Some Waves)
-
--- tiles begin where those that they wait for have released them
-abbrev pub is_by_tiles : Sync → Bool
-is_by_tiles Waves = false
-is_by_tiles Tiles = true
 
 -- the kind that a text names
 abbrev pub kind_named : Text → Option Kind

@@ -29,9 +29,9 @@ abbrev pub number_option : Text → ℕ → Rule
 number_option name most =
     record (new_rule name) { long = Some name; action = Some Set; parser = Some (parser.Unsigned 1 most) }
 
--- `--report`
-abbrev pub report_flag : Rule
-report_flag = record (new_rule (codes "report")) { long = Some (codes "report"); action = Some SetTrue }
+-- `--NAME`
+abbrev pub flag : Text → Rule
+flag name = record (new_rule name) { long = Some name; action = Some SetTrue }
 
 -- `--sync TEXT`; of its value, the stated command takes any text
 abbrev pub sync_option : Rule
@@ -52,9 +52,12 @@ with_run_options a =
     (with_rule (with_rule a (number_option (codes "workers") most_workers)) (number_option (codes "tile") most_tile))
     (number_option (codes "budget") most_moves)
 
--- `run [--workers K] [--tile T] [--budget B] [--report] [--sync TEXT]`
+-- `run [--workers K] [--tile T] [--budget B] [--report] [--sync TEXT] [--reduce]`
 abbrev pub run_tool : App
-run_tool = with_rule (with_rule (with_run_options (new_app (codes "run"))) report_flag) sync_option
+run_tool =
+    with_rule
+    (with_rule (with_rule (with_run_options (new_app (codes "run"))) (flag (codes "report"))) sync_option)
+    (flag (codes "reduce"))
 
 -- `gen KIND SEED SIZE`; of its kind, the stated command takes any text
 abbrev pub gen_arguments : App

@@ -11,8 +11,8 @@ pub enum Sync {
     Tiles,
 }
 
-/// By how many workers a plan is run, its size of tiles, the budget of its questions, whether it is told, and when its
-/// tiles begin.
+/// By how many workers a plan is run, its size of tiles, the budget of its questions, whether it is told, when its tiles
+/// begin, and whether sums may be made in any order.
 #[derive(Clone, Copy)]
 pub struct RunOptions {
     /// How many workers, from 1 to 64.
@@ -25,6 +25,8 @@ pub struct RunOptions {
     pub report: bool,
     /// When a tile may begin.
     pub sync: Sync,
+    /// Whether arrays that are only added to may be added to in any order.
+    pub reduce: bool,
 }
 
 /// A generated kernel: its kind, seed and size.

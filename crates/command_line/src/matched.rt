@@ -48,6 +48,7 @@ fn run_options_in(matches: &ArgMatches, sync: Sync) -> RunOptions
         budget: number_in(matches, "budget", MOST_MOVES),
         report: flag_in(matches, "report"),
         sync,
+        reduce: flag_in(matches, "reduce"),
     }
 }
 

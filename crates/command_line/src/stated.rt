@@ -3,7 +3,7 @@
 ghost use Rattle.std.specs.Prelude.{IfOk};
 ghost use Rattle.clap.specs.Words.{App, Rule, with_rule, with_subcommand};
 ghost use Rattle.command_line.specs.Stated.{IsArgument, IsCommand, bare_tool, budget_tool, check_tool, emit_tool};
-ghost use Rattle.command_line.specs.Stated.{gen_arguments, gen_tool, number_option, report_flag, run_tool, sync_option};
+ghost use Rattle.command_line.specs.Stated.{flag, gen_arguments, gen_tool, number_option, run_tool, sync_option};
 ghost use Rattle.command_line.specs.Stated.{tool, wanted, wanted_number};
 ghost use Rattle.command_line.specs.Stated.{with_kernel_tools, with_run_options};
 
@@ -33,13 +33,11 @@ fn number_option<'a>(alloc: Global, name: &'a str, most: u64) -> Arg<'a>
         .value_parser(ValueParser::unsigned(1, most))
 }
 
-/// The flag `--report`.
-fn report_flag<'a>(alloc: Global) -> Arg<'a>
-    ensures { IsArgument report_flag result }
+/// The flag of this name.
+fn flag<'a>(alloc: Global, name: &'a str) -> Arg<'a>
+    ensures { IsArgument (flag name.entry.now) result }
 {
-    Arg::new(alloc, "report")
-        .long("report")
-        .action(ArgAction::SetTrue)
+    Arg::new(alloc, name).long(name).action(ArgAction::SetTrue)
 }
 
 /// The option `--sync`, whose value is any text.
@@ -113,8 +111,9 @@ fn run_command<'a>(alloc: Global) -> Result<clap::Command<'a>, AllocError>
     ensures { IfOk result (IsCommand run_tool) }
 {
     let run = with_run_options(alloc, Ok(clap::Command::new(alloc, "run")));
-    let with_report = with_argument(run, report_flag(alloc));
-    with_argument(with_report, sync_option(alloc))
+    let with_report = with_argument(run, flag(alloc, "report"));
+    let with_sync = with_argument(with_report, sync_option(alloc));
+    with_argument(with_sync, flag(alloc, "reduce"))
 }
 
 /// The command `gen` with its arguments alone.

@@ -1,5 +1,5 @@
 -- From what certifying answers to the text that is printed.
-use Rattle.std.proofs.Common.{◌≡◌, ◌∙◌, sym, subst, ap, refl, inl, inr, ℕ, true, List, Option, Result, Ok, Err}
+use Rattle.std.proofs.Common.{◌≡◌, ◌∙◌, sym, subst, ap, refl, inl, inr, ℕ, true, List, [], Option, Result, Ok, Err}
 use Rattle.scop_syntax.specs.Tree.{Program}
 use Rattle.iteration_domains.specs.Model.{KernelModel, model_of}
 use Rattle.pluto_search.specs.Schedule.{Scheduled, loops_in}
@@ -40,7 +40,7 @@ goal_given program s told goal text same (given, certifies, is) line =
 
 -- what certifying the schedule gives that is found
 pub schedule_certified : OneSchedule → (budget : ℕ) (program : Program) (model : KernelModel) (s : Scheduled)
-    (text : List ℕ) → model ≡ model_of program → IsFound budget model s → IsGivenOf program s text
+    (text : List ℕ) → model ≡ model_of program → IsFound budget [] model s → IsGivenOf program s text
     → IsCertificateText budget program text
 schedule_certified one budget program model s text own found (given, certifies, told) =
     let is = found.searches in
@@ -52,15 +52,15 @@ schedule_certified one budget program model s text own found (given, certifies, 
     ∙ ap (certificate_of (model_of program)) same) in
     inl (
       blocks,
-      program_searched budget program model s own found,
+      program_searched budget [] program model s own found,
       subst (λ g. IsGivenText program g text) given_is told,
     )
 
 -- the line of what keeps the order
 pub kept_certified : (budget : ℕ) (program : Program) (model : KernelModel) (line : Option KeptLine) (text : List ℕ)
-    → model ≡ model_of program → IsKeptLine budget model line → IsLineText line text
+    → model ≡ model_of program → IsKeptLine budget [] model line → IsLineText line text
     → IsCertificateText budget program text
 kept_certified budget program model line text own kept is =
     inr
-    (subst (λ m. (told : KeptLine) × IsCauseOf budget m told × (text ≡ kept_text told)) own
+    (subst (λ m. (told : KeptLine) × IsCauseOf budget [] m told × (text ≡ kept_text told)) own
     (kept_cause budget model line text kept is))

@@ -28,41 +28,44 @@ use Rattle.kernel_plans.specs.steps.Plans.{IsKeptPlan, IsTiledPlan}
 
 -- at what the trees of a schedule's tiles visit, the values of the rows of the first band have 64 bits
 abbrev pub RowsFitAlong : Type 0
-RowsFitAlong = (program : Program) (params : List ℤ) (size : ℕ) (s : Scheduled) (run : IsScheduled s) (ts : Trees)
-    → IsScheduleFor program s → AreTreesOf program (tiling_of program size run.blocks) ts
+RowsFitAlong = (program : Program) (params : List ℤ) (marked : List ℕ) (size : ℕ) (s : Scheduled)
+    (run : IsScheduled s) (ts : Trees) → IsScheduleFor program marked s
+    → AreTreesOf program marked (tiling_of program size run.blocks) ts
     → HasParameters program params → (x : Instance) → In x (visits ts params)
     → All (λ r. FitsSigned w64 (value_of r.form x.turns))
     (items_at (statements_from run.blocks 0 (length (model_of program).statements)) x.number).band
 
 -- so the tiles of a schedule can be told
-tiled_fits : RowsFitAlong → (tile : ℕ) (program : Program) (s : Scheduled) (run : IsScheduled s) (ts : Trees)
-    → 1 ≤ tile → IsScheduleFor program s → AreTreesOf program (tiling_of program tile run.blocks) ts
+tiled_fits : RowsFitAlong → (tile : ℕ) (marked : List ℕ) (program : Program) (s : Scheduled) (run : IsScheduled s)
+    (ts : Trees) → 1 ≤ tile → IsScheduleFor program marked s
+    → AreTreesOf program marked (tiling_of program tile run.blocks) ts
     → (params : List ℤ) → HasParameters program params → CanTile (tiling_of program tile run.blocks) (visits ts params)
-tiled_fits fit tile program s run ts low own carried params has = record {
+tiled_fits fit tile marked program s run ts low own carried params has = record {
   size = low;
-  rows = fit program params tile s run ts own carried has;
+  rows = fit program params marked tile s run ts own carried has;
 }
 
 -- the plan of a schedule's tiles
-pub tiled_is_planned : RowsFitAlong → (tile budget : ℕ) (report : Bool) (program : Program) (s : Scheduled)
-    (run : IsScheduled s) (ts : Trees) (p : Planned) → 1 ≤ tile → IsScheduleFor program s
-    → IsSearched budget (model_of program) run.blocks → AreTreesOf program (tiling_of program tile run.blocks) ts
-    → IsTiledPlan tile report s ts p → IsPlanned tile budget report program p
-tiled_is_planned fit tile budget report program s run ts p low own found carried made =
+pub tiled_is_planned : RowsFitAlong → (tile budget : ℕ) (report : Bool) (marked : List ℕ) (program : Program)
+    (s : Scheduled) (run : IsScheduled s) (ts : Trees) (p : Planned) → 1 ≤ tile → IsScheduleFor program marked s
+    → IsSearched budget marked (model_of program) run.blocks
+    → AreTreesOf program marked (tiling_of program tile run.blocks) ts
+    → IsTiledPlan tile report s ts p → IsPlanned tile budget report marked program p
+tiled_is_planned fit tile budget report marked program s run ts p low own found carried made =
     let plan = tiling_of program tile run.blocks in
     let is : tiling_in p.tiling ≡ plan = made.is run
     ∙ ap (λ (m : KernelModel). schedule_tiling tile (length m.statements) run.blocks) own.model in
-    let carries = subst (λ t. AreTreesOf program plan t) (sym made.trees) carried in
+    let carries = subst (λ t. AreTreesOf program marked plan t) (sym made.trees) carried in
     record {
       planned = inl (record {
         blocks = run.blocks;
         found = found;
         is = is;
-        carried = subst (λ t. AreTreesOf program t (trees_in p.tree)) (sym is) carries;
+        carried = subst (λ t. AreTreesOf program marked t (trees_in p.tree)) (sym is) carries;
         told = made.told run;
       });
       fits = λ params has. subst (λ t. CanTile t (visits (trees_in p.tree) params)) (sym is)
-          (tiled_fits fit tile program s run (trees_in p.tree) low own carries params has);
+          (tiled_fits fit tile marked program s run (trees_in p.tree) low own carries params has);
     }
 
 -- a kept order is one tile
@@ -70,10 +73,10 @@ kept_fits : (plan : Tiling) (xs : List Instance) → plan ≡ kept → CanTile p
 kept_fits plan xs is = subst (λ t. CanTile t xs) (sym is) (record { size = tt; rows = λ x i. tt })
 
 -- the kept order, with the line of a cause
-kept_is_planned : (tile budget : ℕ) (report : Bool) (program : Program) (line : Option KeptLine) (p : Planned)
-    → (made : IsKeptPlan program line p) → IsCauseOfKept tile budget (model_of program) made.told.0
-    → IsPlanned tile budget report program p
-kept_is_planned tile budget report program line p made cause = record {
+kept_is_planned : (tile budget : ℕ) (report : Bool) (marked : List ℕ) (program : Program) (line : Option KeptLine)
+    (p : Planned) → (made : IsKeptPlan program line p)
+    → IsCauseOfKept tile budget marked (model_of program) made.told.0 → IsPlanned tile budget report marked program p
+kept_is_planned tile budget report marked program line p made cause = record {
   planned = inr (record {
     why = made.told.0;
     cause = cause;
@@ -86,12 +89,13 @@ kept_is_planned tile budget report program line p made cause = record {
 }
 
 -- where the scan of the schedule's sets stops
-pub stopped_is_planned : (tile budget : ℕ) (report : Bool) (program : Program) (s : Scheduled) (run : IsScheduled s)
-    (stop : FmStop) (line : Option KeptLine) (p : Planned) → IsScheduleFor program s
-    → IsSearched budget (model_of program) run.blocks → StopsTiled s.model tile run.blocks stop
-    → line ≡ line_of (stuck.Elimination stop) → IsKeptPlan program line p → IsPlanned tile budget report program p
-stopped_is_planned tile budget report program s run stop line p own found stops same made =
-    kept_is_planned tile budget report program line p made (inr (
+pub stopped_is_planned : (tile budget : ℕ) (report : Bool) (marked : List ℕ) (program : Program) (s : Scheduled)
+    (run : IsScheduled s) (stop : FmStop) (line : Option KeptLine) (p : Planned) → IsScheduleFor program marked s
+    → IsSearched budget marked (model_of program) run.blocks → StopsTiled s.model tile run.blocks stop
+    → line ≡ line_of (stuck.Elimination stop) → IsKeptPlan program line p
+    → IsPlanned tile budget report marked program p
+stopped_is_planned tile budget report marked program s run stop line p own found stops same made =
+    kept_is_planned tile budget report marked program line p made (inr (
       run.blocks,
       stop,
       found,
@@ -100,9 +104,9 @@ stopped_is_planned tile budget report program s run stop line p own found stops 
     ))
 
 -- where the search stops
-pub unscheduled_is_planned : (tile budget : ℕ) (report : Bool) (program : Program) (model : KernelModel)
-    (line : Option KeptLine) (p : Planned) → model ≡ model_of program → IsKeptLine budget model line
-    → IsKeptPlan program line p → IsPlanned tile budget report program p
-unscheduled_is_planned tile budget report program model line p own cause made =
-    kept_is_planned tile budget report program line p made
-    (inl (subst (λ m. IsCauseOf budget m made.told.0) own (cause made.told.0 made.told.1)))
+pub unscheduled_is_planned : (tile budget : ℕ) (report : Bool) (marked : List ℕ) (program : Program)
+    (model : KernelModel) (line : Option KeptLine) (p : Planned) → model ≡ model_of program
+    → IsKeptLine budget marked model line → IsKeptPlan program line p → IsPlanned tile budget report marked program p
+unscheduled_is_planned tile budget report marked program model line p own cause made =
+    kept_is_planned tile budget report marked program line p made
+    (inl (subst (λ m. IsCauseOf budget marked m made.told.0) own (cause made.told.0 made.told.1)))

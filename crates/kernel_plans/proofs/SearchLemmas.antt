@@ -29,11 +29,12 @@ OneSchedule = (m : ℕ) (loops : List ℕ) (deps : List Dependence) (blocks othe
     → IsSchedule m loops deps blocks → IsSchedule m loops deps others → blocks ≡ others
 
 -- a search over dependences that hold the covers of a program finds a schedule for it
-found_for : (program : Program) (model : KernelModel) (budget : ℕ) (deps : List Dependence) (s : Scheduled)
+found_for : (program : Program) (marked : List ℕ) (model : KernelModel) (budget : ℕ) (deps : List Dependence)
+    (s : Scheduled)
     → IsKernel program → model ≡ model_of program → AreBetween model.parameters (loops_in model) deps
-    → ((params : List ℤ) → HasParameters program params → HoldCovers program params deps)
-    → Searches model deps budget (Ok s) → IsScheduleFor program s
-found_for program model budget deps s kernel own between held found =
+    → ((params : List ℤ) → HasParameters program params → HoldCovers program params marked deps)
+    → Searches model deps budget (Ok s) → IsScheduleFor program marked s
+found_for program marked model budget deps s kernel own between held found =
     let sized : (d : Dependence) → In d deps → IsSizedDep (loops_in model) d =
     λ d i.
     let b = (between d i).0 in
@@ -44,45 +45,45 @@ found_for program model budget deps s kernel own between held found =
       sized = subst (λ (m : KernelModel). (d : Dependence) → In d s.deps → IsSizedDep (loops_in m) d) (sym found.0)
           (subst (λ (ds : List Dependence). (d : Dependence) → In d ds → IsSizedDep (loops_in model) d) (sym found.1)
           sized);
-      covers = λ params has. subst (HoldCovers program params) (sym found.1) (held params has);
+      covers = λ params has. subst (HoldCovers program params marked) (sym found.1) (held params has);
     }
 
 -- so over a model's covers
-pub found_of : (budget : ℕ) (model : KernelModel) (s : Scheduled)
-    → ((d : Dependence) → In d (covers_of budget model) → LiesBetween model d)
+pub found_of : (budget : ℕ) (marked : List ℕ) (model : KernelModel) (s : Scheduled)
+    → ((d : Dependence) → In d (covers_of budget marked model) → LiesBetween model d)
     → ((program : Program) (params : List ℤ) → HasParameters program params
-    → HoldCovers program params (covers_of budget (model_of program)))
-    → Searches model (covers_of budget model) budget (Ok s) → IsFound budget model s
-found_of budget model s lie held found = record {
+    → HoldCovers program params marked (covers_of budget marked (model_of program)))
+    → Searches model (covers_of budget marked model) budget (Ok s) → IsFound budget marked model s
+found_of budget marked model s lie held found = record {
   searches = found;
   own = λ program kernel own.
-      found_for program model budget (covers_of budget model) s kernel own
-      (are_between model (covers_of budget model) lie)
-      (λ params has. subst (λ (m : KernelModel). HoldCovers program params (covers_of budget m)) (sym own)
+      found_for program marked model budget (covers_of budget marked model) s kernel own
+      (are_between model (covers_of budget marked model) lie)
+      (λ params has. subst (λ (m : KernelModel). HoldCovers program params marked (covers_of budget marked m)) (sym own)
       (held program params has)) found;
 }
 
 -- the line of what keeps the order tells a cause that holds
-pub kept_of : (budget : ℕ) (model : KernelModel) (cause : Kept) (line : Option KeptLine)
-    → Keeps model.parameters (loops_in model) (covers_of budget model) budget cause → line ≡ line_of_kept cause
-    → IsKeptLine budget model line
-kept_of budget model cause line keeps same = λ told is. (cause, keeps, sym same ∙ is)
+pub kept_of : (budget : ℕ) (marked : List ℕ) (model : KernelModel) (cause : Kept) (line : Option KeptLine)
+    → Keeps model.parameters (loops_in model) (covers_of budget marked model) budget cause → line ≡ line_of_kept cause
+    → IsKeptLine budget marked model line
+kept_of budget marked model cause line keeps same = λ told is. (cause, keeps, sym same ∙ is)
 
 -- what is found is searched
-pub searched : (budget : ℕ) (model : KernelModel) (s : Scheduled) (found : IsFound budget model s)
-    → IsSearched budget model found.searches.2.blocks
-searched budget model s found =
+pub searched : (budget : ℕ) (marked : List ℕ) (model : KernelModel) (s : Scheduled)
+    (found : IsFound budget marked model s) → IsSearched budget marked model found.searches.2.blocks
+searched budget marked model s found =
     let is = found.searches in
     let Run : KernelModel → List Dependence → Type 0 =
     λ m ds. IsSchedule m.parameters (loops_in m) ds is.2.blocks in
     (subst (λ ds. Run model ds) is.1 (subst (λ m. Run m s.deps) is.0 is.2.run), is.3)
 
 -- so for a program of the model
-pub program_searched : (budget : ℕ) (program : Program) (model : KernelModel) (s : Scheduled)
-    → model ≡ model_of program → (found : IsFound budget model s)
-    → IsSearched budget (model_of program) found.searches.2.blocks
-program_searched budget program model s own found =
-    subst (λ m. IsSearched budget m found.searches.2.blocks) own (searched budget model s found)
+pub program_searched : (budget : ℕ) (marked : List ℕ) (program : Program) (model : KernelModel) (s : Scheduled)
+    → model ≡ model_of program → (found : IsFound budget marked model s)
+    → IsSearched budget marked (model_of program) found.searches.2.blocks
+program_searched budget marked program model s own found =
+    subst (λ m. IsSearched budget marked m found.searches.2.blocks) own (searched budget marked model s found)
 
 -- the text of a schedule is that of its blocks
 pub text_of_blocks : OneSchedule → (s : Scheduled) (is : IsScheduled s) (text : List ℕ) → IsTextOf s text

@@ -1,5 +1,5 @@
 -- From what a search answers to the text that is printed.
-use Rattle.std.proofs.Common.{◌≡◌, inl, ℕ, List, Option}
+use Rattle.std.proofs.Common.{◌≡◌, inl, ℕ, List, [], Option}
 use Rattle.iteration_domains.specs.Model.{KernelModel}
 use Rattle.pluto_search.specs.Schedule.{Scheduled}
 use Rattle.plan_certificate.specs.KeptLine.{KeptLine}
@@ -11,15 +11,15 @@ use Rattle.kernel_plans.proofs.SearchLemmas.{OneSchedule, searched, text_of_bloc
 
 -- the text of the schedule that is found
 pub schedule_is_plan : OneSchedule → (budget : ℕ) (model : KernelModel) (s : Scheduled) (text : List ℕ)
-    → IsFound budget model s → IsTextOf s text → IsPlanOf budget model text
+    → IsFound budget [] model s → IsTextOf s text → IsPlanOf budget model text
 schedule_is_plan one budget model s text found is = inl (
   found.searches.2.blocks,
-  searched budget model s found,
+  searched budget [] model s found,
   text_of_blocks one s found.searches.2 text is,
 )
 
 -- the text of the line of what keeps the order
 pub kept_cause : (budget : ℕ) (model : KernelModel) (line : Option KeptLine) (text : List ℕ)
-    → IsKeptLine budget model line → IsLineText line text
-    → (told : KeptLine) × IsCauseOf budget model told × (text ≡ kept_text told)
+    → IsKeptLine budget [] model line → IsLineText line text
+    → (told : KeptLine) × IsCauseOf budget [] model told × (text ≡ kept_text told)
 kept_cause budget model line text kept is = (is.0, kept is.0 is.1, is.2)

@@ -1,6 +1,6 @@
 -- What `certify` prints of a kernel: the certificate of its schedule, the number of the first goal without a derivation,
 -- or why its order is kept.
-use Rattle.std.specs.Prelude.{◌≡◌, ◌⊎◌, ℕ, true, List, Result, Ok, Err}
+use Rattle.std.specs.Prelude.{◌≡◌, ◌⊎◌, ℕ, true, List, [], Result, Ok, Err}
 use Rattle.scop_syntax.specs.Tree.{Program}
 use Rattle.iteration_domains.specs.Model.{model_of}
 use Rattle.pluto_search.specs.Items.{Block}
@@ -19,6 +19,6 @@ IsGivenText program (Err goal) text = text ≡ uncertified_text goal
 -- the text is what certifying the schedule gives that is found, or the kept line of a cause that holds
 abbrev pub IsCertificateText : ℕ → Program → List ℕ → Type 0
 IsCertificateText budget program text =
-    ((blocks : List Block) × IsSearched budget (model_of program) blocks
+    ((blocks : List Block) × IsSearched budget [] (model_of program) blocks
     × IsGivenText program (certificate_of (model_of program) blocks) text)
-    ⊎ ((told : KeptLine) × IsCauseOf budget (model_of program) told × (text ≡ kept_text told))
+    ⊎ ((told : KeptLine) × IsCauseOf budget [] (model_of program) told × (text ≡ kept_text told))

@@ -1,5 +1,5 @@
 -- What a search over a kernel's covers comes to.
-use Rattle.std.specs.Prelude.{◌≡◌, ℕ, Option, Some, Ok}
+use Rattle.std.specs.Prelude.{◌≡◌, ℕ, List, Option, Some, Ok}
 use Rattle.scop_syntax.specs.Kernel.{IsKernel}
 use Rattle.scop_syntax.specs.Tree.{Program}
 use Rattle.iteration_domains.specs.Model.{KernelModel, model_of}
@@ -11,10 +11,10 @@ use Rattle.plan_certificate.specs.KeptLine.{KeptLine}
 use Rattle.kernel_plans.specs.Planning.{IsCauseOf}
 
 -- what the search finds, a schedule for each program of the model
-pub record IsFound (budget : ℕ) (model : KernelModel) (s : Scheduled) : Type 0 where
-  pub searches : Searches model (covers_of budget model) budget (Ok s)
-  pub own : (program : Program) → IsKernel program → model ≡ model_of program → IsScheduleFor program s
+pub record IsFound (budget : ℕ) (marked : List ℕ) (model : KernelModel) (s : Scheduled) : Type 0 where
+  pub searches : Searches model (covers_of budget marked model) budget (Ok s)
+  pub own : (program : Program) → IsKernel program → model ≡ model_of program → IsScheduleFor program marked s
 
 -- a line, where there is one, tells a cause that holds
-abbrev pub IsKeptLine : ℕ → KernelModel → Option KeptLine → Type 0
-IsKeptLine budget model line = (told : KeptLine) → line ≡ Some told → IsCauseOf budget model told
+abbrev pub IsKeptLine : ℕ → List ℕ → KernelModel → Option KeptLine → Type 0
+IsKeptLine budget marked model line = (told : KeptLine) → line ≡ Some told → IsCauseOf budget marked model told

@@ -1,5 +1,5 @@
 -- What `schedule` prints of a kernel: its schedule, or why its order is kept.
-use Rattle.std.specs.Prelude.{◌≡◌, ◌⊎◌, ℕ, List, Option, Some, None}
+use Rattle.std.specs.Prelude.{◌≡◌, ◌⊎◌, ℕ, List, [], Option, Some, None}
 use Rattle.scop_syntax.specs.Tree.{Program}
 use Rattle.iteration_domains.specs.Model.{KernelModel, model_of}
 use Rattle.dataflow.specs.Covering.{covers_of}
@@ -42,28 +42,30 @@ line_of_kept (kept.Large row) = Some line.Large
 abbrev pub IsLineText : Option KeptLine → List ℕ → Type 0
 IsLineText told text = (some : KeptLine) × (told ≡ Some some) × (text ≡ kept_text some)
 
--- the blocks are the schedule of the determined run over the covers of the model, as this budget tells them
-abbrev pub IsScheduleOf : ℕ → KernelModel → List Block → Type 0
-IsScheduleOf budget model blocks = IsSchedule model.parameters (loops_in model) (covers_of budget model) blocks
+-- the blocks are the schedule of the determined run over the covers of the model, but for those on marked arrays, as
+-- this budget tells them
+abbrev pub IsScheduleOf : ℕ → List ℕ → KernelModel → List Block → Type 0
+IsScheduleOf budget marked model blocks =
+    IsSchedule model.parameters (loops_in model) (covers_of budget marked model) blocks
 
 -- it is what a search with this budget finds: all questions that the run poses are answered within it
-abbrev pub IsSearched : ℕ → KernelModel → List Block → Type 0
-IsSearched budget model blocks =
-    IsScheduleOf budget model blocks
-    × ComesAnswered model.parameters (loops_in model) budget (covers_of budget model) (ends blocks)
+abbrev pub IsSearched : ℕ → List ℕ → KernelModel → List Block → Type 0
+IsSearched budget marked model blocks =
+    IsScheduleOf budget marked model blocks
+    × ComesAnswered model.parameters (loops_in model) budget (covers_of budget marked model) (ends blocks)
 
 -- what a kept line tells holds: the determined run over the model's covers comes to that outcome, or a question that
 -- the search for it poses with this budget stops so
-abbrev pub IsCauseOf : ℕ → KernelModel → KeptLine → Type 0
-IsCauseOf budget model told =
-    (cause : Kept) × Keeps model.parameters (loops_in model) (covers_of budget model) budget cause
+abbrev pub IsCauseOf : ℕ → List ℕ → KernelModel → KeptLine → Type 0
+IsCauseOf budget marked model told =
+    (cause : Kept) × Keeps model.parameters (loops_in model) (covers_of budget marked model) budget cause
     × (line_of_kept cause ≡ Some told)
 
--- the text is that of the schedule that is found, or the kept line of a cause that holds
+-- the text is that of the schedule that is found over all covers, or the kept line of a cause that holds
 abbrev pub IsPlanOf : ℕ → KernelModel → List ℕ → Type 0
 IsPlanOf budget model text =
-    ((blocks : List Block) × IsSearched budget model blocks × (text ≡ schedule_text blocks))
-    ⊎ ((told : KeptLine) × IsCauseOf budget model told × (text ≡ kept_text told))
+    ((blocks : List Block) × IsSearched budget [] model blocks × (text ≡ schedule_text blocks))
+    ⊎ ((told : KeptLine) × IsCauseOf budget [] model told × (text ≡ kept_text told))
 
 -- the same of a program's model
 abbrev pub IsPlanText : ℕ → Program → List ℕ → Type 0

@@ -46,7 +46,7 @@ pub fn certificate_text(
     ensures { IfOk result (λ text. IsCertificateText budget (program_of kernel.now) text.items) }
 {
     dependences_have_one_schedule();
-    let deps = match covers(alloc, model, budget) {
+    let deps = match covers(alloc, model, &[], budget) {
         Ok(deps) => deps,
         Err(_) => return Err(AllocError),
     };

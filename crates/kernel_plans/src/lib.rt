@@ -22,7 +22,7 @@ pub use text::plan_text;
 pub use dataflow::last_writes;
 pub use plan_certificate::{
     DataRefusal, FaultKind, KeptLine, Outside, Refusal, RefusalKind, Status, deps_text, edges_text,
-    status_line, tiles_text, waves_edges_text,
+    status_line, tiles_text, waves_edges_text, waves_reduce_text,
 };
 pub use plan_tree::laws::{
     loops_end_as_the_source_does, trees_keep_conflicts_in_order, trees_of_plans_can_be_walked,

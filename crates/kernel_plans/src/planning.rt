@@ -1,7 +1,7 @@
 //! The search for a kernel's plan: the tiles of its schedule; where the search or the scan of the schedule's sets stops,
 //! the kernel's own order.
 
-ghost use Rattle.std.specs.Prelude.{◌≡◌, ◌≤◌, IfOk};
+ghost use Rattle.std.specs.Prelude.{◌≡◌, ◌≤◌, ℕ, IfOk, List};
 ghost use Rattle.scop_syntax.specs.Kernel.{IsKernel};
 ghost use Rattle.scop_syntax.specs.View.{program_of};
 ghost use Rattle.iteration_domains.specs.Model.{model_of};
@@ -30,10 +30,11 @@ fn schedule_plan(
     report: bool,
 ) -> Result<Planned, AllocError>
     requires tile { (1 ≤ tile) × (tile ≤ 1024) }
-    requires program { IsScheduleFor (program_of kernel.now) schedule.now }
-    ensures { (s : IsScheduled schedule.now)
-        → IsSearched budget (model_of (program_of kernel.now)) s.blocks
-        → IfOk result (IsPlanned tile budget report (program_of kernel.now)) }
+    requires program { (marked : List ℕ) × IsScheduleFor (program_of kernel.now) marked schedule.now }
+    ensures { (s : IsScheduled schedule.now) (marked : List ℕ)
+        → IsScheduleFor (program_of kernel.now) marked schedule.now
+        → IsSearched budget marked (model_of (program_of kernel.now)) s.blocks
+        → IfOk result (IsPlanned tile budget report marked (program_of kernel.now)) }
 {
     rows_of_schedules_fit();
     match tiled_tree(alloc, schedule, tile, budget) {
@@ -49,6 +50,7 @@ fn schedule_plan(
 
 /// The plan of a kernel for tiles of this size, where each question of the search may make `budget` moves of the solver:
 /// that of the schedule which is found, told where a report is asked for, or the kept order with the line of its cause.
+/// Conflicts on marked arrays are not kept in order.
 ///
 /// # Errors
 /// `AllocError` alone.
@@ -56,6 +58,7 @@ pub fn planned(
     alloc: Global,
     kernel: &Kernel,
     model: &Model,
+    marked: &[usize],
     tile: u64,
     budget: u64,
     report: bool,
@@ -63,9 +66,9 @@ pub fn planned(
     requires kernel { IsKernel (program_of kernel.now) }
     requires model { model.now ≡ model_of (program_of kernel.now) }
     requires tile { (1 ≤ tile) × (tile ≤ 1024) }
-    ensures { IfOk result (IsPlanned tile budget report (program_of kernel.now)) }
+    ensures { IfOk result (IsPlanned tile budget report marked.now (program_of kernel.now)) }
 {
-    let deps = match covers(alloc, model, budget) {
+    let deps = match covers(alloc, model, marked, budget) {
         Ok(deps) => deps,
         Err(_) => return Err(AllocError),
     };

@@ -1,11 +1,14 @@
 //! Plans with their lines: of a schedule's tiles, and of the kernel's own order.
 
-ghost use Rattle.std.specs.Prelude.{◌≡◌, ◌≤◌, IfOk};
+ghost use Rattle.std.specs.Prelude.{◌≡◌, ◌≤◌, ℕ, Bool, IfOk};
 ghost use Rattle.scop_syntax.specs.Kernel.{IsKernel};
+ghost use Rattle.scop_syntax.specs.Tree.{Program};
 ghost use Rattle.scop_syntax.specs.View.{program_of};
+ghost use Rattle.loop_tree.specs.TilingView.{tiling_of};
 ghost use Rattle.loop_tree.specs.View.{trees_in};
+ghost use Rattle.plan_tree.specs.Trees.{AreTreesOf};
 ghost use Rattle.pluto_search.specs.Schedule.{IsScheduled};
-ghost use Rattle.kernel_plans.specs.Planned.{report_of};
+ghost use Rattle.kernel_plans.specs.Planned.{IsPlanned, added_in, report_of};
 ghost use Rattle.kernel_plans.specs.steps.Plans.{IsKeptPlan, IsTiledPlan};
 
 use crate::lines::line_text;
@@ -23,6 +26,21 @@ pub struct Planned {
     pub tree: Tree,
     pub tiling: Tiling,
     pub lines: Vec<u8>,
+}
+
+impl Planned {
+    /// Of the arrays that are marked, those that a run by the plan adds to in any order: none where the order is kept.
+    pub fn added<'a>(&self, marked: &'a [usize]) -> &'a [usize]
+        ensures added { result.now ≡ added_in (tiling_of self.now.tiling) marked.now }
+        ensures trees { (tile budget : ℕ) (report : Bool) (program : Program)
+            → IsPlanned tile budget report marked.now program self.now
+            → AreTreesOf program result.now (tiling_of self.now.tiling) (trees_in self.now.tree) }
+    {
+        match self.tiling {
+            Tiling::Kept => &[],
+            Tiling::Tiled(_, _) => marked,
+        }
+    }
 }
 
 /// The text of a schedule where a report is asked for, else no text.

@@ -1,12 +1,12 @@
 //! The dependences of a kernel's covers, and the schedule that is found over them.
 
-ghost use Rattle.std.specs.Prelude.{◌≡◌, IfErr, IfOk};
+ghost use Rattle.std.specs.Prelude.{◌≡◌, IfErr, IfOk, List, ℕ};
 ghost use Rattle.dataflow.specs.Covering.{covers_of};
 ghost use Rattle.dataflow.specs.Posed.{IsOfKernel};
 ghost use Rattle.kernel_plans.specs.Found.{IsFound, IsKeptLine};
 
 use crate::lines::line_of_kept;
-use conflict_deps::conflicts;
+use conflict_deps::conflicts_without;
 use dataflow::cover_laws::{covers_are_held, covers_lie_between_statements};
 use dataflow::covering;
 use iteration_domains::{Dep, Model};
@@ -14,16 +14,22 @@ use plan_certificate::KeptLine;
 use pluto_search::{Schedule, search};
 use std::alloc::{AllocError, Global};
 
-/// The dependences of a kernel's covers, where the problem of each access may make `budget` moves of the solver.
+/// The dependences of a kernel's covers, but for those on marked arrays, where the problem of each access may make
+/// `budget` moves of the solver.
 ///
 /// # Errors
 /// `AllocError` alone.
-pub fn covers(alloc: Global, model: &Model, budget: u64) -> Result<Vec<Dep>, AllocError>
+pub fn covers(
+    alloc: Global,
+    model: &Model,
+    marked: &[usize],
+    budget: u64,
+) -> Result<Vec<Dep>, AllocError>
     requires { IsOfKernel model.now }
-    ensures { IfOk result (λ deps. deps.items ≡ covers_of budget model.now) }
+    ensures { IfOk result (λ deps. deps.items ≡ covers_of budget marked.now model.now) }
 {
-    let all = conflicts(alloc, model)?;
-    covering(alloc, model, &all, budget)
+    let all = conflicts_without(alloc, model, marked)?;
+    covering(alloc, model, &all, marked, budget)
 }
 
 /// The schedule that is found over these, where each question of the search may make `budget` moves of the solver.
@@ -37,9 +43,11 @@ pub fn schedule_of<'a>(
     budget: u64,
 ) -> Result<Schedule<'a>, Option<KeptLine>>
     requires kernel { IsOfKernel model.now }
-    requires covers { deps.now ≡ covers_of budget model.now }
-    ensures found { IfOk result (IsFound budget model.now) }
-    ensures kept { IfErr result (IsKeptLine budget model.now) }
+    requires covers { (marked : List ℕ) × (deps.now ≡ covers_of budget marked model.now) }
+    ensures found { (marked : List ℕ) → deps.now ≡ covers_of budget marked model.now
+        → IfOk result (IsFound budget marked model.now) }
+    ensures kept { (marked : List ℕ) → deps.now ≡ covers_of budget marked model.now
+        → IfErr result (IsKeptLine budget marked model.now) }
 {
     covers_lie_between_statements();
     covers_are_held();

@@ -21,7 +21,7 @@ pub fn plan_text(alloc: Global, model: &Model, budget: u64) -> Result<Vec<u8>, A
     ensures { IfOk result (λ text. IsPlanOf budget model.now text.items) }
 {
     dependences_have_one_schedule();
-    let deps = match covers(alloc, model, budget) {
+    let deps = match covers(alloc, model, &[], budget) {
         Ok(deps) => deps,
         Err(_) => return Err(AllocError),
     };

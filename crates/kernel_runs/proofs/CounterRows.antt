@@ -1,6 +1,6 @@
 -- A row with the counters of tiles behind the cells of all arrays.
 use Rattle.std.proofs.Common.{◌≡◌, ◌∙◌, ◌+◌, ◌≤◌, ℕ, zero, suc, List, [], ◌∷◌, ◌++◌, ap, arith, get_or, length}
-use Rattle.std.proofs.Common.{append_assoc, length-append, refl, replicate, sym, take}
+use Rattle.std.proofs.Common.{append_assoc, length-append, refl, replicate, sym}
 use Rattle.std.proofs.lemmas.List.{length-replicate, replicate-append-replicate}
 use Rattle.std.proofs.Math.ListN.{get_or-append}
 use Rattle.scop_syntax.proofs.Members.{nat_cases}

@@ -11,6 +11,12 @@ pub lent : {T : Type 0} (P : T → Type 0) (o : Option (Bor T)) (m : Option T) �
 lent P None m e h = tt
 lent P (Some b) m e h = subst (λ n. MatchOption n ⊤ P) (sym e) h
 
+-- what follows from what holds where they are there holds there
+pub then_there : {T : Type 0} (P Q : Type 0) (m : Option T) → (P → Q) → MatchOption m ⊤ (λ e. P)
+    → MatchOption m ⊤ (λ e. Q)
+then_there P Q None f h = tt
+then_there P Q (Some e) f h = f h
+
 -- tiles are to be released one by one, and there are so many pairs
 pub told_pairs : (release : Bool) (tiling : Tiling) (visits : List Visit) (n : ℕ) → release ≡ true
     → HasEdges tiling visits n → n ≤ 4194304 → IsReleaseOf release tiling visits (Some n)

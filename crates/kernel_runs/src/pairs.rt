@@ -1,5 +1,5 @@
 //! The pairs of a run's tiles of which the second waits for the first, where tiles are to be released one by one.
-ghost use Rattle.std.specs.Prelude.{◌≡◌, ⊤, IfOk, MatchOption, Some, length};
+ghost use Rattle.std.specs.Prelude.{◌≡◌, ⊤, true, [], IfOk, MatchOption, Some, length};
 ghost use Rattle.std.specs.Option.{option_map};
 ghost use Rattle.scop_syntax.specs.Execution.{IsInside};
 ghost use Rattle.scop_syntax.specs.Limits.{WithinLimits};
@@ -65,13 +65,15 @@ pub(crate) fn edges_of(
 ) -> Result<Option<TileEdges>, AllocError>
     requires limits { WithinLimits (program_of kernel.now) case.now.params.items }
     requires inside { IsInside (program_of kernel.now) case.now.params.items }
-    requires trees { AreTreesOf (program_of kernel.now) (tiling_of tiling.now) (trees_in tree.now) }
+    requires trees { release ≡ true
+        → AreTreesOf (program_of kernel.now) [] (tiling_of tiling.now) (trees_in tree.now) }
     requires fits { CanTile (tiling_of tiling.now) (visits (trees_in tree.now) case.now.params.items) }
-    requires table { IsTableOf (program_of kernel.now) case.now.params.items table.now }
+    requires table { release ≡ true → IsTableOf (program_of kernel.now) case.now.params.items table.now }
     requires tiles { IsTileListOf (trees_in tree.now) case.now.params.items (tiling_of tiling.now) list.now }
     ensures edges { IfOk result (λ o. MatchOption o ⊤
         (AreEdgesOf (program_of kernel.now) case.now.params.items (tiling_of tiling.now) list.now)) }
     ensures room { IfOk result (λ o. MatchOption o ⊤ (HaveRoom list.now)) }
+    ensures released { IfOk result (λ o. MatchOption o ⊤ (λ e. release ≡ true)) }
     ensures count { IfOk result (λ o. IsReleaseOf release (tiling_of tiling.now)
         (walk_of (program_of kernel.now) case.now.params.items) (option_map (λ e. length e.targets.items) o)) }
 {

@@ -1,7 +1,8 @@
 //! A kernel's case run by a plan, from arrays to arrays.
-ghost use Rattle.std.specs.Prelude.{◌≡◌, ◌-◌, ◌≤◌, ◌++◌, ⊤, IfErr, IfOk, MatchOption, length};
+ghost use Rattle.std.specs.Prelude.{◌≡◌, ◌-◌, ◌≤◌, ◌++◌, ℕ, ⊤, true, List, [], IfErr, IfOk, MatchOption, length};
 ghost use Rattle.scop_syntax.specs.Execution.{IsInside, IsShaped, exec, layout, total_cells};
 ghost use Rattle.scop_syntax.specs.Limits.{WithinLimits};
+ghost use Rattle.scop_syntax.specs.Reductions.{AreMarked};
 ghost use Rattle.scop_syntax.specs.View.{program_of};
 ghost use Rattle.scop_syntax.specs.Walk.{walk_of};
 ghost use Rattle.loop_tree.specs.Plans.{walked};
@@ -9,7 +10,7 @@ ghost use Rattle.loop_tree.specs.TilingView.{tiling_of};
 ghost use Rattle.loop_tree.specs.View.{trees_in};
 ghost use Rattle.loop_tree.specs.Walk.{visits};
 ghost use Rattle.plan_tree.specs.Trees.{AreTreesOf};
-ghost use Rattle.stmt_table.specs.Tables.{IsTableOf};
+ghost use Rattle.stmt_table.specs.Tables.{IsTableBy};
 ghost use Rattle.tile_core.specs.Plans.{HaveRoom, IsPlan, extents_in, program_in, walk_shape};
 ghost use Rattle.tile_edges.specs.Counting.{IsReleaseOf};
 ghost use Rattle.tile_edges.specs.Edges.{AreEdgesOf};
@@ -56,7 +57,8 @@ pub fn tiles_of(
     tiling: &Tiling,
 ) -> Result<TileList, AllocError>
     requires limits { WithinLimits (program_of kernel.now) case.now.params.items }
-    requires trees { AreTreesOf (program_of kernel.now) (tiling_of tiling.now) (trees_in tree.now) }
+    requires trees { (marked : List ℕ)
+        × AreTreesOf (program_of kernel.now) marked (tiling_of tiling.now) (trees_in tree.now) }
     requires fits { CanTile (tiling_of tiling.now) (visits (trees_in tree.now) case.now.params.items) }
     ensures { IfOk result
         (IsTileListOf (trees_in tree.now) case.now.params.items (tiling_of tiling.now)) }
@@ -76,16 +78,19 @@ pub fn plan_of<'a>(
     tiling: &'a Tiling,
     list: &'a TileList,
     edges: Option<&'a TileEdges>,
+    marked: &'a [usize],
 ) -> Plan<'a>
     requires limits { WithinLimits (program_of kernel.now) case.now.params.items }
     requires laid { case.now.extents ≡ layout (program_of kernel.now) case.now.params.items }
     requires inside { IsInside (program_of kernel.now) case.now.params.items }
-    requires trees { AreTreesOf (program_of kernel.now) (tiling_of tiling.now) (trees_in tree.now) }
-    requires table { IsTableOf (program_of kernel.now) case.now.params.items table.now }
+    requires marks { AreMarked marked.now (walk_of (program_of kernel.now) case.now.params.items) }
+    requires trees { AreTreesOf (program_of kernel.now) marked.now (tiling_of tiling.now) (trees_in tree.now) }
+    requires table { IsTableBy marked.now (program_of kernel.now) case.now.params.items table.now }
     requires tiles { IsTileListOf (trees_in tree.now) case.now.params.items (tiling_of tiling.now) list.now }
     requires edges { MatchOption edges ⊤ (λ e.
         AreEdgesOf (program_of kernel.now) case.now.params.items (tiling_of tiling.now) list.now e.now) }
     requires room { MatchOption edges ⊤ (λ e. HaveRoom list.now e.now) }
+    requires alone { MatchOption edges ⊤ (λ e. marked.now ≡ []) }
     ensures plan { IsPlan result }
     ensures program { program_in result ≡ program_of kernel.now }
     ensures params { result.params.now ≡ case.now.params.items }
@@ -99,7 +104,7 @@ pub fn plan_of<'a>(
         tree,
         list,
         edges,
-        marked: &[],
+        marked,
     }
 }
 
@@ -154,6 +159,7 @@ fn run_shared<W: Workers>(
     row: &mut Vec<u64>,
     tree: &Tree,
     tiling: &Tiling,
+    marked: &[usize],
     release: bool,
     workers: u64,
 ) -> Result<Counts, AllocError>
@@ -162,8 +168,10 @@ fn run_shared<W: Workers>(
     requires laid { case.now.extents ≡ layout (program_of kernel.now) case.now.params.items }
     requires cells { length (row.old.items ++ flat case.now.arrays) ≡ total_cells case.now.extents }
     requires inside { IsInside (program_of kernel.now) case.now.params.items }
-    requires trees { AreTreesOf (program_of kernel.now) (tiling_of tiling.now) (trees_in tree.now) }
+    requires marks { AreMarked marked.now (walk_of (program_of kernel.now) case.now.params.items) }
+    requires trees { AreTreesOf (program_of kernel.now) marked.now (tiling_of tiling.now) (trees_in tree.now) }
     requires fits { CanTile (tiling_of tiling.now) (visits (trees_in tree.now) case.now.params.items) }
+    requires alone { release ≡ true → marked.now ≡ [] }
     requires some { 1 ≤ workers }
     requires few { workers ≤ 64 }
     ensures executed { IfOk result (λ _. Executes (program_of kernel.now) case.now.params.items case.now.extents
@@ -178,16 +186,18 @@ fn run_shared<W: Workers>(
 {
     tiles_are_counted();
     let list = tiles_of(alloc, kernel, case, tree, tiling)?;
-    let table = Table::of(alloc, kernel, &case.params, &case.extents, &[])?;
+    let table = Table::of(alloc, kernel, &case.params, &case.extents, marked)?;
     let pairs = edges_of(alloc, kernel, case, &table, tree, tiling, &list, release)?;
-    let plan = plan_of(kernel, case, &table, tree, tiling, &list, pairs.as_ref());
+    let edges = pairs.as_ref();
+    let plan = plan_of(kernel, case, &table, tree, tiling, &list, edges, marked);
     run_row(by, alloc, plan, row, &case.arrays, workers as usize)?;
     Ok(counts_of(&list, pairs_in(&pairs)))
 }
 
 /// Runs a kernel's case by the tree of a plan, with so many workers; the arrays are then those of the kernel's own
-/// execution. Where `release` is true, and there are not more than 2^22 pairs of tiles of which the second waits for the
-/// first, tiles are released one by one; else they are opened by waves.
+/// execution. What writes a cell of a marked array adds to it, and waits for no other that does. Where `release` is
+/// true, and there are not more than 2^22 pairs of tiles of which the second waits for the first, tiles are released one
+/// by one; else they are opened by waves.
 ///
 /// # Errors
 /// `AllocError`; the case is then as it was.
@@ -198,6 +208,7 @@ pub fn run_case<W: Workers>(
     case: &mut Case,
     tree: &Tree,
     tiling: &Tiling,
+    marked: &[usize],
     release: bool,
     workers: u64,
 ) -> Result<Counts, AllocError>
@@ -206,8 +217,10 @@ pub fn run_case<W: Workers>(
     requires laid { case.old.extents ≡ layout (program_of kernel.now) case.old.params.items }
     requires shape { IsShaped case.old.extents case.old.arrays }
     requires inside { IsInside (program_of kernel.now) case.old.params.items }
-    requires trees { AreTreesOf (program_of kernel.now) (tiling_of tiling.now) (trees_in tree.now) }
+    requires marks { AreMarked marked.now (walk_of (program_of kernel.now) case.old.params.items) }
+    requires trees { AreTreesOf (program_of kernel.now) marked.now (tiling_of tiling.now) (trees_in tree.now) }
     requires fits { CanTile (tiling_of tiling.now) (visits (trees_in tree.now) case.old.params.items) }
+    requires alone { release ≡ true → marked.now ≡ [] }
     requires workers { (1 ≤ workers) × (workers ≤ 64) }
     ensures arrays { IfOk result (λ _. case.new.arrays
         ≡ exec (program_of kernel.now) case.old.params.items case.old.arrays) }
@@ -225,7 +238,7 @@ pub fn run_case<W: Workers>(
     let mut row = take_first(alloc, &mut case.arrays);
     let first = row.len();
     match run_shared(
-        by, alloc, kernel, case, &mut row, tree, tiling, release, workers,
+        by, alloc, kernel, case, &mut row, tree, tiling, marked, release, workers,
     ) {
         Ok(counts) => {
             give_back(&mut case.arrays, row, first);

@@ -4,6 +4,7 @@ pub mod CutLemmas
 pub mod EndLemmas
 pub mod KernelLemmas
 pub mod LineLemmas
+pub mod MarkLemmas
 pub mod MemoryLemmas
 pub mod NamesLemmas
 pub mod OnceLemmas

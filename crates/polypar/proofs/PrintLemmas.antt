@@ -1,5 +1,5 @@
 -- What is printed is held in memory; trees of a plan can be printed.
-use Rattle.std.proofs.Common.{◌≡◌, sym, subst, ℕ, ◌^◌, ◌<◌, length, Result, Ok, Err, IfOk, arith}
+use Rattle.std.proofs.Common.{◌≡◌, sym, subst, ℕ, ◌^◌, ◌<◌, [], length, Result, Ok, Err, IfOk, arith}
 use Rattle.io_ports.specs.Writes.{SinkShows}
 use Rattle.scop_syntax.specs.Tree.{Program}
 use Rattle.loop_tree.specs.Marks.{FlatAll}
@@ -55,7 +55,7 @@ FlatArePrinted = (program : Program) (n : ℕ) (ts : Trees) → FlatAll ts → T
     → AreNodes program 0 ts
 
 -- trees of a plan can be printed
-pub trees_printed : FlatArePrinted → (program : Program) (plan : Tiling) (ts : Trees) → AreTreesOf program plan ts
+pub trees_printed : FlatArePrinted → (program : Program) (plan : Tiling) (ts : Trees) → AreTreesOf program [] plan ts
     → AreNodes program 0 ts
 trees_printed law program plan ts is =
     law program is.nested.0 ts is.flat is.statements is.over is.small is.nested.2 is.nested.1

@@ -1,5 +1,5 @@
 -- The text of loops is read back as their trees.
-use Rattle.std.proofs.Common.{◌≡◌, ◌∙◌, ap, inl, inr, ℕ, Bool, false, List, Some}
+use Rattle.std.proofs.Common.{◌≡◌, ◌∙◌, ap, inl, inr, ℕ, Bool, false, List, [], Some}
 use Rattle.scop_syntax.specs.Kernel.{IsKernel}
 use Rattle.scop_syntax.specs.Tree.{Program}
 use Rattle.scop_parser.specs.Spelling.{SpellsProgram}
@@ -28,7 +28,7 @@ pub record Laws : Type 0 where
 
 -- planned trees carry out their plan
 pub planned_carried : (tile budget : ℕ) (report : Bool) (program : Program) (plan : Tiling) (lines : List ℕ)
-    (ts : Trees) → ArePlanned tile budget report program plan lines ts → AreTreesOf program plan ts
+    (ts : Trees) → ArePlanned tile budget report [] program plan lines ts → AreTreesOf program [] plan ts
 planned_carried tile budget report program plan lines ts (inl tiled) = tiled.carried
 planned_carried tile budget report program plan lines ts (inr own) = own.carried
 

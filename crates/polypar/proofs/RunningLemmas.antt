@@ -1,8 +1,9 @@
 -- Trees that carry out a plan run the kernel.
-use Rattle.std.proofs.Common.{◌≡◌, ℕ, ℤ, false, List, [], map}
-use Rattle.scop_syntax.specs.Cells.{PlacesConflict}
+use Rattle.std.proofs.Common.{◌≡◌, ℕ, ℤ, false, List, [], map, refl}
+use Rattle.scop_syntax.specs.Cells.{PlacesConflict, conflict_cell}
 use Rattle.scop_syntax.specs.Execution.{IsInside, IsShaped, exec, layout, performed_all}
 use Rattle.scop_syntax.specs.Limits.{HasParameters}
+use Rattle.scop_syntax.specs.Reductions.{is_marked}
 use Rattle.scop_syntax.specs.Tree.{Program}
 use Rattle.scop_syntax.specs.Walk.{instance, Visit as Walked, walk_of}
 use Rattle.conflict_orders.specs.Orders.{IsOrderOf}
@@ -20,31 +21,32 @@ use Rattle.polypar.proofs.ReadingLemmas.{planned_carried}
 
 -- the laws of trees of plans
 pub record Laws : Type 0 where
-  pub in_order : (program : Program) (params : List ℤ) (plan : Tiling) (ts : Trees) → AreEven program plan
-      → CarryOut program params plan ts → (i j : ℕ) (c : PlacesConflict (walk_of program params) i j)
+  pub in_order : (program : Program) (params : List ℤ) (marked : List ℕ) (plan : Tiling) (ts : Trees)
+      → AreEven program plan → CarryOut program params marked plan ts → (i j : ℕ)
+      (c : PlacesConflict (walk_of program params) i j) → is_marked marked (conflict_cell c).array ≡ false
       → StandInOrder (visits ts params) (instance c.earlier) (instance c.later)
   pub ends : (program : Program) (params : List ℤ) (plan : Tiling) (ts : Trees) (contents : List (List ℕ))
-      (run : List Visit) (order : List Walked) → AreTreesOf program plan ts → HasParameters program params
+      (run : List Visit) (order : List Walked) → AreTreesOf program [] plan ts → HasParameters program params
       → IsInside program params → IsShaped (layout program params) contents → MayRunAll ts params [] run
       → AreVisitsOf program params (map given run) order
       → performed_all (layout program params) contents order ≡ exec program params contents
   pub visits_of : (program : Program) (params : List ℤ) (plan : Tiling) (ts : Trees) (run : List Visit)
-      → AreTreesOf program plan ts → HasParameters program params → MayRunAll ts params [] run
+      → AreTreesOf program [] plan ts → HasParameters program params → MayRunAll ts params [] run
       → (order : List Walked) × AreVisitsOf program params (map given run) order
   pub once : (program : Program) (params : List ℤ) (plan : Tiling) (ts : Trees) (run : List Visit)
-      → AreTreesOf program plan ts → HasParameters program params → MayRunAll ts params [] run
+      → AreTreesOf program [] plan ts → HasParameters program params → MayRunAll ts params [] run
       → IsOrderOf (map given run) (walked program params)
   pub walk : (ts : Trees) (params : List ℤ) → MayRunAll ts params [] (walk_all ts params [])
 
 -- at parameters of the program
-trees_run : Laws → (program : Program) (params : List ℤ) (plan : Tiling) (ts : Trees) → AreTreesOf program plan ts
+trees_run : Laws → (program : Program) (params : List ℤ) (plan : Tiling) (ts : Trees) → AreTreesOf program [] plan ts
     → HasParameters program params → RunKernel program params ts
 trees_run laws program params plan ts is has = record {
   walk = laws.walk ts params;
   once = λ run runs. laws.once program params plan ts run is has runs;
   walked_visits = λ run runs. laws.visits_of program params plan ts run is has runs;
-  in_order = laws.in_order program params plan ts is.even (is.carry_out params has);
-  free = (is.carry_out params has).free;
+  in_order = λ i j c. laws.in_order program params [] plan ts is.even (is.carry_out params has) i j c refl;
+  free = (is.carry_out params has).free refl;
   arrays = λ contents run order inside shaped runs visits.
       laws.ends program params plan ts contents run order is has inside shaped runs visits;
 }

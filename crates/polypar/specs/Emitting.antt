@@ -1,5 +1,5 @@
 -- What `emit` tells of a kernel: the loops of its tiled schedule, or its own loops and why their order is kept.
-use Rattle.std.specs.Prelude.{◌≡◌, ℕ, false, Some}
+use Rattle.std.specs.Prelude.{◌≡◌, ℕ, false, [], Some}
 use Rattle.scop_syntax.specs.Tree.{Program}
 use Rattle.loop_tree.specs.Tiling.{Tiling}
 use Rattle.loop_tree.specs.Tree.{Trees}
@@ -13,12 +13,12 @@ use Rattle.polypar.specs.Told.{Told}
 pub record IsLoopsText (tile budget : ℕ) (program : Program) (told : Told) : Type 0 where
   pub plan : Tiling
   pub trees : Trees
-  pub planned : ArePlanned tile budget false program plan told.lines trees
+  pub planned : ArePlanned tile budget false [] program plan told.lines trees
   pub text : told.text ≡ text_of program trees
 
 -- the same of what is read: the text is read as such trees
 pub record ReadsAsLoops (tile budget : ℕ) (program : Program) (told : Told) : Type 0 where
   pub plan : Tiling
   pub trees : Trees
-  pub planned : ArePlanned tile budget false program plan told.lines trees
+  pub planned : ArePlanned tile budget false [] program plan told.lines trees
   pub read : read_text program told.text ≡ Some trees

@@ -5,17 +5,19 @@ ghost use Rattle.scop_syntax.specs.Execution.{IsInside, IsShaped, exec, layout};
 ghost use Rattle.scop_syntax.specs.Kernel.{IsKernel};
 ghost use Rattle.scop_syntax.specs.Limits.{WithinLimits};
 ghost use Rattle.scop_syntax.specs.View.{program_of};
-ghost use Rattle.command_line.specs.Command.{AreSized, is_by_tiles};
+ghost use Rattle.command_line.specs.Command.{AreSized};
 ghost use Rattle.kernel_plans.specs.Planned.{IsPlanned};
 ghost use Rattle.kernel_plans.specs.TilesText.{tiles_text};
-ghost use Rattle.polypar.specs.Runs.{IsPlanTold, edges_line, release_line};
+ghost use Rattle.polypar.specs.Runs.{IsPlanTold, are_released, edges_line, marks_by, release_line};
 
 use command_line::{RunOptions, Sync};
 use data_text::Case;
 use iteration_domains::Model;
-use kernel_plans::{Planned, edges_text, planned, tiles_text, waves_edges_text};
+use kernel_plans::{Planned, edges_text, planned, tiles_text, waves_edges_text, waves_reduce_text};
 use kernel_runs::{Counts, Workers, run_case};
+use scop_syntax::reduction_laws::marks_are_the_reduced_arrays;
 use scop_syntax::tree::Kernel;
+use standings::marked_arrays;
 use std::alloc::{AllocError, Global};
 
 /// What a run leaves to tell: the lines of its plan, and how many tiles and waves that has, and how many pairs of tiles.
@@ -25,39 +27,61 @@ pub(crate) struct Ran {
     pub(crate) counts: Counts,
 }
 
-/// The plan of a kernel by these options, with its lines.
-fn plan_by(alloc: Global, kernel: &Kernel, options: RunOptions) -> Result<Planned, AllocError>
+/// The arrays that are marked: where sums may be made in any order, those that the kernel's statements only add to.
+fn marks_by(alloc: Global, kernel: &Kernel, options: RunOptions) -> Result<Vec<usize>, AllocError>
+    ensures { IfOk result (λ v. v.items ≡ marks_by options (program_of kernel.now)) }
+{
+    if options.reduce {
+        return marked_arrays(alloc, kernel);
+    }
+    Ok(Vec::new(alloc))
+}
+
+/// The plan of a kernel by these options, with its lines, where some arrays are marked.
+fn plan_by(
+    alloc: Global,
+    kernel: &Kernel,
+    marked: &[usize],
+    options: RunOptions,
+) -> Result<Planned, AllocError>
     requires kernel { IsKernel (program_of kernel.now) }
     requires options { AreSized options }
-    ensures { IfOk result (IsPlanned options.tile options.budget options.report (program_of kernel.now)) }
+    ensures { IfOk result (IsPlanned options.tile options.budget options.report marked.now (program_of kernel.now)) }
 {
     let model = Model::of(alloc, kernel)?;
     planned(
         alloc,
         kernel,
         &model,
+        marked,
         options.tile,
         options.budget,
         options.report,
     )
 }
 
-/// Whether a tile begins when those that it waits for have released it.
-fn is_by_tiles(sync: Sync) -> bool
-    ensures { result ≡ is_by_tiles sync }
+/// Whether tiles begin when those that they wait for have released them: where it is asked for, and no array is marked.
+fn are_released(sync: Sync, unmarked: bool) -> bool
+    ensures { result ≡ are_released sync unmarked }
 {
     match sync {
         Sync::Waves => false,
-        Sync::Tiles => true,
+        Sync::Tiles => unmarked,
     }
 }
 
 /// The first line: that tiles begin by waves, where it was asked for otherwise.
-fn release_line(alloc: Global, sync: Sync, edges: Option<u64>) -> Result<Vec<u8>, AllocError>
-    ensures { IfOk result (λ text. text.items ≡ release_line sync edges) }
+fn release_line(
+    alloc: Global,
+    sync: Sync,
+    unmarked: bool,
+    edges: Option<u64>,
+) -> Result<Vec<u8>, AllocError>
+    ensures { IfOk result (λ text. text.items ≡ release_line sync unmarked edges) }
 {
-    match (sync, edges) {
-        (Sync::Tiles, None) => waves_edges_text(alloc),
+    match (sync, unmarked, edges) {
+        (Sync::Tiles, false, _) => waves_reduce_text(alloc),
+        (Sync::Tiles, true, None) => waves_edges_text(alloc),
         _ => Ok(Vec::new(alloc)),
     }
 }
@@ -89,15 +113,16 @@ fn with_counts(
     alloc: Global,
     lines: Vec<u8>,
     counts: Counts,
+    unmarked: bool,
     options: RunOptions,
 ) -> Result<Ran, AllocError>
-    ensures lines { IfOk result (λ ran. ran.lines.items ≡ release_line options.sync counts.edges
+    ensures lines { IfOk result (λ ran. ran.lines.items ≡ release_line options.sync unmarked counts.edges
         ++ (lines.items ++ (if options.report
         then tiles_text counts.tiles counts.waves options.workers ++ edges_line counts.edges
         else []))) }
     ensures counts { IfOk result (λ ran. ran.counts ≡ counts) }
 {
-    let mut told = release_line(alloc, options.sync, counts.edges)?;
+    let mut told = release_line(alloc, options.sync, unmarked, counts.edges)?;
     told.extend_from_slice(&lines)?;
     if options.report {
         let last = counts_lines(alloc, counts, options.workers)?;
@@ -133,7 +158,11 @@ pub(crate) fn run_planned<W: Workers>(
     ensures told { IfOk result (λ ran. IsPlanTold options (program_of kernel.now) case.old.params.items
         ran.counts.tiles ran.counts.waves ran.lines.items) }
 {
-    let plan = plan_by(alloc, kernel, options)?;
+    marks_are_the_reduced_arrays();
+    let marks = marks_by(alloc, kernel, options)?;
+    let marked = marks.as_slice();
+    let unmarked = marked.is_empty();
+    let plan = plan_by(alloc, kernel, marked, options)?;
     match run_case(
         by,
         alloc,
@@ -141,10 +170,11 @@ pub(crate) fn run_planned<W: Workers>(
         case,
         &plan.tree,
         &plan.tiling,
-        is_by_tiles(options.sync),
+        plan.added(marked),
+        are_released(options.sync, unmarked),
         options.workers,
     ) {
-        Ok(counts) => Ok(with_counts(alloc, plan.lines, counts, options)?),
+        Ok(counts) => Ok(with_counts(alloc, plan.lines, counts, unmarked, options)?),
         Err(_) => Err(AllocError),
     }
 }

@@ -29,7 +29,7 @@ fn run_generated<W: Workers>(
     requires ready { W.ready by.now }
     requires size { (1 ≤ kernel.size) × (kernel.size ≤ 512) }
     requires options { AreSized options }
-    ensures told { IfOk result (λ left. IsPlanTold (record options { report = false; sync = Waves })
+    ensures told { IfOk result (λ left. IsPlanTold (record options { report = false; sync = Waves; reduce = false })
         (program kernel.kind kernel.seed) (params kernel.kind kernel.size) left.0.counts.tiles left.0.counts.waves
         left.0.lines.items) }
     ensures cells { IfOk result (λ left. left.1 ≡ cells_in (left_by kernel)) }
@@ -40,6 +40,7 @@ fn run_generated<W: Workers>(
     let quiet = RunOptions {
         report: false,
         sync: Sync::Waves,
+        reduce: false,
         ..options
     };
     match run_planned(by, alloc, &made, &mut case, quiet) {

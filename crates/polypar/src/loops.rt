@@ -29,7 +29,7 @@ pub(crate) fn loops_told(
     requires tile { (1 ≤ tile) × (tile ≤ most_tile) }
     ensures { IfOk result (λ told. IsLoopsText tile budget (program_of kernel.now) (told_of told)) }
 {
-    let plan = planned(alloc, kernel, model, tile, budget, false)?;
+    let plan = planned(alloc, kernel, model, &[], tile, budget, false)?;
     let text = print(alloc, kernel, &plan.tree)?;
     Ok(Told {
         lines: plan.lines,

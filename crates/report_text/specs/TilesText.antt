@@ -16,3 +16,7 @@ edges_text edges = concat (codes "edges " ∷ decimal edges ∷ codes "\n" ∷ [
 -- tiles begin by waves, since there are too many such pairs
 abbrev pub waves_edges_text : List ℕ
 waves_edges_text = codes "waves: edges\n"
+
+-- tiles begin by waves, since there are arrays that are added to in any order
+abbrev pub waves_reduce_text : List ℕ
+waves_reduce_text = codes "waves: reduce\n"

@@ -1,8 +1,8 @@
-//! The lines that tell how many pairs of tiles there are of which the second waits for the first, or that there are too
-//! many of them.
+//! The lines that tell how many pairs of tiles there are of which the second waits for the first, or why tiles begin by
+//! waves instead.
 
 ghost use Rattle.std.specs.Prelude.{◌≡◌, IfOk};
-ghost use Rattle.report_text.specs.TilesText.{edges_text, waves_edges_text};
+ghost use Rattle.report_text.specs.TilesText.{edges_text, waves_edges_text, waves_reduce_text};
 
 use crate::pieces::{Piece, push_pieces, push_text};
 use std::alloc::{AllocError, Global};
@@ -35,5 +35,17 @@ pub fn waves_edges_text(alloc: Global) -> Result<Vec<u8>, AllocError>
 {
     let mut text = Vec::new(alloc);
     push_text(&mut text, b"waves: edges\n")?;
+    Ok(text)
+}
+
+/// `waves: reduce` and a line feed.
+///
+/// # Errors
+/// `AllocError` alone.
+pub fn waves_reduce_text(alloc: Global) -> Result<Vec<u8>, AllocError>
+    ensures { IfOk result (λ text. text.items ≡ waves_reduce_text) }
+{
+    let mut text = Vec::new(alloc);
+    push_text(&mut text, b"waves: reduce\n")?;
     Ok(text)
 }

@@ -23,7 +23,7 @@ pub use deps_laws::{
     deps_texts_are_read_in_one_way, printed_sources_are_read_in_one_way, texts_of_two_kernels,
 };
 pub use deps_lines::deps_text;
-pub use edges_line::{edges_text, waves_edges_text};
+pub use edges_line::{edges_text, waves_edges_text, waves_reduce_text};
 pub use item_lines::schedule_text;
 pub use kept_line::{KeptLine, kept_text};
 pub use line::status_line;

@@ -1,2 +1,4 @@
 pub mod GatheredStatements
 pub mod Heads
+pub mod Marked
+pub mod NamedArrays

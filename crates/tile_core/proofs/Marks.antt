@@ -1,17 +1,15 @@
 -- A cell's number tells its array (`adds_is`), and where a cell is added to, tiles are opened by waves (`by_waves_alone`).
 use Rattle.std.proofs.Common.{◌≡◌, ℕ, zero, suc, ◌+◌, ◌-◌, ◌<◌, true, false, List, [], ◌∷◌, length, take, get_or, ap, refl, ◌∙◌}
 use Rattle.std.proofs.Common.{Option, Some, None, Bor, subst, arith}
-use Rattle.std.specs.Prelude.{⊤, ℤ, MatchOption}
+use Rattle.std.specs.Prelude.{⊤, MatchOption}
 use Rattle.std.proofs.lemmas.Bool.{lt-ltb, le-ltb}
 use Rattle.scop_syntax.specs.Cells.{Cell}
 use Rattle.scop_syntax.specs.Execution.{IsCell, cell_count, total_cells, cell_number, offset_of}
 use Rattle.scop_syntax.specs.Reductions.{is_marked}
-use Rattle.scop_syntax.specs.Tree.{Program}
 use Rattle.scop_syntax.proofs.Memory.{offset_below}
-use Rattle.loop_tree.specs.Tiling.{IsGoodPlan, Tiling}
 use Rattle.tile_events.specs.Core.{is_counted}
 use Rattle.tile_edges.specs.declared.waiting.TileEdges.{TileEdges}
-use Rattle.tile_core.specs.Marks.{IsGoodFor, array_of, adds_to}
+use Rattle.tile_core.specs.Marks.{array_of, adds_to}
 use Rattle.tile_core.specs.Plans.{IsPlan, extents_in, gated, shape_of, walk_shape}
 use Rattle.tile_core.specs.declared.plan.Plan.{Plan}
 
@@ -55,13 +53,3 @@ module _ (plan : Plan) (c : ℕ) (adds : (walk_shape plan).adds c ≡ true) wher
 pub none_with : (plan : Plan) (e : Bor TileEdges) → plan.edges ≡ Some e → IsPlan plan → plan.marked.now ≡ []
 none_with plan e some is =
     subst (λ (o : Option (Bor TileEdges)). MatchOption o ⊤ (λ e. plan.marked.now ≡ [])) some is.alone
-
--- a good plan is good whatever is marked
-pub good_for : (program : Program) (params : List ℤ) (marked : List ℕ) (tiling : Tiling)
-    → IsGoodPlan program params tiling → IsGoodFor program params marked tiling
-good_for program params marked tiling good i j c plain = good i j c
-
--- where no array is marked, tiles may have any gate
-pub alone_by : (marked : List ℕ) → marked ≡ [] → (o : Option (Bor TileEdges)) → MatchOption o ⊤ (λ e. marked ≡ [])
-alone_by marked none None = tt
-alone_by marked none (Some e) = none

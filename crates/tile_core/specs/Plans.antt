@@ -11,7 +11,7 @@ use Rattle.scop_syntax.specs.Walk.{Instance, Visit, walk_of}
 use Rattle.scop_syntax.specs.declared.instance.Instance.{Instance as CodeInstance}
 use Rattle.loop_tree.specs.Conditions.{CanWalk}
 use Rattle.loop_tree.specs.Plans.{AreInOrder, walked}
-use Rattle.loop_tree.specs.Tiling.{Tiling}
+use Rattle.loop_tree.specs.Tiling.{IsGoodFor, Tiling}
 use Rattle.loop_tree.specs.View.{trees_in}
 use Rattle.loop_tree.specs.Walk.{visits}
 use Rattle.stmt_table.specs.Tables.{IsTableBy}
@@ -24,7 +24,7 @@ use Rattle.tile_events.specs.Deal.{Deal, dealt}
 use Rattle.tile_events.specs.Flat.{flat, read_by, value_by, written_by}
 use Rattle.tile_events.specs.Plan as events
 use Rattle.tile_events.specs.Releases.{released}
-use Rattle.tile_core.specs.Marks.{IsGoodFor, adds_to}
+use Rattle.tile_core.specs.Marks.{adds_to}
 use Rattle.tile_core.specs.Ranks.{place_in, rank_in, start_at}
 use Rattle.tile_core.specs.declared.plan.Plan.{Plan}
 

@@ -1,5 +1,5 @@
 -- A plan that is put together of its parts.
-use Rattle.std.specs.Prelude.{◌≡◌, ℕ, Bool, Option, length}
+use Rattle.std.specs.Prelude.{◌≡◌, ℕ, Bool, [], Option, length}
 use Rattle.scop_syntax.specs.Tree.{Program}
 use Rattle.loop_tree.specs.Source.{source_of}
 use Rattle.loop_tree.specs.Tiling.{kept}
@@ -25,4 +25,4 @@ pub record IsKeptPlan (program : Program) (line : Option KeptLine) (p : Planned)
   pub told : IsLineText line p.lines.items
   pub is : tiling_of p.tiling ≡ kept
   pub own : trees_in p.tree ≡ source_of program
-  pub carried : AreTreesOf program (tiling_of p.tiling) (trees_in p.tree)
+  pub carried : AreTreesOf program [] (tiling_of p.tiling) (trees_in p.tree)

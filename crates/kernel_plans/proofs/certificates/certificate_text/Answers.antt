@@ -1,5 +1,5 @@
 -- The text is what certifying gives, or that of the line that tells what keeps the order.
-use Rattle.std.proofs.Common.{◌∙◌}
+use Rattle.std.proofs.Common.{◌∙◌, []}
 use Rattle.std.proofs.lemmas.Result.{IfOk-weaker}
 use Rattle.scop_syntax.specs.View.{program_of}
 use Rattle.kernel_plans.proofs.CertificateLemmas.{kept_certified, schedule_certified}
@@ -12,12 +12,12 @@ pub schedule_of-requires-clause-kernel : goal.schedule_of-requires-clause-kernel
 schedule_of-requires-clause-kernel c = (program_of c.args.kernel.now, c.requires.kernel, c.requires.model)
 
 pub schedule_of-requires-clause-covers : goal.schedule_of-requires-clause-covers
-schedule_of-requires-clause-covers c = c.deref.ensures.value ∙ c.in-Ok.ensures
+schedule_of-requires-clause-covers c = ([], c.deref.ensures.value ∙ c.in-Ok.ensures)
 
 pub returns-in-Ok-schedule_of : goal.returns-in-Ok-schedule_of
 returns-in-Ok-schedule_of c =
     let program = program_of c.args.kernel.now in
-    let found = c.in-Ok-schedule_of.ensures.found in
+    let found = c.in-Ok-schedule_of.ensures.found [] (c.deref.ensures.value ∙ c.in-Ok.ensures) in
     IfOk-weaker c.given_text.result _ _
     (λ text given. schedule_certified c.dependences_have_one_schedule.ensures c.args.budget program c.args.model.now
     c.in-Ok-schedule_of.schedule text.items c.requires.model found given)
@@ -26,6 +26,6 @@ returns-in-Ok-schedule_of c =
 pub returns : goal.returns
 returns c =
     IfOk-weaker c.line_text.result _ _
-    (λ text told. kept_certified c.args.budget (program_of c.args.kernel.now) c.args.model.now c.in-Err-schedule_of.line text.items
-    c.requires.model c.in-Err-schedule_of.ensures.kept told)
+    (λ text told. kept_certified c.args.budget (program_of c.args.kernel.now) c.args.model.now c.in-Err-schedule_of.line
+    text.items c.requires.model (c.in-Err-schedule_of.ensures.kept [] (c.deref.ensures.value ∙ c.in-Ok.ensures)) told)
     c.line_text.ensures

@@ -6,18 +6,18 @@ use Rattle.kernel_plans.proofs.PlanLemmas.{stopped_is_planned, tiled_is_planned}
 use Rattle.kernel_plans.proofs.planning.schedule_plan.Goals as goal
 
 pub returns-in-Ok : goal.returns-in-Ok
-returns-in-Ok c = λ s found.
+returns-in-Ok c s marked own found =
     let program = program_of c.args.kernel.now in
     IfOk-weaker c.tiled_plan.result _ _
-    (λ p made. tiled_is_planned c.rows_of_schedules_fit.ensures c.args.tile c.args.budget c.args.report program
-    c.args.schedule.now s (trees_in c.in-Ok.tree) p c.requires.tile.0 c.requires.program found
-    (c.in-Ok.ensures.tree program c.requires.program s) made)
+    (λ p made. tiled_is_planned c.rows_of_schedules_fit.ensures c.args.tile c.args.budget c.args.report
+    marked program c.args.schedule.now s (trees_in c.in-Ok.tree) p c.requires.tile.0 own found
+    (c.in-Ok.ensures.tree program marked own s) made)
     c.tiled_plan.ensures
 
 pub returns-in-Err : goal.returns-in-Err
-returns-in-Err c = λ s found.
+returns-in-Err c s marked own found =
     IfOk-weaker c.kept_plan.result _ _
-    (λ p made. stopped_is_planned c.args.tile c.args.budget c.args.report (program_of c.args.kernel.now)
-    c.args.schedule.now s c.in-Err.stop c.line_of-line.result p c.requires.program found (c.in-Err.ensures.stops s)
+    (λ p made. stopped_is_planned c.args.tile c.args.budget c.args.report marked (program_of c.args.kernel.now)
+    c.args.schedule.now s c.in-Err.stop c.line_of-line.result p own found (c.in-Err.ensures.stops s)
     c.line_of-line.ensures made)
     c.kept_plan.ensures

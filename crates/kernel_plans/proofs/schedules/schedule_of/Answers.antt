@@ -12,22 +12,23 @@ use Rattle.kernel_plans.proofs.schedules.schedule_of.Goals as goal
 pub search-requires : goal.search-requires
 search-requires c =
     let model = c.args.model.now in
-    subst (λ (ds : List Dependence). AreBetween model.parameters (loops_in model) ds) (sym c.requires.covers)
-    (are_between model (covers_of c.args.budget model)
-    (λ d i. c.covers_lie_between_statements.ensures model c.args.budget d c.requires.kernel i))
+    let (marked, covers) = c.requires.covers in
+    subst (λ (ds : List Dependence). AreBetween model.parameters (loops_in model) ds) (sym covers)
+    (are_between model (covers_of c.args.budget marked model)
+    (λ d i. c.covers_lie_between_statements.ensures model c.args.budget marked d c.requires.kernel i))
 
 pub returns-in-Ok-clause-found : goal.returns-in-Ok-clause-found
-returns-in-Ok-clause-found c =
+returns-in-Ok-clause-found c marked covers =
     let model = c.args.model.now in
-    found_of c.args.budget model c.in-Ok.schedule
-    (λ d i. c.covers_lie_between_statements.ensures model c.args.budget d c.requires.kernel i)
-    (λ program params has. c.covers_are_held.ensures program params c.args.budget has)
-    (subst (λ (ds : List Dependence). Searches model ds c.args.budget (Ok c.in-Ok.schedule)) c.requires.covers
+    found_of c.args.budget marked model c.in-Ok.schedule
+    (λ d i. c.covers_lie_between_statements.ensures model c.args.budget marked d c.requires.kernel i)
+    (λ program params has. c.covers_are_held.ensures program params c.args.budget marked has)
+    (subst (λ (ds : List Dependence). Searches model ds c.args.budget (Ok c.in-Ok.schedule)) covers
     c.in-Ok.ensures.search)
 
 pub returns-in-Err-clause-kept : goal.returns-in-Err-clause-kept
-returns-in-Err-clause-kept c =
+returns-in-Err-clause-kept c marked covers =
     let model = c.args.model.now in
-    kept_of c.args.budget model c.in-Err.kept c.line_of_kept-line.result
-    (subst (λ (ds : List Dependence). Keeps model.parameters (loops_in model) ds c.args.budget c.in-Err.kept)
-    c.requires.covers c.in-Err.ensures.search) c.line_of_kept-line.ensures
+    kept_of c.args.budget marked model c.in-Err.kept c.line_of_kept-line.result
+    (subst (λ (ds : List Dependence). Keeps model.parameters (loops_in model) ds c.args.budget c.in-Err.kept) covers
+    c.in-Err.ensures.search) c.line_of_kept-line.ensures

@@ -1,4 +1,4 @@
-use Rattle.std.proofs.Common.{◌≡◌, ◌∙◌, ◌+◌, ap, arith, length, rules, take}
+use Rattle.std.proofs.Common.{◌≡◌, ◌∙◌, ap, arith, length, rules, take}
 use Rattle.tile_core.specs.Plans.{extents_in}
 use Rattle.scop_syntax.specs.Execution.{total_cells}
 use Rattle.kernel_runs.proofs.CounterRows.{has_rest, holds_contents, more_cells}

@@ -1,6 +1,6 @@
-use Rattle.std.proofs.Common.{rules, ◌≡◌, List, ℕ, ℤ, [], length, subst, sym, true}
+use Rattle.std.proofs.Common.{rules, ◌≡◌, List, ℤ, [], length, subst, sym, true}
 use Rattle.std.specs.Option.{option_map}
-use Rattle.std.specs.Prelude.{Option}
+use Rattle.std.specs.Prelude.{⊤, MatchOption, Option}
 use Rattle.std.proofs.lemmas.Result.{IfOk-weaker}
 use Rattle.scop_syntax.specs.Execution.{IsInside}
 use Rattle.scop_syntax.specs.Limits.{WithinLimits, has_parameters}
@@ -31,22 +31,25 @@ edges-requires-clause-inside c =
 
 pub edges-requires-clause-table : goal.edges-requires-clause-table
 edges-requires-clause-table c =
+    let yes : c.args.release ≡ true = search rules in
     subst (λ (ps : List ℤ). IsTableOf (program_of c.args.kernel.now) ps c.args.table.now) (sym c.deref.ensures.value)
-    c.requires.table
+    (c.requires.table yes)
 
 pub edges-requires-clause-walk : goal.edges-requires-clause-walk
 edges-requires-clause-walk c =
     let ts = trees_in c.args.tree.now in
+    let yes : c.args.release ≡ true = search rules in
     subst (λ (ps : List ℤ). CanWalk ts ps []) (sym c.deref.ensures.value)
     (c.trees_of_plans_can_be_walked.ensures (program_of c.args.kernel.now) c.args.case.now.params.items
-    (tiling_of c.args.tiling.now) ts c.requires.trees (has_parameters c.requires.limits))
+    [] (tiling_of c.args.tiling.now) ts (c.requires.trees yes) (has_parameters c.requires.limits))
 
 pub edges-requires-clause-order : goal.edges-requires-clause-order
 edges-requires-clause-order c =
     let ts = trees_in c.args.tree.now in
+    let yes : c.args.release ≡ true = search rules in
     subst (λ (ps : List ℤ). AreInOrder (program_of c.args.kernel.now) ps (tiling_of c.args.tiling.now) (visits ts ps))
     (sym c.deref.ensures.value)
-    (c.requires.trees.carry_out c.args.case.now.params.items (has_parameters c.requires.limits)).exact
+    ((c.requires.trees yes).carry_out c.args.case.now.params.items (has_parameters c.requires.limits)).exact
 
 pub edges-requires-clause-fits : goal.edges-requires-clause-fits
 edges-requires-clause-fits c =
@@ -68,12 +71,19 @@ returns-in-Ok-clause-count c =
     let are = subst (λ (ps : List ℤ). AreEdgesOf program ps tiling c.args.list.now pairs) c.deref.ensures.value
     c.in-Ok.ensures.edges in
     let has = c.edges_are_counted.ensures.edges program params (trees_in c.args.tree.now) tiling c.args.list.now pairs
-    c.requires.tiles (c.requires.trees.carry_out params (has_parameters c.requires.limits)).exact are in
+    c.requires.tiles ((c.requires.trees yes).carry_out params (has_parameters c.requires.limits)).exact are in
     IfOk-weaker c.counted.result _ _
     (λ o is. subst (λ (m : Option TileEdges). IsReleaseOf c.args.release tiling (walk_of program params)
     (option_map (λ e. length e.targets.items) m)) (sym is)
     (told_pairs c.args.release tiling (walk_of program params) (length pairs.targets.items) yes has
     c.in-Ok.ensures.few))
+    c.counted.ensures.same
+
+pub returns-in-Ok-clause-released : goal.returns-in-Ok-clause-released
+returns-in-Ok-clause-released c =
+    let yes : c.args.release ≡ true = search rules in
+    IfOk-weaker c.counted.result _ _
+    (λ o is. subst (λ (m : Option TileEdges). MatchOption m ⊤ (λ e. c.args.release ≡ true)) (sym is) yes)
     c.counted.ensures.same
 
 pub returns-in-Err-TooMany-clause-count : goal.returns-in-Err-TooMany-clause-count

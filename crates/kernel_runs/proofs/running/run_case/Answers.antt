@@ -1,4 +1,4 @@
-use Rattle.std.proofs.Common.{rules, ◌≡◌, ◌∙◌, ◌++◌, ap, length, map, set, List, ℕ, [], subst, sym}
+use Rattle.std.proofs.Common.{rules, ◌≡◌, ◌∙◌, ap, length, map, set, List, ℕ, [], subst, sym}
 use Rattle.scop_syntax.specs.Execution.{IsShaped, exec, layout}
 use Rattle.scop_syntax.specs.View.{program_of}
 use Rattle.kernel_runs.proofs.Cells.{flat_long, shape_executed}

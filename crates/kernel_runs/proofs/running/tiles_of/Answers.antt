@@ -13,7 +13,7 @@ tiles-requires-clause-walk c =
     let ts = trees_in c.args.tree.now in
     subst (λ ps. CanWalk ts ps []) (sym c.deref.ensures.value)
     (c.trees_of_plans_can_be_walked.ensures (program_of c.args.kernel.now) c.args.case.now.params.items
-    (tiling_of c.args.tiling.now) ts c.requires.trees (has_parameters c.requires.limits))
+    c.requires.trees.0 (tiling_of c.args.tiling.now) ts c.requires.trees.1 (has_parameters c.requires.limits))
 
 pub tiles-requires-clause-rise : goal.tiles-requires-clause-rise
 tiles-requires-clause-rise c =
@@ -24,8 +24,8 @@ tiles-requires-clause-rise c =
     let has = has_parameters c.requires.limits in
     subst (λ ps. RiseByTile tiling (visits ts ps)) (sym c.deref.ensures.value)
     (c.orders_rise_by_tile.ensures program params tiling (visits ts params)
-    (c.requires.trees.carry_out params has).exact
-    (c.waves_have_one_length.ensures program params tiling ts c.requires.trees has))
+    (c.requires.trees.1.carry_out params has).exact
+    (c.waves_have_one_length.ensures program params c.requires.trees.0 tiling ts c.requires.trees.1 has))
 
 pub tiles-requires-clause-fits : goal.tiles-requires-clause-fits
 tiles-requires-clause-fits c =
