@@ -1,6 +1,6 @@
 -- What the fields of a call's promise say, written out.
-use Rattle.std.proofs.Common.{◌≡◌, ◌∙◌, ◌⊎◌, inl, inr, refl, ap, subst, ℕ, ◌≤◌, List, [], ◌++◌, Option, None, Some}
-use Rattle.std.proofs.Common.{true, sym, Result, Ok, Err}
+use Rattle.std.proofs.Common.{◌≡◌, ◌∙◌, inl, inr, refl, ap, subst, ℕ, List, [], ◌++◌, Option, None, Some}
+use Rattle.std.proofs.Common.{true, sym, Result, Ok, Err, length, ◌==◌}
 use Rattle.std.specs.Prelude.{if◌then◌else◌}
 use Rattle.std.specs.Io.KnownBytes.{Appends}
 use Rattle.io_ports.specs.Bytes.{GainsFront, IsAllOf}
@@ -26,7 +26,7 @@ use Rattle.polypar.specs.Answered.{PrintsCertificate}
 use Rattle.polypar.specs.Cut.{data_part, kernel_part}
 use Rattle.polypar.specs.Deserves.{DeservesFor}
 use Rattle.command_guards.specs.Shown.{GainsCertificate, GainsFault, GainsReport, IsGiven, TellsData}
-use Rattle.polypar.specs.Runs.{edges_line, release_line}
+use Rattle.polypar.specs.Runs.{edges_line, marks_by, release_line}
 
 -- the lines of a run whose report is asked for
 pub reported : (options : RunOptions) (left : Option (List ℕ)) (out out_after err err_after : SinkShows)
@@ -34,24 +34,31 @@ pub reported : (options : RunOptions) (left : Option (List ℕ)) (out out_after 
     → GainsReport options left err err_after
 reported options left out out_after err err_after asked prints =
     let plan = prints.4.2 in
+    let marked = marks_by options prints.1.program in
     let numbers = tiles_text prints.4.0 prints.4.1 options.workers ++ edges_line plan.edges in
     let is : (if options.report then numbers else []) ≡ numbers = rw asked refl in (
       prints.0,
       prints.1,
+      marked,
       plan.plan,
       plan.trees,
       plan.front,
       prints.4.0,
       prints.4.1,
       prints.3,
-      subst (λ report. ArePlanned options.tile options.budget report prints.1.program plan.plan plan.front plan.trees)
+      refl,
+      subst
+          (λ report. ArePlanned options.tile options.budget report marked prints.1.program plan.plan plan.front
+          plan.trees)
           asked plan.planned,
       plan.has_tiles,
       plan.has_waves,
       plan.edges,
       plan.has_edges,
       subst (λ lines. Appends err.taken err_after.taken lines)
-          (plan.told ∙ ap (λ more. release_line options.sync plan.edges ++ (plan.front ++ more)) is) prints.6,
+          (plan.told
+          ∙ ap (λ more. release_line options.sync (length marked == 0) plan.edges ++ (plan.front ++ more)) is)
+          prints.6,
     )
 
 -- data is refused with the names of a program, and its line is written or cut off

@@ -1,9 +1,11 @@
 -- What a call shows, with what its promise speaks of written out.
-use Rattle.std.specs.Prelude.{◌≡◌, ◌⊎◌, ℕ, ◌≤◌, true, List, [], ◌++◌, Option, Some, Result, Ok, Err}
+use Rattle.std.specs.Prelude.{◌≡◌, ◌⊎◌, ℕ, ◌≤◌, ◌==◌, true, List, [], ◌++◌, length, Option, Some, Result, Ok, Err}
+use Rattle.std.specs.Prelude.{if◌then◌else◌}
 use Rattle.std.specs.Io.KnownBytes.{Appends}
 use Rattle.io_ports.specs.Bytes.{GainsFront, IsAllOf}
 use Rattle.io_ports.specs.Faults.{Rose}
 use Rattle.io_ports.specs.Writes.{SinkShows}
+use Rattle.scop_syntax.specs.Reductions.{marks}
 use Rattle.scop_syntax.specs.Tree.{Program}
 use Rattle.scop_syntax.specs.Walk.{walk_of}
 use Rattle.scop_parser.specs.Spelling.{SpellsProgram}
@@ -22,25 +24,26 @@ use Rattle.report_text.specs.TilesText.{tiles_text}
 use Rattle.report_text.specs.declared.status.Status.TheVariants.{BadData, WriteFault}
 use Rattle.plan_check.specs.Judged.{judged}
 use Rattle.plan_certificate.specs.Certificates.{certificate_of}
-use Rattle.command_line.specs.Command.{is_by_tiles}
 use Rattle.command_line.specs.declared.command.RunOptions.{RunOptions}
 use Rattle.polypar.specs.Planned.{ArePlanned}
 use Rattle.polypar.specs.Planning.{IsCauseOf, IsSearched}
 use Rattle.polypar.specs.Case.{Accepted, Spelled}
 use Rattle.polypar.specs.Counting.{IsReleaseOf}
 use Rattle.polypar.specs.Cut.{kernel_part}
-use Rattle.polypar.specs.Runs.{edges_line, release_line}
+use Rattle.polypar.specs.Runs.{are_released, edges_line, release_line}
 
 -- `err` gained a report behind the lines of a plan
 abbrev pub GainsReport : RunOptions → Option (List ℕ) → SinkShows → SinkShows → Type 0
 GainsReport options left err err_after =
-    (input : List ℕ) × (accepted : Accepted input) × (plan : Tiling) × (trees : Trees) × (front : List ℕ)
-    × (tiles : ℕ) × (waves : ℕ) × IsAllOf left input
-    × ArePlanned options.tile options.budget true accepted.program plan front trees
+    (input : List ℕ) × (accepted : Accepted input) × (marked : List ℕ) × (plan : Tiling) × (trees : Trees)
+    × (front : List ℕ) × (tiles : ℕ) × (waves : ℕ) × IsAllOf left input
+    × (marked ≡ (if options.reduce then marks accepted.program else []))
+    × ArePlanned options.tile options.budget true marked accepted.program plan front trees
     × HasTiles plan (walked accepted.program accepted.params) tiles
     × HasWaves plan (walked accepted.program accepted.params) waves
-    × (edges : Option ℕ) × IsReleaseOf (is_by_tiles options.sync) plan (walk_of accepted.program accepted.params) edges
-    × Appends err.taken err_after.taken (release_line options.sync edges
+    × (edges : Option ℕ)
+    × IsReleaseOf (are_released options.sync (length marked == 0)) plan (walk_of accepted.program accepted.params) edges
+    × Appends err.taken err_after.taken (release_line options.sync (length marked == 0) edges
     ++ (front ++ (tiles_text tiles waves options.workers ++ edges_line edges)))
 
 -- the line of data that is refused: an input was read, whose kernel spells a program, and `err`, which had gained
@@ -70,7 +73,7 @@ IsGiven program given text =
 abbrev pub GainsCertificate : ℕ → Option (List ℕ) → Option (List ℕ) → Option (List ℕ) → Type 0
 GainsCertificate budget left old new =
     (input : List ℕ) × (kernel : Spelled input) × (text : List ℕ) × IsAllOf left input
-    × (((blocks : List Block) × IsSearched budget (model_of kernel.program) blocks
+    × (((blocks : List Block) × IsSearched budget [] (model_of kernel.program) blocks
     × IsGiven kernel.program (certificate_of (model_of kernel.program) blocks) text)
-    ⊎ ((why : KeptLine) × IsCauseOf budget (model_of kernel.program) why × (text ≡ kept_text why)))
+    ⊎ ((why : KeptLine) × IsCauseOf budget [] (model_of kernel.program) why × (text ≡ kept_text why)))
     × Appends old new text

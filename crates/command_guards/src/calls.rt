@@ -1,9 +1,9 @@
 //! A caller of the top call: each of its clauses follows from one field of `Answered`, with what that field speaks of
 //! written out. So one of these fields that is emptied fails here, and so does a definition under it, but for those
 //! that are named here: which input is accepted or spells a kernel, what is asked for, what a generated kernel leaves,
-//! what the search finds or stops at (`IsSearched`, `IsCauseOf`), what a certificate is (`certificate_of`) and whether
-//! it is accepted (`judged`), and what the trees of a plan are (`ArePlanned`), of which it is written out alone which
-//! loops of a tiled plan are marked parallel.
+//! which arrays a kernel only adds to (`marks`), what the search finds or stops at (`IsSearched`, `IsCauseOf`), what a
+//! certificate is (`certificate_of`) and whether it is accepted (`judged`), and what the trees of a plan are
+//! (`ArePlanned`), of which it is written out alone which loops of a tiled plan are marked parallel.
 
 ghost use Rattle.std.specs.Prelude.{◌≡◌, ◌≢◌, ◌⊎◌, ◌<◌, ◌++◌, ℕ, ℤ, true, false, List, [], Option, map};
 ghost use Rattle.std.specs.Prelude.{Err, codes, length, string_bytes};
@@ -80,8 +80,9 @@ pub fn answered_call<S: Source, O: Sink, E: Sink>(
         → GainsReport options (S.shows source.old).left (E.shows err.old) (E.shows err.new) }
     ensures schedule { (budget : ℕ) → IsScheduleCommand budget (map string_bytes words.now) → result ≡ Done
         → (input : List ℕ) × (kernel : Spelled input) × (text : List ℕ) × IsAllOf (S.shows source.old).left input
-        × (((blocks : List Block) × IsSearched budget (model_of kernel.program) blocks × (text ≡ schedule_text blocks))
-        ⊎ ((why : KeptLine) × IsCauseOf budget (model_of kernel.program) why × (text ≡ kept_text why)))
+        × (((blocks : List Block) × IsSearched budget [] (model_of kernel.program) blocks
+        × (text ≡ schedule_text blocks))
+        ⊎ ((why : KeptLine) × IsCauseOf budget [] (model_of kernel.program) why × (text ≡ kept_text why)))
         × Appends (O.shows out.old).taken (O.shows out.new).taken text }
     ensures sources { (budget : ℕ) → IsDepsCommand budget (map string_bytes words.now) → result ≡ Done
         → (input : List ℕ) × (kernel : Spelled input) × (sources : List ReadSource)
@@ -92,7 +93,7 @@ pub fn answered_call<S: Source, O: Sink, E: Sink>(
         × Appends (O.shows out.old).taken (O.shows out.new).taken (deps_text kernel.program sources) }
     ensures loops { (tile budget : ℕ) → IsEmitCommand tile budget (map string_bytes words.now) → result ≡ Done
         → (input : List ℕ) × (kernel : Spelled input) × (plan : Tiling) × (trees : Trees) × (lines : List ℕ)
-        × IsAllOf (S.shows source.old).left input × ArePlanned tile budget false kernel.program plan lines trees
+        × IsAllOf (S.shows source.old).left input × ArePlanned tile budget false [] kernel.program plan lines trees
         × Appends (O.shows out.old).taken (O.shows out.new).taken (text_of kernel.program trees)
         × Appends (E.shows err.old).taken (E.shows err.new).taken lines
         × ((params : List ℤ) (size : ℕ) (statements : List Items) → HasParameters kernel.program params
@@ -101,7 +102,7 @@ pub fn answered_call<S: Source, O: Sink, E: Sink>(
     ensures summary { (g : GeneratedKernel) (options : RunOptions)
         → IsGenCommand g options (map string_bytes words.now) → result ≡ Done
         → (plan : Tiling) × (trees : Trees) × (lines : List ℕ) × (tiles : ℕ) × (waves : ℕ)
-        × ArePlanned options.tile options.budget false (cases.program g.kind g.seed) plan lines trees
+        × ArePlanned options.tile options.budget false [] (cases.program g.kind g.seed) plan lines trees
         × HasTiles plan (walked (cases.program g.kind g.seed) (cases.params g.kind g.size)) tiles
         × HasWaves plan (walked (cases.program g.kind g.seed) (cases.params g.kind g.size)) waves
         × Appends (O.shows out.old).taken (O.shows out.new).taken

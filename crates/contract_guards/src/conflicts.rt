@@ -1,15 +1,16 @@
 //! Callers of conflicts: the laws in kernels without parameters.
-ghost use Rattle.std.specs.Prelude.{◌≡◌, ◌≤◌, [], ℕ, ℤ, List, IfOk, Some, None};
-ghost use Rattle.scop_syntax.specs.Cells.{Cell, PlacesConflict};
+ghost use Rattle.std.specs.Prelude.{◌≡◌, ◌≤◌, [], ℕ, ℤ, List, IfOk, Some, None, false};
+ghost use Rattle.scop_syntax.specs.Cells.{Cell, PlacesConflict, conflict_cell};
 ghost use Rattle.scop_syntax.specs.Kernel.{IsKernel};
 ghost use Rattle.scop_syntax.specs.Members.{In};
+ghost use Rattle.scop_syntax.specs.Reductions.{is_marked};
 ghost use Rattle.scop_syntax.specs.Tree.{Program};
 ghost use Rattle.scop_syntax.specs.Walk.{Visit, walk_of};
 ghost use Rattle.scop_syntax.specs.Writers.{last_writer};
 ghost use Rattle.iteration_domains.specs.Dependence.{Dependence};
-ghost use Rattle.iteration_domains.specs.Model.{KernelModel};
+ghost use Rattle.iteration_domains.specs.Model.{KernelModel, model_of};
 ghost use Rattle.iteration_domains.specs.Sizes.{IsKernelModel};
-ghost use Rattle.conflict_deps.specs.Conflicts.{After, Side, conflicts_of, dep_of};
+ghost use Rattle.conflict_deps.specs.Conflicts.{After, Side, conflicts_of, conflicts_without, dep_of};
 ghost use Rattle.conflict_deps.specs.Pairs.{IsEnd, IsPair, IsPoint, TouchesAt, WritesBefore};
 ghost use Rattle.conflict_deps.specs.Pairs.{WritesBehind};
 
@@ -29,13 +30,18 @@ pub fn conflicts_of_nothing(alloc: Global, model: &Model) -> Result<Vec<Dep>, Al
     conflicts(alloc, model)
 }
 
-/// In a kernel without parameters a point of a system is a pair of conflicting places, by `points` of
-/// `conflicts_are_the_points_of_the_systems`; such a pair is a point, by `conflicts`; of one system, by `one`.
+/// In a kernel without parameters a point of a system without marked arrays is a pair of places that conflict on another
+/// array, by `points` of `conflicts_are_the_points_of_the_systems`; such a pair is a point, by `conflicts`; of one
+/// system, by `one`.
 pub fn conflicts_of_kernels_without_parameters()
-    ensures points { (program : Program) (dep : Dependence) (xs ys : List ℤ) → IsKernel program
-        → program.parameters ≡ [] → IsPoint program [] dep xs ys → (i : ℕ) × (j : ℕ) × IsPair program [] dep xs ys i j }
-    ensures conflicts { (program : Program) (i j : ℕ) (c : PlacesConflict (walk_of program []) i j)
-        → program.parameters ≡ [] → (dep : Dependence) × IsPoint program [] dep c.earlier.turns c.later.turns }
+    ensures points { (program : Program) (marked : List ℕ) (dep : Dependence) (xs ys : List ℤ) → IsKernel program
+        → program.parameters ≡ [] → In dep (conflicts_without marked (model_of program)) → IsPoint program [] dep xs ys
+        → (i : ℕ) × (j : ℕ) × (pair : IsPair program [] dep xs ys i j)
+        × (is_marked marked (conflict_cell pair.conflict).array ≡ false) }
+    ensures conflicts { (program : Program) (marked : List ℕ) (i j : ℕ) (c : PlacesConflict (walk_of program []) i j)
+        → program.parameters ≡ [] → is_marked marked (conflict_cell c).array ≡ false
+        → (dep : Dependence) × IsPoint program [] dep c.earlier.turns c.later.turns
+        × In dep (conflicts_without marked (model_of program)) }
     ensures one { (program : Program) (dep other : Dependence) (xs ys : List ℤ) → IsPoint program [] dep xs ys
         → IsPoint program [] other xs ys → dep.source ≡ other.source → dep.target ≡ other.target → dep ≡ other }
 {

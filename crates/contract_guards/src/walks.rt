@@ -3,7 +3,7 @@ ghost use Rattle.std.specs.Prelude.{◌≡◌, ◌+◌, ◌<◌, ◌≤◌, ◌^
 ghost use Rattle.std.specs.Prelude.{false, length, negsuc, pos, slice_get, slice_index_or, true, unsigned_abs};
 ghost use Rattle.whole_numbers.specs.Affine.{value_of};
 ghost use Rattle.scop_syntax.specs.Acts.{acts_all};
-ghost use Rattle.scop_syntax.specs.Cells.{Cell, PlacesConflict, written};
+ghost use Rattle.scop_syntax.specs.Cells.{Cell, PlacesConflict, conflict_cell, written};
 ghost use Rattle.scop_syntax.specs.Covers.{Chain, Cover};
 ghost use Rattle.scop_syntax.specs.Examples.{falling_by_two, form, head, rising};
 ghost use Rattle.scop_syntax.specs.Execution.{IsCell, IsShaped, before_place, cell_number, held, layout, performed_all};
@@ -11,6 +11,7 @@ ghost use Rattle.scop_syntax.specs.Execution.{exec, stored, value_stored_at};
 ghost use Rattle.scop_syntax.specs.Failures.{Failure, LiesIn, VisitsAreRanked, first_outside};
 ghost use Rattle.scop_syntax.specs.Kernel.{IsKernel, narrow_arrays};
 ghost use Rattle.scop_syntax.specs.Members.{In};
+ghost use Rattle.scop_syntax.specs.Reductions.{IsReduced, IsSum, marks};
 ghost use Rattle.scop_syntax.specs.Statements.{Placed, Runs, point_of, statements_of};
 ghost use Rattle.scop_syntax.specs.Tree.{Head, Program, moved_left};
 ghost use Rattle.scop_syntax.specs.Values.{stored_by};
@@ -28,6 +29,7 @@ use scop_syntax::failure_laws::failures_are_the_first;
 use scop_syntax::limit_laws::{
     accesses_have_the_ranks_of_arrays, cells_lie_within_22_bits, values_lie_within_45_bits,
 };
+use scop_syntax::reduction_laws::marks_are_the_reduced_arrays;
 use scop_syntax::value_laws::{
     cells_hold_numbers_of_their_types, narrow_cells_stay_narrow, values_stay_below_2_64,
 };
@@ -107,13 +109,14 @@ pub fn writers_of_a_rising_loop()
 
 /// Of two turns of two statements, of which the first writes what the second has read a turn before: the second place
 /// does not cover the first, but that read is covered by the write, so the two conflict, by `covers` of
-/// `conflicts_are_chains_of_covers`; what conflicts is a chain of covers, by `closure`, and lies behind, by `rises`.
+/// `conflicts_are_chains_of_covers`; what conflicts is a chain of covers by its cell, by `closure`, and lies behind, by
+/// `rises`.
 pub fn covers_of_two_statements()
     ensures none { Cover (walk_of two (pos 2 ∷ [])) 0 1 → ⊥ }
     ensures covers { PlacesConflict (walk_of two (pos 2 ∷ [])) 1 2 }
-    ensures closure { (i j : ℕ) → PlacesConflict (walk_of two (pos 2 ∷ [])) i j
-        → Chain (walk_of two (pos 2 ∷ [])) i j }
-    ensures rises { (j : ℕ) → Chain (walk_of two (pos 2 ∷ [])) 1 j → 1 < j }
+    ensures closure { (i j : ℕ) (p : PlacesConflict (walk_of two (pos 2 ∷ [])) i j)
+        → Chain (walk_of two (pos 2 ∷ [])) (conflict_cell p) i j }
+    ensures rises { (c : Cell) (j : ℕ) → Chain (walk_of two (pos 2 ∷ [])) c 1 j → 1 < j }
 {
     conflicts_are_chains_of_covers();
 }
@@ -160,4 +163,15 @@ pub fn cells_of_32_bits()
 {
     narrow_cells_stay_narrow();
     cells_hold_numbers_of_their_types();
+}
+
+/// What writes a marked array of a program adds to it, by `reduced` of `marks_are_the_reduced_arrays`; an array that is
+/// only added to is marked, by the same; two marks rise, by `rise`.
+pub fn marks_of_programs()
+    ensures sums { (program : Program) (a : ℕ) (p : Placed) → In a (marks program) → In p (statements_of program)
+        → p.body.place.array ≡ a → IsSum p.body.right }
+    ensures all { (program : Program) (a : ℕ) → IsReduced program a → In a (marks program) }
+    ensures rise { (program : Program) (a b : ℕ) → marks program ≡ a ∷ b ∷ [] → a < b }
+{
+    marks_are_the_reduced_arrays();
 }

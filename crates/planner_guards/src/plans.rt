@@ -1,10 +1,11 @@
 //! Callers of the trees of plans: that of the source's own order, that of a hull, and the laws in kernels without
 //! parameters.
-ghost use Rattle.std.specs.Prelude.{◌≡◌, ℕ, [], IfErr, IfOk, List, map};
-ghost use Rattle.scop_syntax.specs.Cells.{PlacesConflict};
+ghost use Rattle.std.specs.Prelude.{◌≡◌, ℕ, [], IfErr, IfOk, List, false, map};
+ghost use Rattle.scop_syntax.specs.Cells.{PlacesConflict, conflict_cell};
 ghost use Rattle.scop_syntax.specs.Execution.{IsInside, IsShaped, exec, layout, performed_all};
 ghost use Rattle.scop_syntax.specs.Kernel.{IsKernel};
 ghost use Rattle.scop_syntax.specs.Limits.{HasParameters};
+ghost use Rattle.scop_syntax.specs.Reductions.{is_marked};
 ghost use Rattle.scop_syntax.specs.Tree.{Program, none as nothing};
 ghost use Rattle.scop_syntax.specs.View.{program_of};
 ghost use Rattle.scop_syntax.specs.Walk.{Visit as Walked, instance, walk_of};
@@ -39,19 +40,21 @@ pub fn kept_tree(alloc: Global, kernel: &Kernel) -> Result<Tree, AllocError>
 
 /// The hull's tree of a schedule, for tiles of one point, by the clauses of `hull_tree` of these names.
 pub fn hull_tree_of_points(alloc: Global, schedule: &Schedule) -> Result<Tree, FmStop>
-    requires { (program : Program) × IsScheduleFor program schedule.now }
-    ensures tree { IfOk result (λ t. (program : Program) → IsScheduleFor program schedule.now
-        → (s : IsScheduled schedule.now) → AreTreesOf program (tiling_of program 1 s.blocks) (trees_in t)) }
+    requires { (program : Program) × (marked : List ℕ) × IsScheduleFor program marked schedule.now }
+    ensures tree { IfOk result (λ t. (program : Program) (marked : List ℕ)
+        → IsScheduleFor program marked schedule.now → (s : IsScheduled schedule.now)
+        → AreTreesOf program marked (tiling_of program 1 s.blocks) (trees_in t)) }
     ensures stops { IfErr result (λ stop. (s : IsScheduled schedule.now)
         → StopsTiled schedule.now.model 1 s.blocks stop) }
 {
     plan_tree::hull_tree(alloc, schedule, 1)
 }
 
-/// Trees of the source's order visit conflicting places as they are, by the clause of `trees_keep_conflicts_in_order`.
+/// Trees of the source's order visit places that conflict on an array that is not marked as they are, by the clause of
+/// `trees_keep_conflicts_in_order`.
 pub fn trees_of_the_source_keep_conflicts_in_order()
-    ensures { (program : Program) (ts : Trees) → CarryOut program [] kept ts → (i j : ℕ)
-        (c : PlacesConflict (walk_of program []) i j)
+    ensures { (program : Program) (marked : List ℕ) (ts : Trees) → CarryOut program [] marked kept ts → (i j : ℕ)
+        (c : PlacesConflict (walk_of program []) i j) → is_marked marked (conflict_cell c).array ≡ false
         → StandInOrder (visits ts []) (instance c.earlier) (instance c.later) }
 {
     laws::trees_keep_conflicts_in_order();
@@ -72,14 +75,14 @@ pub fn orders_of_covers_end_as_the_walk_does()
 /// Runs of trees without parameters, by the clauses of `loops_end_as_the_source_does` of these names.
 pub fn loops_without_parameters()
     ensures ends { (program : Program) (plan : Tiling) (ts : Trees) (contents : List (List ℕ)) (run : List Visit)
-        (order : List Walked) → AreTreesOf program plan ts → HasParameters program [] → IsInside program []
+        (order : List Walked) → AreTreesOf program [] plan ts → HasParameters program [] → IsInside program []
         → IsShaped (layout program []) contents → MayRunAll ts [] [] run
         → AreVisitsOf program [] (map given run) order
         → performed_all (layout program []) contents order ≡ exec program [] contents }
-    ensures visits { (program : Program) (plan : Tiling) (ts : Trees) (run : List Visit) → AreTreesOf program plan ts
+    ensures visits { (program : Program) (plan : Tiling) (ts : Trees) (run : List Visit) → AreTreesOf program [] plan ts
         → HasParameters program [] → MayRunAll ts [] [] run
         → (order : List Walked) × AreVisitsOf program [] (map given run) order }
-    ensures once { (program : Program) (plan : Tiling) (ts : Trees) (run : List Visit) → AreTreesOf program plan ts
+    ensures once { (program : Program) (plan : Tiling) (ts : Trees) (run : List Visit) → AreTreesOf program [] plan ts
         → HasParameters program [] → MayRunAll ts [] [] run → IsOrderOf (map given run) (walked program []) }
     ensures walk { (ts : Trees) → MayRunAll ts [] [] (walk_all ts [] []) }
 {

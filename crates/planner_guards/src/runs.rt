@@ -5,8 +5,9 @@ ghost use Rattle.whole_numbers.specs.Floor.{floor};
 ghost use Rattle.whole_numbers.specs.Lexicographic.{LexLess};
 ghost use Rattle.whole_numbers.specs.Lists.{dot, zeros};
 ghost use Rattle.integer_sets.specs.Constraints.{Constraints};
-ghost use Rattle.scop_syntax.specs.Cells.{PlacesConflict};
+ghost use Rattle.scop_syntax.specs.Cells.{PlacesConflict, conflict_cell};
 ghost use Rattle.scop_syntax.specs.Members.{In};
+ghost use Rattle.scop_syntax.specs.Reductions.{is_marked};
 ghost use Rattle.scop_syntax.specs.Tree.{Program};
 ghost use Rattle.scop_syntax.specs.Walk.{Instance, instance, walk_of};
 ghost use Rattle.iteration_domains.specs.Dependence.{Dependence};
@@ -64,10 +65,11 @@ pub fn plans_of_one_row()
 /// Without parameters a schedule without items is a good plan where its dependences hold the covers of a walk, by the
 /// clause of `schedules_of_covers_are_good_plans`.
 pub fn plans_of_covers()
-    ensures { (program : Program) (loops : List ℕ) (deps : List Dependence) (size : ℤ) (n i j : ℕ)
+    ensures { (program : Program) (marked : List ℕ) (loops : List ℕ) (deps : List Dependence) (size : ℤ) (n i j : ℕ)
         (c : PlacesConflict (walk_of program []) i j) → pos 0 <ℤ size
         → ((d : Dependence) → In d deps → IsSizedDep loops d) → IsSchedule 0 loops deps []
-        → HoldCovers program [] deps → IsGoodPair size [] n (instance c.earlier) (instance c.later) }
+        → HoldCovers program [] marked deps → is_marked marked (conflict_cell c).array ≡ false
+        → IsGoodPair size [] n (instance c.earlier) (instance c.later) }
 {
     schedule_rows::schedules_of_covers_are_good_plans();
 }
@@ -139,9 +141,11 @@ pub fn least_first_rows_are_unique()
 /// Conflicting places of a kernel without parameters are in order along a schedule of dependences that hold its covers,
 /// by the clause of `schedules_order_conflicts`.
 pub fn conflicts_of_kernels_without_parameters_are_in_order()
-    ensures { (program : Program) (deps : List Dependence) (blocks : List Block) (i j : ℕ)
+    ensures { (program : Program) (marked : List ℕ) (deps : List Dependence) (blocks : List Block) (i j : ℕ)
         (c : PlacesConflict (walk_of program []) i j) → program.parameters ≡ []
-        → ((d : Dependence) → In d deps → IsSizedDep (loops_in (model_of program)) d) → HoldCovers program [] deps
+        → is_marked marked (conflict_cell c).array ≡ false
+        → ((d : Dependence) → In d deps → IsSizedDep (loops_in (model_of program)) d)
+        → HoldCovers program [] marked deps
         → IsSchedule (model_of program).parameters (loops_in (model_of program)) deps blocks
         → LexLess (values blocks (instance c.earlier)) (values blocks (instance c.later)) }
 {

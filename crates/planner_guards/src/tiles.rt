@@ -12,7 +12,7 @@ ghost use Rattle.iteration_domains.specs.Dependence.{Dependence};
 ghost use Rattle.iteration_domains.specs.Held.{HoldCovers};
 ghost use Rattle.iteration_domains.specs.Instances.{IsInstanceOf};
 ghost use Rattle.iteration_domains.specs.Model.{KernelModel, Modelled, model_of};
-ghost use Rattle.loop_tree.specs.Tiling.{IsGoodPlan, item_values, kept, order_of, tiled};
+ghost use Rattle.loop_tree.specs.Tiling.{IsGoodFor, IsGoodPlan, item_values, kept, order_of, tiled};
 ghost use Rattle.loop_tree.specs.TilingView.{tiling_of};
 ghost use Rattle.schedule_rows.specs.Items.{Block, Marked, values};
 ghost use Rattle.schedule_rows.specs.Next.{IsSizedDep};
@@ -50,12 +50,14 @@ pub fn sets_of_tiles(
     tiled(alloc, schedule, size)
 }
 
-/// Tiles of size 1 of a schedule are a good plan, by the clause of `tiled_schedules_are_good_plans`.
+/// Tiles of size 1 of a schedule are a good plan but for marked arrays, by the clause of
+/// `tiled_schedules_are_good_plans`.
 pub fn plans_of_tiles()
-    ensures { (program : Program) (deps : List Dependence) (blocks : List Block) → program.parameters ≡ []
-        → ((d : Dependence) → In d deps → IsSizedDep (loops_in (model_of program)) d) → HoldCovers program [] deps
+    ensures { (program : Program) (marked : List ℕ) (deps : List Dependence) (blocks : List Block)
+        → program.parameters ≡ [] → ((d : Dependence) → In d deps → IsSizedDep (loops_in (model_of program)) d)
+        → HoldCovers program [] marked deps
         → IsSchedule (model_of program).parameters (loops_in (model_of program)) deps blocks
-        → IsGoodPlan program [] (schedule_tiling 1 (length (model_of program).statements) blocks) }
+        → IsGoodFor program [] marked (schedule_tiling 1 (length (model_of program).statements) blocks) }
 {
     laws::tiled_schedules_are_good_plans();
 }

@@ -1,10 +1,12 @@
 //! Callers of whole runs: the cells that they leave, in the arrays of the program's own execution.
 ghost use Rattle.array_words.specs.Closing.{IsClosed};
-ghost use Rattle.std.specs.Prelude.{◌≡◌, ℕ, ◌≤◌, IfErr, IfOk, List, get_or, length};
+ghost use Rattle.std.specs.Prelude.{◌≡◌, ℕ, ◌≤◌, true, [], IfErr, IfOk, List, get_or, length};
 ghost use Rattle.scop_syntax.specs.Cells.{Cell};
 ghost use Rattle.scop_syntax.specs.Execution.{IsCell, IsInside, IsShaped, cell_number, exec, held, layout};
 ghost use Rattle.scop_syntax.specs.Limits.{WithinLimits};
+ghost use Rattle.scop_syntax.specs.Reductions.{AreMarked};
 ghost use Rattle.scop_syntax.specs.View.{program_of};
+ghost use Rattle.scop_syntax.specs.Walk.{walk_of};
 ghost use Rattle.loop_tree.specs.TilingView.{tiling_of};
 ghost use Rattle.loop_tree.specs.View.{trees_in};
 ghost use Rattle.loop_tree.specs.Walk.{visits};
@@ -73,16 +75,20 @@ pub fn case_stays_without_memory<W: Workers>(
     case: &mut Case,
     tree: &Tree,
     tiling: &Tiling,
+    marked: &[usize],
+    release: bool,
 ) -> Result<Counts, AllocError>
     requires ready { W.ready by.now }
     requires limits { WithinLimits (program_of kernel.now) case.old.params.items }
     requires laid { case.old.extents ≡ layout (program_of kernel.now) case.old.params.items }
     requires shape { IsShaped case.old.extents case.old.arrays }
     requires inside { IsInside (program_of kernel.now) case.old.params.items }
-    requires trees { AreTreesOf (program_of kernel.now) (tiling_of tiling.now) (trees_in tree.now) }
+    requires marks { AreMarked marked.now (walk_of (program_of kernel.now) case.old.params.items) }
+    requires trees { AreTreesOf (program_of kernel.now) marked.now (tiling_of tiling.now) (trees_in tree.now) }
     requires fits { CanTile (tiling_of tiling.now) (visits (trees_in tree.now) case.old.params.items) }
+    requires alone { release ≡ true → marked.now ≡ [] }
     ensures params { case.new.params.items ≡ case.old.params.items }
     ensures unchanged { IfErr result (λ _. case.new.arrays ≡ case.old.arrays) }
 {
-    run_case(by, alloc, kernel, case, tree, tiling, true, 1)
+    run_case(by, alloc, kernel, case, tree, tiling, marked, release, 1)
 }

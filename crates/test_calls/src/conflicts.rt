@@ -55,7 +55,7 @@ fn dependences(alloc: Global, text: &str, which: Which) -> Result<Vec<Dep>, Allo
             let all = conflicts(alloc, &model)?;
             match which {
                 Which::Conflicts => Ok(all),
-                Which::Covers => covering(alloc, &model, &all, 20000),
+                Which::Covers => covering(alloc, &model, &all, &[], 20000),
             }
         }
     }

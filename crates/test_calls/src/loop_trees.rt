@@ -1,7 +1,7 @@
 //! Loop trees of small kernels' tiles: what they visit, how many guards stand within their loops, and that their texts
 //! are read back.
 
-ghost use Rattle.std.specs.Prelude.{◌≤◌, ◌<◌, [], IfOk, List, ℤ};
+ghost use Rattle.std.specs.Prelude.{◌≤◌, ◌<◌, [], IfOk, List, ℕ, ℤ};
 ghost use Rattle.scop_syntax.specs.Kernel.{IsKernel};
 ghost use Rattle.scop_syntax.specs.Limits.{HasParameters};
 ghost use Rattle.scop_syntax.specs.Tree.{Program};
@@ -54,8 +54,8 @@ enum Scan {
 /// The tree of a schedule's tiles.
 fn scanned(alloc: Global, schedule: &Schedule, size: u64, scan: Scan) -> Result<Tree, AllocError>
     requires size { (0 < size) × (size ≤ 1024) }
-    requires schedule { (program : Program) × IsScheduleFor program schedule.now }
-    ensures { IfOk result (λ t. (program : Program) (params : List ℤ) → IsScheduleFor program schedule.now
+    requires schedule { (program : Program) × (marked : List ℕ) × IsScheduleFor program marked schedule.now }
+    ensures { IfOk result (λ t. (program : Program) (params : List ℤ) → IsScheduleFor program [] schedule.now
         → HasParameters program params → CanWalk (trees_in t) params []) }
 {
     trees_of_plans_can_be_walked();
@@ -78,7 +78,7 @@ fn planned(alloc: Global, kernel: &Kernel, size: u64, scan: Scan) -> Result<Tree
         → CanWalk (trees_in t) params []) }
 {
     let model = Model::of(alloc, kernel)?;
-    let deps = covers(alloc, &model, BUDGET)?;
+    let deps = covers(alloc, &model, &[], BUDGET)?;
     match schedule_of(alloc, &model, &deps, BUDGET) {
         Ok(schedule) => scanned(alloc, &schedule, size, scan),
         Err(_) => Err(AllocError),

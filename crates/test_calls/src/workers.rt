@@ -17,6 +17,9 @@ use std::thread::Threads;
 /// How many workers run each case.
 const WORKERS: &[&str] = &["1", "2", "64"];
 
+/// How many run each whose sums may be made in any order.
+const SUM_WORKERS: &[&str] = &["1", "4"];
+
 const PREFIX: &str = "void pre(int64_t N, uint64_t A[N]) {
     for (int64_t i = 1; i < N; i++) A[i] += A[i-1]; }
 %%
@@ -45,6 +48,34 @@ const PRODUCT: &str = "void mm(int64_t N, uint64_t A[N][N], uint64_t B[N][N], ui
 N = 2
 A = 1 2 3 4
 B = 5 6 7 8
+";
+
+const SUM: &str = "void s(int64_t N, uint64_t A[N], uint64_t X[1])
+{ for (int64_t i = 0; i < N; i++) X[0] += A[i]; }
+%%
+N = 4
+A = 1 2 3 18446744073709551615
+";
+
+const DIFFERENCE: &str = "void d(int64_t N, uint64_t A[N], uint64_t X[1])
+{ for (int64_t i = 0; i < N; i++) X[0] -= A[i]; }
+%%
+N = 4
+A = 1 2 3 18446744073709551615
+";
+
+const TWO_SUMS: &str = "void y(int64_t N, uint64_t A[N], uint64_t X[1], uint64_t Y[1])
+{ for (int64_t i = 0; i < N; i++) { Y[0] += A[i]; X[0] += Y[0]; } }
+%%
+N = 3
+A = 1 2 3
+";
+
+const SUMS: &str = "void s(int64_t N, uint64_t A[1], uint64_t X[1])
+{ for (int64_t i = 0; i < N; i++) X[0] += A[0] + i; }
+%%
+N = 65536
+A = 7
 ";
 
 const COPY_OF_FOUR: &str = "void copy(int64_t N, uint64_t A[N], uint64_t B[N]) {
@@ -79,6 +110,15 @@ row 2 band 1 carries u (0 0) w 1: S1 (1 1) + 0
 
 const TWO_ROWS: &str = "row 1 band 1 parallel u (0) w 0: S1 (1) + 0, S2 (1) + 1
 scalar 2: S1 1, S2 0
+";
+
+const PRODUCT_ROWS: &str = "row 1 band 1 parallel u (0) w 0: S1 (1 0 0) + 0
+row 2 band 1 parallel u (0) w 0: S1 (0 1 0) + 0
+row 3 band 1 parallel u (0) w 0: S1 (0 0 1) + 0
+";
+
+const TWO_SUMS_ROWS: &str = "row 1 band 1 carries u (0) w 1: S1 (1) + 0, S2 (1) + 0
+scalar 2: S1 0, S2 1
 ";
 
 /// A run whose report is asked for, and what it prints.
@@ -188,6 +228,68 @@ const REPORTED: &[Reported] = &[
     },
 ];
 
+/// A run where sums may be made in any order, of a kernel with an array that it only adds to, and what it prints.
+struct Reduced {
+    kernel: &'static str,
+    tile: &'static str,
+    budget: &'static str,
+    arrays: &'static str,
+    /// What stands before the numbers of tiles, waves and workers: the schedule, or the line of a kept order.
+    plan: &'static str,
+    counts: &'static str,
+}
+
+const REDUCED: &[Reduced] = &[
+    Reduced {
+        kernel: PRODUCT,
+        tile: "1",
+        budget: "20000",
+        arrays: "A = 1 2 3 4\nB = 5 6 7 8\nC = 19 22 43 50\n",
+        plan: PRODUCT_ROWS,
+        counts: "tiles 8 waves 1",
+    },
+    Reduced {
+        kernel: SUM,
+        tile: "1",
+        budget: "20000",
+        arrays: "A = 1 2 3 18446744073709551615\nX = 5\n",
+        plan: LINE_ROW,
+        counts: "tiles 4 waves 1",
+    },
+    Reduced {
+        kernel: DIFFERENCE,
+        tile: "1",
+        budget: "20000",
+        arrays: "A = 1 2 3 18446744073709551615\nX = 18446744073709551611\n",
+        plan: LINE_ROW,
+        counts: "tiles 4 waves 1",
+    },
+    Reduced {
+        kernel: TWO_SUMS,
+        tile: "1",
+        budget: "20000",
+        arrays: "A = 1 2 3\nX = 10\nY = 6\n",
+        plan: TWO_SUMS_ROWS,
+        counts: "tiles 3 waves 3",
+    },
+    Reduced {
+        kernel: TWO_SUMS,
+        tile: "32",
+        budget: "1",
+        arrays: "A = 1 2 3\nX = 10\nY = 6\n",
+        plan: "kept: spent 1\n",
+        counts: "tiles 1 waves 1",
+    },
+    Reduced {
+        kernel: SUMS,
+        tile: "32",
+        budget: "20000",
+        arrays: "A = 7\nX = 2147909632\n",
+        plan: LINE_ROW,
+        counts: "tiles 2048 waves 1",
+    },
+];
+
 /// Calls `polypar` with these words on an input, with this gate.
 fn call_on<R: Threads + Wait + Sync, G: Gate>(
     rt: &R,
@@ -265,6 +367,60 @@ fn reports_tell_schedule_tiles_waves_and_pairs(rt: HostRuntime) -> Result<(), Fa
         for workers in WORKERS {
             assert!(rt; is_reported(&rt, rt.alloc(), run, workers, "waves")?);
             assert!(rt; is_reported(&rt, rt.alloc(), run, workers, "tiles")?);
+        }
+    }
+    Ok(())
+}
+
+/// What `err` gains of such a run: that tiles begin by waves, where it is asked for otherwise, and the report.
+fn reduced_report(
+    alloc: Global,
+    run: &Reduced,
+    workers: &str,
+    sync: &str,
+) -> Result<String, AllocError> {
+    let plan = report_of(alloc, run.plan, run.counts, workers)?;
+    if sync == "waves" {
+        return Ok(plan);
+    }
+    let mut report = String::from_str(alloc, "waves: reduce\n")?;
+    report.push_str(plan.as_str())?;
+    Ok(report)
+}
+
+/// Whether such a run by so many workers, whose tiles are to begin so, prints what is told of it.
+fn is_reduced<R: Threads + Wait + Sync>(
+    rt: &R,
+    alloc: Global,
+    run: &Reduced,
+    workers: &'static str,
+    sync: &'static str,
+) -> Result<bool, AllocError> {
+    let words = [
+        "polypar",
+        "run",
+        "--report",
+        "--tile",
+        run.tile,
+        "--budget",
+        run.budget,
+        "--workers",
+        workers,
+        "--sync",
+        sync,
+        "--reduce",
+    ];
+    let report = reduced_report(alloc, run, workers, sync)?;
+    let answer = call_on(rt, alloc, &words, run.kernel.as_bytes(), &OpenGate)?;
+    Ok(is_answer(answer, run.arrays.as_bytes(), report.as_bytes()))
+}
+
+#[test]
+fn sums_in_any_order_leave_the_same_arrays(rt: HostRuntime) -> Result<(), Fail> {
+    for run in REDUCED {
+        for workers in SUM_WORKERS {
+            assert!(rt; is_reduced(&rt, rt.alloc(), run, workers, "waves")?);
+            assert!(rt; is_reduced(&rt, rt.alloc(), run, workers, "tiles")?);
         }
     }
     Ok(())

@@ -1,4 +1,4 @@
-use Rattle.std.proofs.Common.{[], ◌∷◌, true, Bool, List, refl, subst, sym}
+use Rattle.std.proofs.Common.{Bool, List, refl, subst, sym}
 use Rattle.scop_syntax.specs.Execution.{before_place, exec, layout}
 use Rattle.scop_syntax.specs.Walk.{walk_of}
 use Rattle.scop_syntax.specs.Widths.{HoldTypes, HoldWidths}

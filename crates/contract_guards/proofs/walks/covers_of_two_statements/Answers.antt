@@ -18,4 +18,4 @@ pub returns-clause-closure : goal.returns-clause-closure
 returns-clause-closure c = λ i j. c.conflicts_are_chains_of_covers.ensures.closure (walk_of two (pos 2 ∷ [])) i j
 
 pub returns-clause-rises : goal.returns-clause-rises
-returns-clause-rises c = λ j. c.conflicts_are_chains_of_covers.ensures.rises (walk_of two (pos 2 ∷ [])) 1 j
+returns-clause-rises c = λ cell j. c.conflicts_are_chains_of_covers.ensures.rises (walk_of two (pos 2 ∷ [])) cell 1 j

@@ -2,8 +2,8 @@ use Rattle.std.proofs.Common.{subst, ◌≤◌, ◌+◌}
 use Rattle.planner_guards.proofs.covers.covers_have_the_turns_of_both_ends.Goals as goal
 
 pub returns : goal.returns
-returns c = λ model d is among.
-    let lies = c.covers_lie_between_statements.ensures model 0 d is among in
+returns c = λ model marked d is among.
+    let lies = c.covers_lie_between_statements.ensures model 0 marked d is among in
     let first = subst (λ a. a + d.target.loops ≤ d.system.dimensions) lies.source_loops lies.dependence.turns in (
       lies.from,
       lies.to,

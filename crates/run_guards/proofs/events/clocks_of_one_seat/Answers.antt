@@ -1,6 +1,5 @@
-use Rattle.std.proofs.Common.{◌≡◌, ◌∷◌, ◌∙◌, [], arith, ap, refl, subst, suc, sym}
+use Rattle.std.proofs.Common.{◌≡◌, ◌∙◌, arith, ap, subst, sym}
 use Rattle.std.specs.Prelude.{slice_index, slice_set}
-use mathlib.Core.Option.{some}
 use lib.ListN.{get_elem?}
 use Rattle.tile_events.specs.Example.{two}
 use Rattle.run_guards.proofs.events.clocks_of_one_seat.Goals as goal

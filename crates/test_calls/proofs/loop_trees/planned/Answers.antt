@@ -1,4 +1,4 @@
-use Rattle.std.proofs.Common.{◌∙◌}
+use Rattle.std.proofs.Common.{◌∙◌, []}
 use Rattle.std.proofs.lemmas.Result.{IfOk-weaker}
 use Rattle.scop_syntax.specs.View.{program_of}
 use Rattle.polypar.specs.Trees.{IsScheduleFor}
@@ -6,15 +6,17 @@ use Rattle.test_calls.proofs.loop_trees.planned.Goals.{In-Ok}
 use Rattle.test_calls.proofs.loop_trees.planned.Goals as goal
 
 pub schedule_of-requires-clause-covers : goal.schedule_of-requires-clause-covers
-schedule_of-requires-clause-covers c = c.deref.ensures.value ∙ c.in_ok-deps.ensures
+schedule_of-requires-clause-covers c = ([], c.deref.ensures.value ∙ c.in_ok-deps.ensures)
 
 -- what is found is a schedule for the kernel
-found : (c : In-Ok) → IsScheduleFor (program_of c.args.kernel.now) c.in-Ok.schedule
-found c = c.in-Ok.ensures.found.own (program_of c.args.kernel.now) c.requires.kernel c.in_ok-model.ensures
+found : (c : In-Ok) → IsScheduleFor (program_of c.args.kernel.now) [] c.in-Ok.schedule
+found c =
+    (c.in-Ok.ensures.found [] (c.deref.ensures.value ∙ c.in_ok-deps.ensures)).own (program_of c.args.kernel.now)
+    c.requires.kernel c.in_ok-model.ensures
 
 pub scanned-requires-clause-schedule : goal.scanned-requires-clause-schedule
 scanned-requires-clause-schedule c =
-    (program_of c.args.kernel.now, found (goal.at.scanned-requires-clause-schedule c).In-Ok)
+    (program_of c.args.kernel.now, [], found (goal.at.scanned-requires-clause-schedule c).In-Ok)
 
 pub returns-in-Ok : goal.returns-in-Ok
 returns-in-Ok c =
