@@ -37,6 +37,7 @@ accept() {
 for kernel in "$@"; do
     compare run "$kernel" "${kernel%.c}.out"
     compare 'run --sync tiles --tile 1 --workers 2' "$kernel" "${kernel%.c}.out"
+    compare 'run --reduce --tile 1 --workers 2' "$kernel" "${kernel%.c}.out"
     compare schedule "$kernel" "${kernel%.c}.schedule"
     compare deps "$kernel" "${kernel%.c}.deps"
     compare emit "$kernel" "${kernel%.c}.emit.c"
@@ -85,6 +86,8 @@ many='void m(int64_t N, uint64_t A[8*N+16], uint64_t B[8*N]) { for (int64_t i = 
 many="$many"'for (int64_t i = 0; i < 8*N; i++) B[i] = A[i] + A[i+1] + A[i+2] + A[i+3] + A[i+4] + A[i+5] + A[i+6] + A[i+7] +\n'
 many="$many"'A[i+8] + A[i+9] + A[i+10] + A[i+11] + A[i+12] + A[i+13] + A[i+14] + A[i+15]; }\n%%\nN = 40000\n'
 expect 0 'waves: edges' "$many" run --tile 1 --sync tiles
+sum='void s(int64_t N, uint64_t A[N], uint64_t X[1]) { for (int64_t i = 0; i < N; i++) X[0] += A[i]; }\n%%\nN = 4\n'
+expect 0 'waves: reduce' "$sum" run --reduce --sync tiles
 if [ -c /dev/full ]; then
     "$root/polypar" run <"$root/examples/copy.c" 2>/dev/null >/dev/full
     if [ $? -eq 6 ]; then passed=$((passed + 1)); else failed=$((failed + 1)) && echo "a full device is no write fault"; fi
