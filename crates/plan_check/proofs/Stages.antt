@@ -1,6 +1,6 @@
 -- Stages go from line to line: items suit the kernel and their numbers are not negative, goals stay those of the plan.
 use Rattle.std.proofs.Common.{◌⊎◌, inl, inr, ◌≡◌, ◌∙◌, ap, sym, refl, subst, ℕ, suc, ◌≤◌, Bool, true, false, List, [], ◌∷◌, ◌++◌, length, map, arith}
-use Rattle.std.specs.Prelude.{◌==◌, ◌≤ℤ◌, not, if◌then◌else◌, pos, Option, Some, None, Result, Ok, Err, All}
+use Rattle.std.specs.Prelude.{◌==◌, ◌≤ℤ◌, not, if◌then◌else◌, pos, Option, Some, None, Result, Ok, Err}
 use Rattle.std.specs.List.{slice_index_or}
 use Rattle.std.specs.Option.{option_map}
 use Rattle.std.proofs.lemmas.Int.{ints}

@@ -8,7 +8,7 @@ use Rattle.kernel_grammar.specs.Kernel.{Piece, mark_at, nodes_from}
 use Rattle.kernel_grammar.specs.declared.part.Mark.{Mark}
 use Rattle.kernel_grammar.specs.declared.part.Mark.TheVariants as kept
 use Rattle.scop_units.specs.Bytes.{Text}
-use Rattle.scop_syntax.specs.Tree.{Declaration, Test, Head, Tree, Trees, Program}
+use Rattle.scop_syntax.specs.Tree.{Declaration, Test, Head, Tree, Program}
 use Rattle.scop_syntax.specs.Tree as scop
 use Rattle.scop_syntax.specs.View.{trees_of}
 use Rattle.scop_roles.specs.declared.fault.Fault.{Fault}

@@ -46,9 +46,6 @@ long_name (meaning.Variable k) at = refl
 long_name meaning.Closed at = refl
 long_name (meaning.Array k r narrow) at = refl
 
-pub long_opposite : (f : Formula) (at : ℕ) → (is_signed f && has_name f) ≡ is_long (unary sign.Minus f at)
-long_opposite f at = ap (λ b. is_signed f && b) (twice_not (has_name f))
-
 pub long_sides : (o : Op) (f g : Formula) (at : ℕ)
     → ((is_sum_or_product o && (is_signed f && is_signed g)) && (has_name f || has_name g)) ≡ is_long (binary o f g at)
 long_sides o f g at =

@@ -11,7 +11,7 @@ use Rattle.expression_grammar.specs.Width.{Width}
 use Rattle.expression_grammar.specs.Width.TheVariants as width
 use Rattle.expression_grammar.specs.Tree.{Tree, size}
 use Rattle.expression_grammar.specs.Tree as tree
-use Rattle.scop_syntax.specs.Tree.{Expression, affine, implied, converted, narrowed}
+use Rattle.scop_syntax.specs.Tree.{Expression, affine, implied, converted}
 use Rattle.scop_syntax.specs.Tree as scop
 use Rattle.scop_syntax.specs.Widths.{bits, is_narrow as has_type, IsTypedAs, IsTyped}
 use Rattle.scop_roles.specs.declared.fault.Kind.TheVariants as kind

@@ -8,19 +8,8 @@ ghost use Rattle.stmt_table.specs.Codes.{loaded};
 ghost use Rattle.stmt_table.specs.Tables.{touched};
 
 use scop_meaning::accesses::{access_at, read_count};
+use scop_syntax::marks::is_marked;
 use scop_syntax::tree::{Access, Stmt};
-
-/// Whether an array is one of those that are marked.
-fn is_marked(marked: &[usize], array: usize) -> bool
-    ensures { result ≡ exact_is_marked marked.now array }
-{
-    for mark in marked {
-        if *mark == array {
-            return true;
-        }
-    }
-    false
-}
 
 /// Whether the statement adds to its place, where these arrays are marked.
 pub(crate) fn adds_to_place(marked: &[usize], statement: &Stmt) -> bool

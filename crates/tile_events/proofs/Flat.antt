@@ -77,10 +77,6 @@ act_is marked s point f sum = by_test (is_marked marked s.place.array) refl
     by_test true e = sum_is s.place s.right point f (sum e)
     by_test false e = refl
 
--- no array is marked
-pub none_marked : (visits : List Visit) → AreMarked [] visits
-none_marked visits = record { sums = λ v i e. absurd cc; others = λ v a i h. refl }
-
 -- cells with one number are one
 abbrev pub AreApart : List (List ℕ) → Type 0
 AreApart es = (c d : Cell) → IsCell es c → IsCell es d → cell_number es c ≡ cell_number es d → c ≡ d

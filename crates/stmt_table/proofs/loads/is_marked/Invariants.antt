@@ -1,6 +1,0 @@
-use Rattle.std.proofs.Common.{◌≡◌, drop}
-use Rattle.scop_syntax.specs.Reductions.{is_marked}
-use Rattle.stmt_table.proofs.loads.is_marked.Given as goal
-
-abbrev pub invariant-loop-mark : goal.invariant-loop-mark
-invariant-loop-mark l = is_marked (drop l.mark-index l.marked) l.array ≡ is_marked l.marked l.array
