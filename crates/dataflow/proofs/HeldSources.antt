@@ -10,13 +10,14 @@ use Rattle.scop_syntax.specs.Members.{In}
 use Rattle.scop_syntax.specs.Tree.{Access, Program}
 use Rattle.scop_syntax.proofs.Members.{in_append, in_back, in_front}
 use Rattle.iteration_domains.specs.Dependence.{Dependence}
+use Rattle.iteration_domains.specs.Held.{HoldSources}
 use Rattle.iteration_domains.specs.Model.{Modelled, KernelModel, model_of}
 use Rattle.iteration_domains.specs.Sizes.{IsKernelModel}
 use Rattle.conflict_deps.specs.Conflicts.{Side, sides_from, sides_in, sides_of}
 use Rattle.conflict_deps.proofs.Parts.{stands}
 use Rattle.conflict_deps.proofs.Sides.{in_flat_map_from}
 use Rattle.dataflow.specs.Covering.{LiesBetween, told_deps}
-use Rattle.dataflow.specs.Flow.{AreLastTrees, HoldSources, IsResolved, behind_first, flow_from, flow_of, read_sides}
+use Rattle.dataflow.specs.Flow.{AreLastTrees, IsResolved, behind_first, flow_from, flow_of, read_sides}
 use Rattle.dataflow.specs.Flow.{read_sides_in, tree_in}
 use Rattle.dataflow.specs.Leaves.{leaf_deps}
 use Rattle.dataflow.specs.ReadSources.{AreSources, reads_from, reads_in, reads_of}

@@ -18,7 +18,7 @@ use Rattle.conflict_deps.specs.Conflicts.{Side, sides_of, sides_in, dep_of, afte
 use Rattle.conflict_deps.specs.Conflicts.{After, deps_on, conflicts_of, conflicts_without}
 use Rattle.conflict_deps.proofs.Parts.{stands}
 use Rattle.conflict_deps.proofs.Sides.{in_flat_map_from, in_unless_from, may_to, side_to}
-use Rattle.dataflow.specs.Covering.{HoldConflicts, conflicts_at, is_in_role}
+use Rattle.dataflow.specs.Covering.{HoldConflicts, is_in_role}
 use Rattle.dataflow.specs.Sources.{reader_end, writer_end}
 use Rattle.dataflow.specs.WriterRuns.{candidates_of, chosen_deps, is_candidate}
 

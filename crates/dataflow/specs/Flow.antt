@@ -1,15 +1,13 @@
 -- The dependences that hold each read with its last writer, and nothing else.
-use Rattle.std.specs.Prelude.{◌≡◌, ℕ, suc, ℤ, List, [], ◌∷◌, ◌++◌, Ok, Some, slice_get, ⊤}
+use Rattle.std.specs.Prelude.{◌≡◌, ℕ, suc, List, [], ◌∷◌, ◌++◌, Ok, ⊤}
 use Rattle.std.specs.List.{flat_map}
 use Rattle.quast_trees.specs.Postfix.{tree_of}
 use Rattle.quast_trees.specs.Tree.{Tree, initial}
 use Rattle.quast_joins.specs.declared.way.Way.TheVariants.{Later}
-use Rattle.scop_syntax.specs.Tree.{Access, Program}
-use Rattle.scop_syntax.specs.Walk.{Visit, Instance, walk_of}
-use Rattle.scop_syntax.specs.Writers.{last_of}
+use Rattle.scop_syntax.specs.Tree.{Access}
+use Rattle.scop_syntax.specs.Walk.{Visit, Instance}
 use Rattle.iteration_domains.specs.Model.{Modelled, KernelModel}
 use Rattle.iteration_domains.specs.Dependence.{Dependence}
-use Rattle.iteration_domains.specs.Held.{IsPairIn}
 use Rattle.conflict_deps.specs.Conflicts.{Side, sides_from}
 use Rattle.dataflow.specs.CoverPoints.{IsCoverOf}
 use Rattle.dataflow.specs.Leaves.{leaf_deps}
@@ -72,13 +70,6 @@ AreLastTrees model budget [] (t ∷ ts) = ⊥
 AreLastTrees model budget (r ∷ rs) [] = ⊥
 AreLastTrees model budget (r ∷ rs) (t ∷ ts) =
     (writers_run Later model budget r.0 r.1 ≡ Ok t) × AreLastTrees model budget rs ts
-
--- each read of the walk and its last writer are a pair of one of the dependences; the reads are numbered from 1
-abbrev pub HoldSources : Program → List ℤ → List Dependence → Type 0
-HoldSources program params deps =
-    (i j : ℕ) (v w : Visit) (r : ℕ) → slice_get (walk_of program params) i ≡ Some v
-    → slice_get (walk_of program params) j ≡ Some w → last_of (walk_of program params) j (suc r) ≡ Some i
-    → IsPairIn params deps v w
 
 -- of two instances some read of the later has the earlier as its last writer
 abbrev pub ReadsFrom : List Visit → Instance → Instance → Type 0

@@ -16,7 +16,6 @@ use Rattle.dataflow.specs.ReadSources.{TellsStop, Unresolves, AreSources}
 use Rattle.dataflow.specs.Runs.{sources_run}
 use Rattle.dataflow.specs.Sources.{reader_end}
 use Rattle.dataflow.specs.WriterRuns.{Stopped, forms_fit, solve_run, read_variables}
-use Rattle.dataflow.specs.declared.reads.Halted.{Halted}
 use Rattle.dataflow.specs.declared.reads.Halted.TheVariants as halt
 use Rattle.dataflow.specs.declared.source.ReadSource.{ReadSource}
 use Rattle.dataflow.specs.declared.source.ReadSource.TheVariants as source

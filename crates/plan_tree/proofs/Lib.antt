@@ -1,5 +1,6 @@
 pub mod RunResults
 pub mod ExactVisits
+pub mod FlowSchedules
 pub mod ConflictFreedom
 pub mod KeptOrder
 pub mod MarkedPlaces

@@ -1,5 +1,6 @@
 -- The loop tree of a plan for all parameters at once, and why a schedule has none.
 use Rattle.std.specs.Prelude.{◌≡◌, ℕ, ◌^◌, ◌<◌, ℤ, pos, List, [], length, slice_get, Some, ⊤}
+use Rattle.std.specs.List.{range_with_len}
 use Rattle.scop_syntax.specs.Kernel.{IsKernel}
 use Rattle.scop_syntax.specs.Limits.{HasParameters}
 use Rattle.scop_syntax.specs.Members.{In}
@@ -7,14 +8,14 @@ use Rattle.scop_syntax.specs.Statements.{statements_of}
 use Rattle.scop_syntax.specs.Tree.{Program}
 use Rattle.scop_syntax.specs.Walk.{Instance}
 use Rattle.iteration_domains.specs.Dependence.{Dependence}
-use Rattle.iteration_domains.specs.Held.{HoldCovers}
+use Rattle.iteration_domains.specs.Held.{HoldCovers, HoldSources}
 use Rattle.iteration_domains.specs.Model.{KernelModel, model_of}
 use Rattle.plain_scan.specs.FmStop.{FmStop}
 use Rattle.loop_tree.specs.Fits.{FitsAll}
 use Rattle.loop_tree.specs.Marks.{FlatAll}
 use Rattle.loop_tree.specs.Plans.{CarryOut}
 use Rattle.loop_tree.specs.Shape.{NestAllTo, TreesAreOf, TreesAreOver, TreesAreUpTo}
-use Rattle.loop_tree.specs.Tiling.{Tiling, kept, tiled, items_at}
+use Rattle.loop_tree.specs.Tiling.{IsFlowPlan, Tiling, kept, tiled, items_at}
 use Rattle.loop_tree.specs.Tree.{Trees}
 use Rattle.tile_skew.specs.Items.{Block}
 use Rattle.tile_skew.specs.Next.{IsSizedDep}
@@ -49,6 +50,14 @@ pub record AreTreesOf (program : Program) (marked : List ℕ) (plan : Tiling) (t
   pub fits : (params : List ℤ) → HasParameters program params → FitsAll ts params []
   pub carry_out : (params : List ℤ) → HasParameters program params → CarryOut program params marked plan ts
 
+-- trees of a plan of the program by which no more need stay in order than reads behind their last writers: but for
+-- some arrays, whose conflicts are not kept, they are trees of the plan, and for all parameters in 0..=65536 it is a
+-- flow plan
+pub record AreFlowTreesOf (program : Program) (plan : Tiling) (ts : Trees) : Type 0 where
+  pub apart : List ℕ
+  pub trees : AreTreesOf program apart plan ts
+  pub flow : (params : List ℤ) → HasParameters program params → IsFlowPlan program params plan
+
 -- the schedule is one of dependences between the program's statements that hold the covers of its walk, but for those
 -- by cells of marked arrays, for all parameters in 0..=65536
 pub record IsScheduleFor (program : Program) (marked : List ℕ) (s : Scheduled) : Type 0 where
@@ -56,6 +65,18 @@ pub record IsScheduleFor (program : Program) (marked : List ℕ) (s : Scheduled)
   pub model : s.model ≡ model_of program
   pub sized : (d : Dependence) → In d s.deps → IsSizedDep (loops_in s.model) d
   pub covers : (params : List ℤ) → HasParameters program params → HoldCovers program params marked s.deps
+
+-- a schedule of dependences between the program's statements that hold the reads of its walk with their last writers,
+-- for all parameters in 0..=65536
+pub record IsFlowScheduleFor (program : Program) (s : Scheduled) : Type 0 where
+  pub kernel : IsKernel program
+  pub model : s.model ≡ model_of program
+  pub sized : (d : Dependence) → In d s.deps → IsSizedDep (loops_in s.model) d
+  pub sources : (params : List ℤ) → HasParameters program params → HoldSources program params s.deps
+
+-- all arrays of a program, by their numbers
+abbrev pub arrays_of : Program → List ℕ
+arrays_of program = range_with_len 0 (length program.arrays)
 
 -- the tiling of a program's schedule by tiles of a size
 abbrev pub tiling_of : Program → ℕ → List Block → Tiling

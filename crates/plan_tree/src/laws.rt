@@ -1,5 +1,5 @@
 //! What a tree of a plan is for, as contracts of functions that call the laws which their proofs use.
-ghost use Rattle.std.specs.Prelude.{◌≡◌, ℕ, ℤ, List, [], All, FitsSigned, false, length, map};
+ghost use Rattle.std.specs.Prelude.{◌≡◌, ◌<◌, ℕ, ℤ, List, [], All, FitsSigned, false, length, map};
 ghost use Rattle.std.specs.Int.{w64};
 ghost use Rattle.whole_numbers.specs.Affine.{value_of};
 ghost use Rattle.scop_syntax.specs.Cells.{PlacesConflict, conflict_cell};
@@ -20,13 +20,15 @@ ghost use Rattle.loop_tree.specs.Walk.{Visit, given, visits, walk_all};
 ghost use Rattle.tile_skew.specs.Schedule.{IsScheduled, Scheduled};
 ghost use Rattle.tile_skew.specs.Tilings.{statements_from};
 ghost use Rattle.plan_tree.specs.Executions.{AreVisitsOf};
-ghost use Rattle.plan_tree.specs.Trees.{AreEven, AreTreesOf, IsScheduleFor, StandInOrder, tiling_of};
+ghost use Rattle.plan_tree.specs.Trees.{AreEven, AreFlowTreesOf, AreTreesOf, IsFlowScheduleFor, IsScheduleFor};
+ghost use Rattle.plan_tree.specs.Trees.{StandInOrder, arrays_of, tiling_of};
 
 use conflict_orders::laws::orders_of_walks_end_as_they_do;
-use scop_syntax::limit_laws::values_lie_within_45_bits;
+use scop_syntax::limit_laws::{accesses_have_the_ranks_of_arrays, values_lie_within_45_bits};
 use scop_syntax::walk_laws::{
     instances_are_those_of_statements, statements_are_numbered, walks_are_in_order,
 };
+use tile_skew::laws::tiled_flows_are_flow_plans;
 use tile_skew::schedules_have_small_items;
 
 /// Of two places of the walk that conflict on an array that is not marked, a tree that carries out a plan visits the
@@ -93,4 +95,18 @@ pub fn rows_of_schedules_fit()
     schedules_have_small_items();
     statements_are_numbered();
     values_lie_within_45_bits();
+}
+
+/// A schedule of dependences that hold the reads with their last writers is one of dependences that hold the covers,
+/// but for those on any array of the program: none are left. Where trees carry out its tiles, whichever arrays are
+/// marked, they are those of a flow plan.
+pub fn flow_schedules_have_flow_trees()
+    ensures schedule { (program : Program) (s : Scheduled) → IsFlowScheduleFor program s
+        → IsScheduleFor program (arrays_of program) s }
+    ensures trees { (program : Program) (marked : List ℕ) (size : ℕ) (s : Scheduled) (run : IsScheduled s) (ts : Trees)
+        → 0 < size → IsFlowScheduleFor program s → AreTreesOf program marked (tiling_of program size run.blocks) ts
+        → AreFlowTreesOf program (tiling_of program size run.blocks) ts }
+{
+    accesses_have_the_ranks_of_arrays();
+    tiled_flows_are_flow_plans();
 }

@@ -9,10 +9,10 @@ ghost use Rattle.scop_syntax.specs.Members.{In};
 ghost use Rattle.scop_syntax.specs.Tree.{Program};
 ghost use Rattle.scop_syntax.specs.Walk.{Instance, Visit};
 ghost use Rattle.iteration_domains.specs.Dependence.{Dependence};
-ghost use Rattle.iteration_domains.specs.Held.{HoldCovers};
+ghost use Rattle.iteration_domains.specs.Held.{HoldCovers, HoldSources};
 ghost use Rattle.iteration_domains.specs.Instances.{IsInstanceOf};
 ghost use Rattle.iteration_domains.specs.Model.{KernelModel, Modelled, model_of};
-ghost use Rattle.loop_tree.specs.Tiling.{IsGoodFor, IsGoodPlan, item_values, kept, order_of, tiled};
+ghost use Rattle.loop_tree.specs.Tiling.{IsFlowPlan, IsGoodFor, IsGoodPlan, item_values, kept, order_of, tiled};
 ghost use Rattle.loop_tree.specs.TilingView.{tiling_of};
 ghost use Rattle.schedule_rows.specs.Items.{Block, Marked, values};
 ghost use Rattle.schedule_rows.specs.Next.{IsSizedDep};
@@ -60,6 +60,17 @@ pub fn plans_of_tiles()
         → IsGoodFor program [] marked (schedule_tiling 1 (length (model_of program).statements) blocks) }
 {
     laws::tiled_schedules_are_good_plans();
+}
+
+/// Tiles of size 1 of a schedule over the reads with their last writers are a flow plan, by the clause of
+/// `tiled_flows_are_flow_plans`.
+pub fn flow_plans_of_tiles()
+    ensures { (program : Program) (deps : List Dependence) (blocks : List Block) → program.parameters ≡ []
+        → ((d : Dependence) → In d deps → IsSizedDep (loops_in (model_of program)) d) → HoldSources program [] deps
+        → IsSchedule (model_of program).parameters (loops_in (model_of program)) deps blocks
+        → IsFlowPlan program [] (schedule_tiling 1 (length (model_of program).statements) blocks) }
+{
+    laws::tiled_flows_are_flow_plans();
 }
 
 /// A point of a scan set is the place of an instance, by `points` of `scan_sets_hold_the_instances`, and the place of

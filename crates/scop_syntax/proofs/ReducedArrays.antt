@@ -317,3 +317,7 @@ marks_hold program params found =
       others = λ v g there loaded. unmarked_load (marks program) v.body g (adds v there) loaded
           (is_marked (marks program) g.array) refl;
     }
+
+-- no array need be marked
+pub none_marked : (visits : List Visit) → AreMarked [] visits
+none_marked visits = record { sums = λ v i e. absurd cc; others = λ v a i h. refl }

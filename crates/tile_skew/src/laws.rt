@@ -12,10 +12,10 @@ ghost use Rattle.scop_syntax.specs.Statements.{Placed, statements_of};
 ghost use Rattle.scop_syntax.specs.Tree.{Program};
 ghost use Rattle.scop_syntax.specs.Walk.{Instance, Visit};
 ghost use Rattle.iteration_domains.specs.Dependence.{Dependence};
-ghost use Rattle.iteration_domains.specs.Held.{HoldCovers};
+ghost use Rattle.iteration_domains.specs.Held.{HoldCovers, HoldSources};
 ghost use Rattle.iteration_domains.specs.Instances.{IsInstanceOf};
 ghost use Rattle.iteration_domains.specs.Model.{KernelModel, Modelled, model_of};
-ghost use Rattle.loop_tree.specs.Tiling.{IsGoodFor, IsGoodPlan, item_values, kept, order_of};
+ghost use Rattle.loop_tree.specs.Tiling.{IsFlowPlan, IsGoodFor, IsGoodPlan, item_values, kept, order_of};
 ghost use Rattle.schedule_rows.specs.Items.{Block, Marked, values};
 ghost use Rattle.schedule_rows.specs.Next.{IsSizedDep};
 ghost use Rattle.schedule_rows.specs.Outcomes.{IsSchedule};
@@ -27,8 +27,12 @@ ghost use Rattle.tile_skew.specs.Tilings.{first_band, form_at, schedule_tiling, 
 
 use iteration_domains::domain_laws::domains_hold_the_instances;
 use null_space::{kernel_vectors_are_kept, rows_take_kernel_vectors};
-use schedule_rows::{schedules_have_small_items, schedules_of_covers_are_good_plans};
-use scop_syntax::walk_laws::{instances_are_those_of_statements, statements_are_numbered};
+use schedule_rows::{
+    schedules_are_good_plans, schedules_have_small_items, schedules_of_covers_are_good_plans,
+};
+use scop_syntax::walk_laws::{
+    instances_are_those_of_statements, statements_are_numbered, walks_are_in_order,
+};
 
 /// The tiling of a schedule of dependences that hold the covers of a program's walk, but for those on marked arrays, is
 /// a good plan but for these, for any size of tiles: two places that conflict on another array lie in one tile, the
@@ -44,6 +48,23 @@ pub fn tiled_schedules_are_good_plans()
     instances_are_those_of_statements();
     statements_are_numbered();
     schedules_of_covers_are_good_plans();
+}
+
+/// The tiling of a schedule of dependences that hold the reads of a program's walk with their last writers is a flow plan,
+/// for any size of tiles: a read and its last writer lie in one tile, the writer first, or the wave rises from the writer
+/// to the read.
+pub fn tiled_flows_are_flow_plans()
+    ensures { (program : Program) (deps : List Dependence) (blocks : List Block) (params : List ℤ) (size : ℕ)
+        → length params ≡ length program.parameters → 0 < size
+        → ((d : Dependence) → In d deps → IsSizedDep (loops_in (model_of program)) d)
+        → HoldSources program params deps
+        → IsSchedule (model_of program).parameters (loops_in (model_of program)) deps blocks
+        → IsFlowPlan program params (schedule_tiling size (length (model_of program).statements) blocks) }
+{
+    instances_are_those_of_statements();
+    statements_are_numbered();
+    walks_are_in_order();
+    schedules_are_good_plans();
 }
 
 /// The whole points of a statement's scan set are exactly the places of its instances, at all parameters.
