@@ -1,6 +1,7 @@
 -- From what certifying answers to the text that is printed.
 use Rattle.std.proofs.Common.{◌≡◌, ◌∙◌, sym, subst, ap, refl, inl, inr, ℕ, true, List, [], Option, Result, Ok, Err}
 use Rattle.scop_syntax.specs.Tree.{Program}
+use Rattle.iteration_domains.specs.Dependence.{Dependence}
 use Rattle.iteration_domains.specs.Model.{KernelModel, model_of}
 use Rattle.pluto_search.specs.Schedule.{Scheduled, loops_in}
 use Rattle.plan_certificate.specs.KeptLine.{KeptLine}
@@ -13,7 +14,7 @@ use Rattle.plan_certificate.specs.declared.stop.CertifyStop.{CertifyStop}
 use Rattle.plan_certificate.specs.declared.stop.CertifyStop.TheVariants as stop
 use Rattle.plan_certificate.specs.Gives.{IsTold}
 use Rattle.kernel_plans.specs.Certifying.{IsCertificateText, IsGivenText}
-use Rattle.kernel_plans.specs.Planning.{IsCauseOf, IsLineText}
+use Rattle.kernel_plans.specs.Planning.{IsCauseOf, IsLineText, IsSearched, covers_in}
 use Rattle.kernel_plans.specs.Found.{IsFound, IsKeptLine}
 use Rattle.kernel_plans.proofs.SearchLemmas.{OneSchedule, program_searched}
 use Rattle.kernel_plans.proofs.TextLemmas.{kept_cause}
@@ -38,11 +39,11 @@ goal_given program s told goal text same (given, certifies, is) line =
     let first : given ≡ Err goal = subst (λ t. IsTold (uncertified_in t) given) same is in
     (given, certifies, subst (λ g. IsGivenText program g text) (sym first) line)
 
--- what certifying the schedule gives that is found
-pub schedule_certified : OneSchedule → (budget : ℕ) (program : Program) (model : KernelModel) (s : Scheduled)
-    (text : List ℕ) → model ≡ model_of program → IsFound budget [] model s → IsGivenOf program s text
-    → IsCertificateText budget program text
-schedule_certified one budget program model s text own found (given, certifies, told) =
+-- what certifying the schedule gives that is found over the covers
+pub schedule_certified : OneSchedule → (budget : ℕ) (deps : List Dependence) (program : Program) (model : KernelModel)
+    (s : Scheduled) (text : List ℕ) → model ≡ model_of program → deps ≡ covers_in budget [] program
+    → IsFound budget deps model s → IsGivenOf program s text → IsCertificateText budget program text
+schedule_certified one budget deps program model s text own covers found (given, certifies, told) =
     let is = found.searches in
     let blocks = is.2.blocks in
     let same : certifies.blocks ≡ blocks =
@@ -52,15 +53,18 @@ schedule_certified one budget program model s text own found (given, certifies, 
     ∙ ap (certificate_of (model_of program)) same) in
     inl (
       blocks,
-      program_searched budget [] program model s own found,
+      subst (λ ds. IsSearched budget ds (model_of program) blocks) covers
+          (program_searched budget deps program model s own found),
       subst (λ g. IsGivenText program g text) given_is told,
     )
 
 -- the line of what keeps the order
-pub kept_certified : (budget : ℕ) (program : Program) (model : KernelModel) (line : Option KeptLine) (text : List ℕ)
-    → model ≡ model_of program → IsKeptLine budget [] model line → IsLineText line text
-    → IsCertificateText budget program text
-kept_certified budget program model line text own kept is =
+pub kept_certified : (budget : ℕ) (deps : List Dependence) (program : Program) (model : KernelModel)
+    (line : Option KeptLine) (text : List ℕ) → model ≡ model_of program → deps ≡ covers_in budget [] program
+    → IsKeptLine budget deps model line → IsLineText line text → IsCertificateText budget program text
+kept_certified budget deps program model line text own covers kept is =
+    let Told : List Dependence → KernelModel → Type 0 =
+    λ ds m. (told : KeptLine) × IsCauseOf budget ds m told × (text ≡ kept_text told) in
     inr
-    (subst (λ m. (told : KeptLine) × IsCauseOf budget [] m told × (text ≡ kept_text told)) own
-    (kept_cause budget model line text kept is))
+    (subst (λ ds. Told ds (model_of program)) covers
+    (subst (λ m. Told deps m) own (kept_cause budget deps model line text kept is)))

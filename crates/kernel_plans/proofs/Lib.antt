@@ -1,5 +1,6 @@
+pub mod BetweenLemmas
 pub mod CertificateLemmas
-pub mod CoverLemmas
+pub mod FlowLemmas
 pub mod PlanLemmas
 pub mod SearchLemmas
 pub mod TextLemmas

@@ -7,6 +7,7 @@ use Rattle.scop_syntax.specs.Limits.{HasParameters}
 use Rattle.scop_syntax.specs.Members.{In}
 use Rattle.scop_syntax.specs.Tree.{Program}
 use Rattle.scop_syntax.specs.Walk.{Instance}
+use Rattle.iteration_domains.specs.Dependence.{Dependence}
 use Rattle.iteration_domains.specs.Model.{KernelModel, model_of}
 use Rattle.fm_projection.specs.declared.stop.FmStop.{FmStop}
 use Rattle.pluto_search.specs.Stuck.TheVariants as stuck
@@ -22,9 +23,9 @@ use Rattle.plan_tree.specs.Trees.{AreTreesOf, IsScheduleFor, StopsTiled, tiling_
 use Rattle.plan_certificate.specs.KeptLine.{KeptLine}
 use Rattle.kernel_plans.specs.declared.plans.Planned.{Planned}
 use Rattle.kernel_plans.specs.Planned.{IsCauseOfKept, IsPlanned}
-use Rattle.kernel_plans.specs.Planning.{IsCauseOf, IsSearched, line_of}
+use Rattle.kernel_plans.specs.Planning.{IsCauseOf, IsSearched, covers_in, line_of}
 use Rattle.kernel_plans.specs.Found.{IsKeptLine}
-use Rattle.kernel_plans.specs.steps.Plans.{IsKeptPlan, IsTiledPlan}
+use Rattle.kernel_plans.specs.steps.Plans.{IsKeptPlan, IsPlanOver, IsTiledPlan}
 
 -- at what the trees of a schedule's tiles visit, the values of the rows of the first band have 64 bits
 abbrev pub RowsFitAlong : Type 0
@@ -46,12 +47,12 @@ tiled_fits fit tile marked program s run ts low own carried params has = record 
 }
 
 -- the plan of a schedule's tiles
-pub tiled_is_planned : RowsFitAlong → (tile budget : ℕ) (report : Bool) (marked : List ℕ) (program : Program)
-    (s : Scheduled) (run : IsScheduled s) (ts : Trees) (p : Planned) → 1 ≤ tile → IsScheduleFor program marked s
-    → IsSearched budget marked (model_of program) run.blocks
+pub tiled_is_plan : RowsFitAlong → (tile budget : ℕ) (report : Bool) (deps : List Dependence) (marked : List ℕ)
+    (program : Program) (s : Scheduled) (run : IsScheduled s) (ts : Trees) (p : Planned) → 1 ≤ tile
+    → IsScheduleFor program marked s → IsSearched budget deps (model_of program) run.blocks
     → AreTreesOf program marked (tiling_of program tile run.blocks) ts
-    → IsTiledPlan tile report s ts p → IsPlanned tile budget report marked program p
-tiled_is_planned fit tile budget report marked program s run ts p low own found carried made =
+    → IsTiledPlan tile report s ts p → IsPlanOver tile budget report deps marked program p
+tiled_is_plan fit tile budget report deps marked program s run ts p low own found carried made =
     let plan = tiling_of program tile run.blocks in
     let is : tiling_in p.tiling ≡ plan = made.is run
     ∙ ap (λ (m : KernelModel). schedule_tiling tile (length m.statements) run.blocks) own.model in
@@ -73,10 +74,11 @@ kept_fits : (plan : Tiling) (xs : List Instance) → plan ≡ kept → CanTile p
 kept_fits plan xs is = subst (λ t. CanTile t xs) (sym is) (record { size = tt; rows = λ x i. tt })
 
 -- the kept order, with the line of a cause
-kept_is_planned : (tile budget : ℕ) (report : Bool) (marked : List ℕ) (program : Program) (line : Option KeptLine)
-    (p : Planned) → (made : IsKeptPlan program line p)
-    → IsCauseOfKept tile budget marked (model_of program) made.told.0 → IsPlanned tile budget report marked program p
-kept_is_planned tile budget report marked program line p made cause = record {
+kept_is_plan : (tile budget : ℕ) (report : Bool) (deps : List Dependence) (marked : List ℕ) (program : Program)
+    (line : Option KeptLine) (p : Planned) → (made : IsKeptPlan program line p)
+    → IsCauseOfKept tile budget deps (model_of program) made.told.0
+    → IsPlanOver tile budget report deps marked program p
+kept_is_plan tile budget report deps marked program line p made cause = record {
   planned = inr (record {
     why = made.told.0;
     cause = cause;
@@ -89,13 +91,13 @@ kept_is_planned tile budget report marked program line p made cause = record {
 }
 
 -- where the scan of the schedule's sets stops
-pub stopped_is_planned : (tile budget : ℕ) (report : Bool) (marked : List ℕ) (program : Program) (s : Scheduled)
-    (run : IsScheduled s) (stop : FmStop) (line : Option KeptLine) (p : Planned) → IsScheduleFor program marked s
-    → IsSearched budget marked (model_of program) run.blocks → StopsTiled s.model tile run.blocks stop
-    → line ≡ line_of (stuck.Elimination stop) → IsKeptPlan program line p
-    → IsPlanned tile budget report marked program p
-stopped_is_planned tile budget report marked program s run stop line p own found stops same made =
-    kept_is_planned tile budget report marked program line p made (inr (
+pub stopped_is_plan : (tile budget : ℕ) (report : Bool) (deps : List Dependence) (marked : List ℕ) (program : Program)
+    (s : Scheduled) (run : IsScheduled s) (stop : FmStop) (line : Option KeptLine) (p : Planned)
+    → IsScheduleFor program marked s → IsSearched budget deps (model_of program) run.blocks
+    → StopsTiled s.model tile run.blocks stop → line ≡ line_of (stuck.Elimination stop) → IsKeptPlan program line p
+    → IsPlanOver tile budget report deps marked program p
+stopped_is_plan tile budget report deps marked program s run stop line p own found stops same made =
+    kept_is_plan tile budget report deps marked program line p made (inr (
       run.blocks,
       stop,
       found,
@@ -104,9 +106,18 @@ stopped_is_planned tile budget report marked program s run stop line p own found
     ))
 
 -- where the search stops
-pub unscheduled_is_planned : (tile budget : ℕ) (report : Bool) (marked : List ℕ) (program : Program)
-    (model : KernelModel) (line : Option KeptLine) (p : Planned) → model ≡ model_of program
-    → IsKeptLine budget marked model line → IsKeptPlan program line p → IsPlanned tile budget report marked program p
-unscheduled_is_planned tile budget report marked program model line p own cause made =
-    kept_is_planned tile budget report marked program line p made
-    (inl (subst (λ m. IsCauseOf budget marked m made.told.0) own (cause made.told.0 made.told.1)))
+pub unscheduled_is_plan : (tile budget : ℕ) (report : Bool) (deps : List Dependence) (marked : List ℕ)
+    (program : Program) (model : KernelModel) (line : Option KeptLine) (p : Planned) → model ≡ model_of program
+    → IsKeptLine budget deps model line → IsKeptPlan program line p
+    → IsPlanOver tile budget report deps marked program p
+unscheduled_is_plan tile budget report deps marked program model line p own cause made =
+    kept_is_plan tile budget report deps marked program line p made
+    (inl (subst (λ m. IsCauseOf budget deps m made.told.0) own (cause made.told.0 made.told.1)))
+
+-- over the covers it is a plan of the program
+pub plan_of_covers : (tile budget : ℕ) (report : Bool) (deps : List Dependence) (marked : List ℕ) (program : Program)
+    (p : Planned) → deps ≡ covers_in budget marked program → IsPlanOver tile budget report deps marked program p
+    → IsPlanned tile budget report marked program p
+plan_of_covers tile budget report deps marked program p covers made =
+    let over = subst (λ ds. IsPlanOver tile budget report ds marked program p) covers made in
+    record { planned = over.planned; fits = over.fits }

@@ -4,6 +4,7 @@ pub mod Planned
 pub mod Planning
 pub mod steps
 -- Passed on: what this crate's contracts are told in.
+pub use Rattle.dataflow.specs.Flow
 pub use Rattle.dataflow.specs.Pairs
 pub use Rattle.dataflow.specs.Places
 pub use Rattle.dataflow.specs.Posed
@@ -11,10 +12,14 @@ pub use Rattle.dataflow.specs.ReadSources
 pub use Rattle.dataflow.specs.Told
 pub use Rattle.dataflow.specs.Way
 pub use Rattle.dataflow.specs.declared.source.ReadSource
+pub use Rattle.dataflow.specs.declared.source.SourceStop
 pub use Rattle.plan_certificate.specs.DepsText
 pub use Rattle.plan_certificate.specs.Status
 pub use Rattle.plan_certificate.specs.StatusText
 pub use Rattle.plan_certificate.specs.TilesText
+pub use Rattle.plan_certificate.specs.UnexpandedLine
+pub use Rattle.plan_certificate.specs.UnexpandedText
 pub use Rattle.plan_tree.specs.Executions
 pub use Rattle.plan_tree.specs.Trees
 pub use Rattle.tile_list.specs.Counting
+pub use Rattle.tile_list.specs.Tiles

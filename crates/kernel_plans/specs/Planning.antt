@@ -1,6 +1,7 @@
--- What `schedule` prints of a kernel: its schedule, or why its order is kept.
+-- What a search over a model's dependences finds, or why the order is kept; and what `schedule` prints of a kernel.
 use Rattle.std.specs.Prelude.{◌≡◌, ◌⊎◌, ℕ, List, [], Option, Some, None}
 use Rattle.scop_syntax.specs.Tree.{Program}
+use Rattle.iteration_domains.specs.Dependence.{Dependence}
 use Rattle.iteration_domains.specs.Model.{KernelModel, model_of}
 use Rattle.dataflow.specs.Covering.{covers_of}
 use Rattle.fm_projection.specs.declared.FmStop.TheVariants as elimination
@@ -42,30 +43,31 @@ line_of_kept (kept.Large row) = Some line.Large
 abbrev pub IsLineText : Option KeptLine → List ℕ → Type 0
 IsLineText told text = (some : KeptLine) × (told ≡ Some some) × (text ≡ kept_text some)
 
--- the blocks are the schedule of the determined run over the covers of the model, but for those on marked arrays, as
--- this budget tells them
-abbrev pub IsScheduleOf : ℕ → List ℕ → KernelModel → List Block → Type 0
-IsScheduleOf budget marked model blocks =
-    IsSchedule model.parameters (loops_in model) (covers_of budget marked model) blocks
+-- the blocks are the schedule of the determined run over these dependences of the model
+abbrev pub IsScheduleOf : List Dependence → KernelModel → List Block → Type 0
+IsScheduleOf deps model blocks = IsSchedule model.parameters (loops_in model) deps blocks
 
 -- it is what a search with this budget finds: all questions that the run poses are answered within it
-abbrev pub IsSearched : ℕ → List ℕ → KernelModel → List Block → Type 0
-IsSearched budget marked model blocks =
-    IsScheduleOf budget marked model blocks
-    × ComesAnswered model.parameters (loops_in model) budget (covers_of budget marked model) (ends blocks)
+abbrev pub IsSearched : ℕ → List Dependence → KernelModel → List Block → Type 0
+IsSearched budget deps model blocks =
+    IsScheduleOf deps model blocks × ComesAnswered model.parameters (loops_in model) budget deps (ends blocks)
 
--- what a kept line tells holds: the determined run over the model's covers comes to that outcome, or a question that
--- the search for it poses with this budget stops so
-abbrev pub IsCauseOf : ℕ → List ℕ → KernelModel → KeptLine → Type 0
-IsCauseOf budget marked model told =
-    (cause : Kept) × Keeps model.parameters (loops_in model) (covers_of budget marked model) budget cause
-    × (line_of_kept cause ≡ Some told)
+-- what a kept line tells holds: the determined run over these dependences comes to that outcome, or a question that the
+-- search for it poses with this budget stops so
+abbrev pub IsCauseOf : ℕ → List Dependence → KernelModel → KeptLine → Type 0
+IsCauseOf budget deps model told =
+    (cause : Kept) × Keeps model.parameters (loops_in model) deps budget cause × (line_of_kept cause ≡ Some told)
+
+-- the covers of a program, but for those on marked arrays, as this budget tells them
+abbrev pub covers_in : ℕ → List ℕ → Program → List Dependence
+covers_in budget marked program = covers_of budget marked (model_of program)
 
 -- the text is that of the schedule that is found over all covers, or the kept line of a cause that holds
 abbrev pub IsPlanOf : ℕ → KernelModel → List ℕ → Type 0
 IsPlanOf budget model text =
-    ((blocks : List Block) × IsSearched budget [] model blocks × (text ≡ schedule_text blocks))
-    ⊎ ((told : KeptLine) × IsCauseOf budget [] model told × (text ≡ kept_text told))
+    ((blocks : List Block) × IsSearched budget (covers_of budget [] model) model blocks
+    × (text ≡ schedule_text blocks))
+    ⊎ ((told : KeptLine) × IsCauseOf budget (covers_of budget [] model) model told × (text ≡ kept_text told))
 
 -- the same of a program's model
 abbrev pub IsPlanText : ℕ → Program → List ℕ → Type 0

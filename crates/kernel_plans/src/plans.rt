@@ -1,14 +1,14 @@
 //! Plans with their lines: of a schedule's tiles, and of the kernel's own order.
 
-ghost use Rattle.std.specs.Prelude.{◌≡◌, ◌≤◌, ℕ, Bool, IfOk};
+ghost use Rattle.std.specs.Prelude.{◌≡◌, ◌≤◌, ℕ, Bool, IfOk, [], true, false};
 ghost use Rattle.scop_syntax.specs.Kernel.{IsKernel};
 ghost use Rattle.scop_syntax.specs.Tree.{Program};
 ghost use Rattle.scop_syntax.specs.View.{program_of};
 ghost use Rattle.loop_tree.specs.TilingView.{tiling_of};
 ghost use Rattle.loop_tree.specs.View.{trees_in};
-ghost use Rattle.plan_tree.specs.Trees.{AreTreesOf};
+ghost use Rattle.plan_tree.specs.Trees.{AreFlowTreesOf, AreTreesOf};
 ghost use Rattle.pluto_search.specs.Schedule.{IsScheduled};
-ghost use Rattle.kernel_plans.specs.Planned.{IsPlanned, added_in, report_of};
+ghost use Rattle.kernel_plans.specs.Planned.{IsExpandedPlan, IsPlanned, added_in, is_tiled, report_of};
 ghost use Rattle.kernel_plans.specs.steps.Plans.{IsKeptPlan, IsTiledPlan};
 
 use crate::lines::line_text;
@@ -39,6 +39,23 @@ impl Planned {
         match self.tiling {
             Tiling::Kept => &[],
             Tiling::Tiled(_, _) => marked,
+        }
+    }
+
+    /// Whether the plan is of tiles. One for runs in which each instance has a copy of its own is then a flow plan;
+    /// else it keeps the order.
+    pub fn is_tiled(&self) -> bool
+        ensures is { result ≡ is_tiled (tiling_of self.now.tiling) }
+        ensures tiled { result ≡ true → (tile budget : ℕ) (report : Bool) (program : Program)
+            → IsExpandedPlan tile budget report program self.now
+            → AreFlowTreesOf program (tiling_of self.now.tiling) (trees_in self.now.tree) }
+        ensures kept { result ≡ false → (tile budget : ℕ) (report : Bool) (program : Program)
+            → IsExpandedPlan tile budget report program self.now
+            → AreTreesOf program [] (tiling_of self.now.tiling) (trees_in self.now.tree) }
+    {
+        match self.tiling {
+            Tiling::Kept => false,
+            Tiling::Tiled(_, _) => true,
         }
     }
 }

@@ -1,9 +1,11 @@
-//! The dependences of a kernel's covers, and the schedule that is found over them.
+//! The dependences of a kernel's covers, and the schedule that is found over dependences.
 
-ghost use Rattle.std.specs.Prelude.{◌≡◌, IfErr, IfOk, List, ℕ};
+ghost use Rattle.std.specs.Prelude.{◌≡◌, IfErr, IfOk};
+ghost use Rattle.scop_syntax.specs.Tree.{Program};
+ghost use Rattle.iteration_domains.specs.Model.{model_of};
 ghost use Rattle.dataflow.specs.Covering.{covers_of};
 ghost use Rattle.dataflow.specs.Posed.{IsOfKernel};
-ghost use Rattle.kernel_plans.specs.Found.{IsFound, IsKeptLine};
+ghost use Rattle.kernel_plans.specs.Found.{HoldFor, IsFound, IsKeptLine, LieBetween};
 
 use crate::lines::line_of_kept;
 use conflict_deps::conflicts_without;
@@ -26,13 +28,19 @@ pub fn covers(
     budget: u64,
 ) -> Result<Vec<Dep>, AllocError>
     requires { IsOfKernel model.now }
-    ensures { IfOk result (λ deps. deps.items ≡ covers_of budget marked.now model.now) }
+    ensures deps { IfOk result (λ deps. deps.items ≡ covers_of budget marked.now model.now) }
+    ensures between { IfOk result (λ deps. LieBetween model.now deps.items) }
+    ensures held { IfOk result (λ deps. (program : Program) → model.now ≡ model_of program
+        → HoldFor program marked.now deps.items) }
 {
+    covers_lie_between_statements();
+    covers_are_held();
     let all = conflicts_without(alloc, model, marked)?;
     covering(alloc, model, &all, marked, budget)
 }
 
-/// The schedule that is found over these, where each question of the search may make `budget` moves of the solver.
+/// The schedule that is found over dependences between the model's statements, where each question of the search may
+/// make `budget` moves of the solver.
 ///
 /// # Errors
 /// The line that tells why the order is kept; none for want of memory.
@@ -42,15 +50,10 @@ pub fn schedule_of<'a>(
     deps: &'a [Dep],
     budget: u64,
 ) -> Result<Schedule<'a>, Option<KeptLine>>
-    requires kernel { IsOfKernel model.now }
-    requires covers { (marked : List ℕ) × (deps.now ≡ covers_of budget marked model.now) }
-    ensures found { (marked : List ℕ) → deps.now ≡ covers_of budget marked model.now
-        → IfOk result (IsFound budget marked model.now) }
-    ensures kept { (marked : List ℕ) → deps.now ≡ covers_of budget marked model.now
-        → IfErr result (IsKeptLine budget marked model.now) }
+    requires { LieBetween model.now deps.now }
+    ensures found { IfOk result (IsFound budget deps.now model.now) }
+    ensures kept { IfErr result (IsKeptLine budget deps.now model.now) }
 {
-    covers_lie_between_statements();
-    covers_are_held();
     match search(alloc, model, deps, budget) {
         Ok(schedule) => Ok(schedule),
         Err(kept) => {

@@ -12,6 +12,8 @@ pub use Rattle.report_text.specs.ScheduleText
 pub use Rattle.report_text.specs.StatusText
 pub use Rattle.report_text.specs.TilesText
 pub use Rattle.report_text.specs.UncertifiedText
+pub use Rattle.report_text.specs.UnexpandedText
 pub use Rattle.report_text.specs.declared.kept_line.KeptLine
 pub use Rattle.report_text.specs.declared.status.Status
+pub use Rattle.report_text.specs.declared.unexpanded_line.UnexpandedLine
 pub use Rattle.wide_math.specs.Gives

@@ -25,7 +25,7 @@ pub use stop::CertifyStop;
 
 // Passed on: lines and texts that commands tell.
 pub use report_text::{
-    DataRefusal, FaultKind, KeptLine, Outside, Refusal, RefusalKind, Status, deps_text, edges_text,
-    kept_text, schedule_text, status_line, tiles_text, uncertified_text, waves_edges_text,
-    waves_reduce_text,
+    DataRefusal, FaultKind, KeptLine, Outside, Refusal, RefusalKind, Status, UnexpandedLine,
+    deps_text, edges_text, kept_text, schedule_text, status_line, tiles_text, uncertified_text,
+    unexpanded_text, waves_edges_text, waves_reduce_text,
 };

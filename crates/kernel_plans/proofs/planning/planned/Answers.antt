@@ -1,37 +1,32 @@
--- The plan is that of the schedule that is found; where the search stops, the kept order's.
-use Rattle.std.proofs.Common.{◌∙◌}
+-- The plan over the covers is one of the program.
+use Rattle.std.proofs.Common.{◌∙◌, ap, sym, subst}
 use Rattle.std.proofs.lemmas.Result.{IfOk-weaker}
 use Rattle.scop_syntax.specs.View.{program_of}
-use Rattle.kernel_plans.proofs.PlanLemmas.{unscheduled_is_planned}
-use Rattle.kernel_plans.proofs.SearchLemmas.{program_searched}
+use Rattle.dataflow.specs.Covering.{covers_of}
+use Rattle.kernel_plans.specs.Found.{HoldFor, LieBetween}
+use Rattle.kernel_plans.proofs.PlanLemmas.{plan_of_covers}
 use Rattle.kernel_plans.proofs.planning.planned.Goals as goal
 
 pub covers-requires : goal.covers-requires
 covers-requires c = (program_of c.args.kernel.now, c.requires.kernel, c.requires.model)
 
-pub schedule_of-requires-clause-kernel : goal.schedule_of-requires-clause-kernel
-schedule_of-requires-clause-kernel c = (program_of c.args.kernel.now, c.requires.kernel, c.requires.model)
+pub plan_over-requires-clause-between : goal.plan_over-requires-clause-between
+plan_over-requires-clause-between c =
+    subst (LieBetween c.args.model.now) (sym c.deref.ensures.value) c.in-Ok.ensures.between
 
-pub schedule_of-requires-clause-covers : goal.schedule_of-requires-clause-covers
-schedule_of-requires-clause-covers c = (c.args.marked.now, c.deref.ensures.value ∙ c.in-Ok.ensures)
-
-pub schedule_plan-requires-clause-program : goal.schedule_plan-requires-clause-program
-schedule_plan-requires-clause-program c =
-    let found = c.in-Ok-schedule_of.ensures.found c.args.marked.now (c.deref.ensures.value ∙ c.in-Ok.ensures) in
-    (c.args.marked.now, found.own (program_of c.args.kernel.now) c.requires.kernel c.requires.model)
-
-pub returns-in-Ok-schedule_of : goal.returns-in-Ok-schedule_of
-returns-in-Ok-schedule_of c =
-    let program = program_of c.args.kernel.now in
-    let found = c.in-Ok-schedule_of.ensures.found c.args.marked.now (c.deref.ensures.value ∙ c.in-Ok.ensures) in
-    c.schedule_plan.ensures found.searches.2 c.args.marked.now (found.own program c.requires.kernel c.requires.model)
-    (program_searched c.args.budget c.args.marked.now program c.args.model.now c.in-Ok-schedule_of.schedule
-    c.requires.model found)
+pub plan_over-requires-clause-held : goal.plan_over-requires-clause-held
+plan_over-requires-clause-held c = (
+  c.args.marked.now,
+  subst (HoldFor (program_of c.args.kernel.now) c.args.marked.now) (sym c.deref.ensures.value)
+      (c.in-Ok.ensures.held (program_of c.args.kernel.now) c.requires.model),
+)
 
 pub returns : goal.returns
 returns c =
-    IfOk-weaker c.kept_plan.result _ _
-    (λ p made. unscheduled_is_planned c.args.tile c.args.budget c.args.report c.args.marked.now
-    (program_of c.args.kernel.now) c.args.model.now c.in-Err-schedule_of.line p c.requires.model
-    (c.in-Err-schedule_of.ensures.kept c.args.marked.now (c.deref.ensures.value ∙ c.in-Ok.ensures)) made)
-    c.kept_plan.ensures
+    let program = program_of c.args.kernel.now in
+    let marked = c.args.marked.now in
+    IfOk-weaker c.plan_over.result _ _
+    (λ p made. plan_of_covers c.args.tile c.args.budget c.args.report c.deref.result.now marked program p
+    (c.deref.ensures.value ∙ (c.in-Ok.ensures.deps ∙ ap (covers_of c.args.budget marked) c.requires.model)) made)
+    (c.plan_over.ensures marked
+    (subst (HoldFor program marked) (sym c.deref.ensures.value) (c.in-Ok.ensures.held program c.requires.model)))

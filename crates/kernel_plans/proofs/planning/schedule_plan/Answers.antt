@@ -2,22 +2,22 @@
 use Rattle.std.proofs.lemmas.Result.{IfOk-weaker}
 use Rattle.scop_syntax.specs.View.{program_of}
 use Rattle.loop_tree.specs.View.{trees_in}
-use Rattle.kernel_plans.proofs.PlanLemmas.{stopped_is_planned, tiled_is_planned}
+use Rattle.kernel_plans.proofs.PlanLemmas.{stopped_is_plan, tiled_is_plan}
 use Rattle.kernel_plans.proofs.planning.schedule_plan.Goals as goal
 
 pub returns-in-Ok : goal.returns-in-Ok
-returns-in-Ok c s marked own found =
+returns-in-Ok c s deps marked own found =
     let program = program_of c.args.kernel.now in
     IfOk-weaker c.tiled_plan.result _ _
-    (λ p made. tiled_is_planned c.rows_of_schedules_fit.ensures c.args.tile c.args.budget c.args.report
+    (λ p made. tiled_is_plan c.rows_of_schedules_fit.ensures c.args.tile c.args.budget c.args.report deps
     marked program c.args.schedule.now s (trees_in c.in-Ok.tree) p c.requires.tile.0 own found
     (c.in-Ok.ensures.tree program marked own s) made)
     c.tiled_plan.ensures
 
 pub returns-in-Err : goal.returns-in-Err
-returns-in-Err c s marked own found =
+returns-in-Err c s deps marked own found =
     IfOk-weaker c.kept_plan.result _ _
-    (λ p made. stopped_is_planned c.args.tile c.args.budget c.args.report marked (program_of c.args.kernel.now)
+    (λ p made. stopped_is_plan c.args.tile c.args.budget c.args.report deps marked (program_of c.args.kernel.now)
     c.args.schedule.now s c.in-Err.stop c.line_of-line.result p own found (c.in-Err.ensures.stops s)
     c.line_of-line.ensures made)
     c.kept_plan.ensures
