@@ -1,0 +1,4 @@
+pub mod Firsts
+pub mod KeptMarks
+pub mod PassedPlaces
+pub mod ListedEntries
