@@ -1,6 +1,6 @@
 -- Along a stretch: what is left so many instances on, which tile holds them, and how a pass goes on by them.
-use Rattle.std.proofs.Common.{◌≡◌, ◌≤◌, ◌<◌, ◌+◌, ◌-◌, ℕ, zero, suc, ℤ, pos, List, [], ◌∷◌, ◌++◌, ap, ap₂, sym, refl, ◌∙◌, subst}
-use Rattle.std.proofs.Common.{Some, inr, arith, length, take, get_or, drop, map}
+use Rattle.std.proofs.Common.{◌≡◌, ◌≤◌, ◌<◌, ◌+◌, ◌-◌, ℕ, zero, suc, ℤ, pos, Bool, List, [], ◌∷◌, ◌++◌, ap, ap₂, sym}
+use Rattle.std.proofs.Common.{refl, ◌∙◌, subst, Some, inr, arith, length, take, get_or, drop, map}
 use Rattle.std.specs.Prelude.{◌+ℤ◌, ◌*ℤ◌, All, slice_get}
 use Rattle.std.proofs.lemmas.Int.{ints}
 use Rattle.std.proofs.lemmas.List.{length-append}
@@ -150,55 +150,56 @@ in_drop x (suc n) [] i = i
 in_drop x (suc n) (y ∷ xs) i = inr (in_drop x n xs i)
 
 -- so the rows fit at what is left of a stretch
-pub fit_ahead : (program : Program) (params : List ℤ) (ts : Trees) (tiling : Tiling) (list : TileList) (table : Table)
-    (spot : Spot) (kept : Traces) (found : Pairs) → CanPass program params tiling list table
-    → IsOnItsWay program params tiling list (to_come ts params spot) kept found → AllRowsFit tiling spot.stretch
-fit_ahead program params ts tiling list table spot kept found can way x i =
+pub fit_ahead : (flow : Bool) (program : Program) (params : List ℤ) (ts : Trees) (tiling : Tiling) (list : TileList)
+    (table : Table) (spot : Spot) (kept : Traces) (found : Pairs) → CanPass program params tiling list table
+    → IsOnItsWay flow program params tiling list (to_come ts params spot) kept found → AllRowsFit tiling spot.stretch
+fit_ahead flow program params ts tiling list table spot kept found can way x i =
     can.fits x (in_drop x way.done (map instance (walk_of program params)) (subst (λ xs. In x xs) way.left
     (in_front x (left_of spot.stretch) (left_of_braid spot.braid ++ rest_of ts (marks_in spot) params []) i)))
 
 -- the next places of a stretch are passed one by one
-module _ (program : Program) (params : List ℤ) (tiling : Tiling) (list : TileList) (table : Table)
+module _ (flow : Bool) (program : Program) (params : List ℤ) (tiling : Tiling) (list : TileList) (table : Table)
     (can : CanPass program params tiling list table) (laws : WalkLaws) (small : AreSmall) (ts : Trees) (spot : Spot) where
   abbrev next_on : (k : ℕ) (kept : Traces) (found : Pairs) → k < spot.stretch.left
-      → IsOnItsWay program params tiling list (to_come_on ts params spot k) kept found
-      → NextPlace program params tiling list table can (moved_on spot.stretch (suc k)) (to_come_on ts params spot (suc k))
-      kept found
+      → IsOnItsWay flow program params tiling list (to_come_on ts params spot k) kept found
+      → NextPlace flow program params tiling list table can (moved_on spot.stretch (suc k))
+      (to_come_on ts params spot (suc k)) kept found
   next_on k kept found less =
-      next_place program params tiling list table can (moved_on spot.stretch (suc k)) (to_come_on ts params spot k)
+      next_place flow program params tiling list table can (moved_on spot.stretch (suc k)) (to_come_on ts params spot k)
       (to_come_on ts params spot (suc k)) kept found (first_left ts params spot k less)
 
   pub row_ahead : (kept : Traces) (found : Pairs) → 0 < spot.stretch.left
-      → IsOnItsWay program params tiling list (to_come_on ts params spot 0) kept found
+      → IsOnItsWay flow program params tiling list (to_come_on ts params spot 0) kept found
       → spot.stretch.before.statement < length table.rows.items
   row_ahead kept found some way =
-      row_within program params tiling list table can laws small (moved_on spot.stretch 1) (to_come_on ts params spot 1)
-      kept found (next_on 0 kept found some way)
+      row_within flow program params tiling list table can laws small (moved_on spot.stretch 1)
+      (to_come_on ts params spot 1) kept found (next_on 0 kept found some way)
 
   pub can_ahead : (k : ℕ) (kept : Traces) (found : Pairs) (row : Row) (cells : List ℕ) → k < spot.stretch.left
       → slice_get table.rows.items spot.stretch.before.statement ≡ Some row
       → cells ≡ cells_at row (turns_in spot.stretch (suc k))
-      → IsOnItsWay program params tiling list (to_come_on ts params spot k) kept found → CanTake cells kept found
+      → IsOnItsWay flow program params tiling list (to_come_on ts params spot k) kept found
+      → CanTake flow cells kept found
   can_ahead k kept found row cells less told are way =
       let x = moved_on spot.stretch (suc k) in
       let rest = to_come_on ts params spot (suc k) in
       let next = next_on k kept found less way in
-      can_take program params tiling list table can x rest kept found next cells
-      (are ∙ cells_told program params tiling list table can laws small x rest kept found next row told)
+      can_take flow program params tiling list table can x rest kept found next cells
+      (are ∙ cells_told flow program params tiling list table can laws small x rest kept found next row told)
 
   pub gone_ahead : (k n t : ℕ) (kept kept_then : Traces) (found found_then : Pairs) (row : Row) (cells : List ℕ)
       → k < n → n ≤ spot.stretch.left → LieIn tiling list t spot.stretch n
       → slice_get table.rows.items spot.stretch.before.statement ≡ Some row
       → cells ≡ cells_at row (turns_in spot.stretch (suc k))
-      → IsOnItsWay program params tiling list (to_come_on ts params spot k) kept found
-      → HasTaken cells t kept found kept_then found_then
-      → IsOnItsWay program params tiling list (to_come_on ts params spot (suc k)) kept_then found_then
+      → IsOnItsWay flow program params tiling list (to_come_on ts params spot k) kept found
+      → HasTaken flow cells t kept found kept_then found_then
+      → IsOnItsWay flow program params tiling list (to_come_on ts params spot (suc k)) kept_then found_then
   gone_ahead k n t kept kept_then found found_then row cells less few lie told are way took =
       let x = moved_on spot.stretch (suc k) in
-      step_on program params tiling list table can laws small x (to_come_on ts params spot k)
+      step_on flow program params tiling list table can laws small x (to_come_on ts params spot k)
       (to_come_on ts params spot (suc k)) kept kept_then found found_then
       (first_left ts params spot k (omega (arith, less, few))) way
-      (λ other at. is_taken tiling list x kept kept_then found found_then other row cells x.turns t
+      (λ other at. is_taken flow tiling list x kept kept_then found found_then other row cells x.turns t
       (lie (suc k) (omega arith) (omega (arith, less))) are refl (sym at ∙ told) took)
 
 -- nothing was passed yet

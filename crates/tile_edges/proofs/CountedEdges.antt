@@ -1,5 +1,5 @@
 -- The pairs of tiles by their numbers in a list are those by waves and coordinates.
-use Rattle.std.proofs.Common.{◌≡◌, ℕ, ℤ, List, [], Option, Some, None, ap, ap₂, sym, refl, ◌∙◌, subst, arith}
+use Rattle.std.proofs.Common.{◌≡◌, ℕ, ℤ, Bool, List, [], Option, Some, None, ap, ap₂, sym, refl, ◌∙◌, subst, arith}
 use Rattle.std.proofs.Common.{length, map}
 use Rattle.std.specs.Prelude.{slice_get}
 use Rattle.std.specs.Option.{option_map}
@@ -40,7 +40,7 @@ from_map f xs i y e = by_option (slice_get xs i) refl
     by_option (Some x) h =
         let k = sym (slice_get-map f xs i ∙ ap (option_map f) h) ∙ e in (x, h, cc)
 
-module _ (program : Program) (params : List ℤ) (ts : Trees) (tiling : Tiling) (list : TileList)
+module _ (flow : Bool) (program : Program) (params : List ℤ) (ts : Trees) (tiling : Tiling) (list : TileList)
     (is : IsTileListOf ts params tiling list) where
   abbrev walk : List Visit
   walk = walk_of program params
@@ -79,7 +79,7 @@ module _ (program : Program) (params : List ℤ) (ts : Trees) (tiling : Tiling) 
       })
 
   -- a pair of numbers gives one of names
-  edge : (t u : ℕ) → Waits program params tiling list t u → IsEdge tiling walk (name t) (name u)
+  edge : (t u : ℕ) → Waits flow program params tiling list t u → IsEdge flow tiling walk (name t) (name u)
   edge t u w = record {
     apart = λ e. w.apart (one_number t u w.first.tile.tile w.second.tile.tile w.first.tile.is w.second.tile.is e);
     earlier = w.earlier;
@@ -95,8 +95,8 @@ module _ (program : Program) (params : List ℤ) (ts : Trees) (tiling : Tiling) 
   -- so do lists of them
   edges_between : (found : List (ℕ × ℕ))
       → ((i j : ℕ) (pair : ℕ × ℕ) → slice_get found i ≡ Some pair → slice_get found j ≡ Some pair → i ≡ j)
-      → ((t u : ℕ) → In (t, u) found → Waits program params tiling list t u)
-      → AreEdgesBetween tiling walk (map both_names found)
+      → ((t u : ℕ) → In (t, u) found → Waits flow program params tiling list t u)
+      → AreEdgesBetween flow tiling walk (map both_names found)
   edges_between found apart each = record {
     apart = λ i j pair at bt.
         let p = from_map both_names found i pair at in
@@ -112,11 +112,12 @@ module _ (program : Program) (params : List ℤ) (ts : Trees) (tiling : Tiling) 
     each = λ first second i.
         let p = in_map_from both_names (first, second) found i in
         let e = edge p.0.0 p.0.1 (each p.0.0 p.0.1 p.1) in
-        subst (λ (k : TileName). IsEdge tiling walk k second) (sym (ap (λ (k : TileName × TileName). k.0) p.2))
-        (subst (λ (k : TileName). IsEdge tiling walk (name p.0.0) k) (sym (ap (λ (k : TileName × TileName). k.1) p.2)) e);
+        subst (λ (k : TileName). IsEdge flow tiling walk k second) (sym (ap (λ (k : TileName × TileName). k.0) p.2))
+        (subst (λ (k : TileName). IsEdge flow tiling walk (name p.0.0) k)
+        (sym (ap (λ (k : TileName × TileName). k.1) p.2)) e);
   }
 
-  pub counted_more : AreTooMany program params tiling list → HasMoreEdges tiling walk
+  pub counted_more : AreTooMany flow program params tiling list → HasMoreEdges flow tiling walk
   counted_more many = record {
     pairs = map both_names many.found;
     count = length-map many.found both_names ∙ many.count;
@@ -134,7 +135,7 @@ module _ (program : Program) (params : List ℤ) (ts : Trees) (tiling : Tiling) 
       (t.0, record { visit = h.visit; is = h.is; tile = t.1 })
 
   module _ (once : AreOnce) (e : TileEdges) (order : AreInOrder program params tiling (visits ts params))
-      (are : AreEdgesOf program params tiling list e) where
+      (are : AreEdgesOf flow program params tiling list e) where
     abbrev pair : ℕ → ℕ × ℕ
     pair i = (tile_at (edges_of e).start (length list.tiles.items) i, (edges_of e).target i)
 
@@ -149,19 +150,19 @@ module _ (program : Program) (params : List ℤ) (ts : Trees) (tiling : Tiling) 
         once (length list.tiles.items) (edges_of e) are.rows i j a.0 b.0 (ap (λ (x : ℕ × ℕ). x.0) same)
         (ap (λ (x : ℕ × ℕ). x.1) same)
 
-    found_waits : (t u : ℕ) → In (t, u) found → Waits program params tiling list t u
+    found_waits : (t u : ℕ) → In (t, u) found → Waits flow program params tiling list t u
     found_waits t u i =
         let r = listed_in pair 0 (length e.targets.items) (t, u) i in
         let less = r.1 in
         (are.pairs t u).0 (r.0, omega (arith, less), ap (λ (x : ℕ × ℕ). x.0) (sym r.2), ap (λ (x : ℕ × ℕ). x.1) (sym r.2))
 
-    waits_found : (t u : ℕ) → Waits program params tiling list t u → In (t, u) found
+    waits_found : (t u : ℕ) → Waits flow program params tiling list t u → In (t, u) found
     waits_found t u w =
         let l = (are.pairs t u).1 w in
         subst (λ p. In p found) (ap₂ (λ (x y : ℕ). (x, y)) l.2 l.3)
         (in_listed pair (length e.targets.items) l.0 l.1)
 
-    pub counted : HasEdges tiling walk (length e.targets.items)
+    pub counted : HasEdges flow tiling walk (length e.targets.items)
     counted = record {
       pairs = map both_names found;
       count = length-map found both_names ∙ listed_many pair 0 (length e.targets.items);
@@ -171,7 +172,7 @@ module _ (program : Program) (params : List ℤ) (ts : Trees) (tiling : Tiling) 
           let b = holder order h.later second h.holds_later in
           let one = one_name a.0 h.earlier first a.1 h.holds_earlier in
           let two = one_name b.0 h.later second b.1 h.holds_later in
-          let w : Waits program params tiling list a.0 b.0 = record {
+          let w : Waits flow program params tiling list a.0 b.0 = record {
             apart = λ k. h.apart (one ∙ (ap name k ∙ sym two));
             earlier = h.earlier;
             later = h.later;

@@ -1,6 +1,6 @@
--- The pairs that a pass has found are those of covers.
-use Rattle.std.proofs.Common.{◌≡◌, ◌<◌, ◌≤◌, ◌+◌, ℕ, zero, suc, ℤ, List, [], ◌∷◌, Some, ap, ap₂, sym, refl}
-use Rattle.std.proofs.Common.{◌∙◌, subst, arith, length, get_or, ⊎_elim, inl, inr}
+-- The pairs that a pass has found are those of places that wait for one another.
+use Rattle.std.proofs.Common.{◌≡◌, ◌<◌, ◌≤◌, ◌+◌, ℕ, zero, suc, ℤ, Bool, true, false, List, [], ◌∷◌, Some, ap, ap₂, sym}
+use Rattle.std.proofs.Common.{refl, ◌∙◌, subst, arith, length, get_or, ⊎_elim, inl, inr}
 use Rattle.std.specs.Prelude.{slice_get}
 use Rattle.std.proofs.lemmas.List.{length-map}
 use Rattle.std.proofs.lemmas.Option.{slice_get_within}
@@ -24,12 +24,16 @@ use Rattle.tile_events.specs.Deal.{tile_at}
 use Rattle.tile_events.specs.Flat.{IsWalk}
 use Rattle.tile_events.specs.Plan.{Plan}
 use Rattle.tile_events.specs.Releases.{AreEdges, Edges}
+use Rattle.tile_events.proofs.Flat.{AreApart}
 use Rattle.tile_edges.specs.Edges.{AreEdgesOf, AreTooMany, Holds, IsTileOf, LeadsOf, Waits, edges_of}
 use Rattle.tile_edges.specs.declared.waiting.TileEdges.{TileEdges}
 use Rattle.tile_edges.specs.declared.pairing.Pairs.{Pairs}
+use Rattle.tile_edges.specs.Waiting.{WaitsFor}
+use Rattle.tile_edges.specs.steps.Passing.{sources_at}
 use Rattle.tile_edges.specs.steps.Rows.{AreRowsOf, joined, rows_in}
 use Rattle.tile_edges.specs.steps.Walks.{AreFound, CanPass, touched}
 use Rattle.tile_edges.proofs.FindingTiles.{first_visited, has_tile_of, one_tile, tiles_rise}
+use Rattle.tile_edges.proofs.LastWriters.{met_writes, writes_met}
 use Rattle.tile_edges.proofs.Passing.{covers_found, found_covers}
 use Rattle.tile_edges.proofs.RowEdges.{edges_are, edges_by, in_leads, in_within, joined_in, leads_in, many_starts}
 
@@ -97,8 +101,9 @@ in_listed f k i less =
     let same : 0 + i ≡ i = omega arith in
     subst (λ n. In (f n) (listing f 0 k)) same (in_listing f 0 k i less)
 
-module _ (law : AreWalkCovers) (once : AreOnce) (program : Program) (params : List ℤ) (ts : Trees) (tiling : Tiling)
-    (list : TileList) (limits : WithinLimits program params) (inside : IsInside program params)
+module _ (law : AreWalkCovers) (own : (extents : List (List ℕ)) → AreApart extents) (once : AreOnce) (flow : Bool)
+    (program : Program) (params : List ℤ) (ts : Trees) (tiling : Tiling) (list : TileList)
+    (limits : WithinLimits program params) (inside : IsInside program params)
     (is : IsTileListOf ts params tiling list) where
   abbrev walk : List Visit
   walk = walk_of program params
@@ -112,6 +117,15 @@ module _ (law : AreWalkCovers) (once : AreOnce) (program : Program) (params : Li
       (record { written = λ j. refl; read = λ j. refl; adds = λ c cell. refl; value = λ j xs. refl; initial = λ c cell. refl })
       inside refl i j
 
+  -- what is met at a place is what it waits for
+  met_waits : (flow : Bool) (i j : ℕ) → j < p.places → In i (sources_at flow p j) → WaitsFor flow walk i j
+  met_waits true i j less h = met_writes own program params inside i j less h
+  met_waits false i j less h = (both i j).0 (found_covers p j i less h)
+
+  waits_met : (flow : Bool) (i j : ℕ) → WaitsFor flow walk i j → (j < p.places) × In i (sources_at flow p j)
+  waits_met true i j w = writes_met own program params inside i j w.0 w.1
+  waits_met false i j w = let c = (both i j).1 w in (c.within, covers_found p j i c)
+
   -- a place is held by one tile
   one_holds : (t u i : ℕ) → Holds walk tiling list t i → Holds walk tiling list u i → t ≡ u
   one_holds t u i h k =
@@ -120,7 +134,7 @@ module _ (law : AreWalkCovers) (once : AreOnce) (program : Program) (params : Li
       one_tile ts params tiling list is t u (instance h.visit) h.tile
       (subst (λ v. IsTileOf tiling list u (instance v)) (sym same) k.tile)
 
-  module _ (most : ℕ) (pairs : Pairs) (found : AreFound program params tiling list most pairs) where
+  module _ (most : ℕ) (pairs : Pairs) (found : AreFound flow program params tiling list most pairs) where
     abbrev rows : List (List ℕ)
     rows = rows_in pairs
 
@@ -128,7 +142,7 @@ module _ (law : AreWalkCovers) (once : AreOnce) (program : Program) (params : Li
     many = length-map pairs.rows.items (λ s. s.keys) ∙ found.long
 
     -- what is in a row waits
-    waits : (t u : ℕ) → In u (get_or rows t []) → Waits program params tiling list t u
+    waits : (t u : ℕ) → In u (get_or rows t []) → Waits flow program params tiling list t u
     waits t u i =
         let s = found.pairs.sound t u i in
         let less = s.1.2 in
@@ -137,7 +151,7 @@ module _ (law : AreWalkCovers) (once : AreOnce) (program : Program) (params : Li
           apart = s.0;
           earlier = s.1.0;
           later = s.1.1;
-          cover = (both s.1.0 s.1.1).0 (found_covers p s.1.0 s.1.1 (omega (arith, less, within)) s.1.3);
+          cover = met_waits flow s.1.0 s.1.1 (omega (arith, less, within)) s.1.3;
           first = s.1.4;
           second = s.1.5;
         }
@@ -152,11 +166,12 @@ module _ (law : AreWalkCovers) (once : AreOnce) (program : Program) (params : Li
         omega (arith, less, count)
 
     -- all that wait are in rows, where all places were passed
-    all_wait : found.done ≡ length walk → (t u : ℕ) → Waits program params tiling list t u → In u (get_or rows t [])
+    all_wait : found.done ≡ length walk → (t u : ℕ) → Waits flow program params tiling list t u
+        → In u (get_or rows t [])
     all_wait all t u w =
-        let c = (both w.earlier w.later).1 w.cover in
-        let less = c.within in
-        let r = found.pairs.complete w.earlier w.later (omega (arith, less, all)) (covers_found p w.earlier w.later c) in
+        let m = waits_met flow w.earlier w.later w.cover in
+        let less = m.0 in
+        let r = found.pairs.complete w.earlier w.later (omega (arith, less, all)) m.1 in
         let first = one_holds r.0 t w.earlier r.2 w.first in
         let second = one_holds r.1 u w.later r.3 w.second in
         ⊎_elim (λ e. absurd (w.apart (sym first ∙ (e ∙ second))))
@@ -182,7 +197,7 @@ module _ (law : AreWalkCovers) (once : AreOnce) (program : Program) (params : Li
           (subst (λ x. LeadsOf (length rows) x t u) (sym same)
           (subst (λ n. LeadsOf n (edges_of e) t u) (sym many) l))
 
-      pub are_edges : found.done ≡ length walk → AreEdgesOf program params tiling list e
+      pub are_edges : found.done ≡ length walk → AreEdgesOf flow program params tiling list e
       are_edges all = record {
         rows = edged;
         starts = ap length are.starts ∙ (many_starts 0 rows ∙ ap suc many);
@@ -196,14 +211,14 @@ module _ (law : AreWalkCovers) (once : AreOnce) (program : Program) (params : Li
         needs = λ u less. let count = many in are.needs u (omega (arith, less, count));
       }
 
-      pub edges_found : length e.targets.items ≤ 4194304 → most ≡ 4194304 → AreEdgesOf program params tiling list e
+      pub edges_found : length e.targets.items ≤ 4194304 → most ≡ 4194304 → AreEdgesOf flow program params tiling list e
       edges_found few is =
           let count = found.count in
           let same = ap length are.targets in
           are_edges (found.all (omega (arith, few, is, count, same)))
 
       -- more pairs than there may be
-      pub too_many : 4194304 < length e.targets.items → AreTooMany program params tiling list
+      pub too_many : 4194304 < length e.targets.items → AreTooMany flow program params tiling list
       too_many more = record {
         found = listing pair 0 4194305;
         count = listed_many pair 0 4194305;

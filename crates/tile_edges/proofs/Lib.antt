@@ -7,6 +7,7 @@ pub mod RowLists
 pub mod RowEdges
 pub mod FindingTiles
 pub mod PassedPlaces
+pub mod LastWriters
 pub mod FoundEdges
 pub mod KeptTraces
 pub mod CountedEdges

@@ -1,6 +1,6 @@
 -- A pass over the walk goes on by one place.
-use Rattle.std.proofs.Common.{◌≡◌, ◌<◌, ◌≤◌, ◌^◌, ℕ, zero, suc, ℤ, List, [], ◌∷◌, ◌++◌, Some, ap, ap₂, sym, refl, ◌∙◌, subst, arith}
-use Rattle.std.proofs.Common.{length, map, get_or, drop}
+use Rattle.std.proofs.Common.{◌≡◌, ◌<◌, ◌≤◌, ◌^◌, ℕ, zero, suc, ℤ, Bool, List, [], ◌∷◌, ◌++◌, Some, ap, ap₂, sym, refl}
+use Rattle.std.proofs.Common.{◌∙◌, subst, arith, length, map, get_or, drop}
 use Rattle.std.specs.Prelude.{slice_get}
 use Rattle.std.specs.Option.{option_map}
 use Rattle.std.proofs.lemmas.List.{length-map}
@@ -21,12 +21,11 @@ use Rattle.loop_tree.specs.Tiling.{Tiling}
 use Rattle.tile_list.specs.declared.list.TileList.{TileList}
 use Rattle.tile_events.specs.Flat.{read_by, written_by}
 use Rattle.tile_edges.specs.Edges.{IsTileOf}
-use Rattle.tile_edges.specs.steps.Gains.{Gains}
 use Rattle.tile_edges.specs.steps.Rows.{AreKept, joined, rows_in}
 use Rattle.tile_edges.specs.steps.Touches.{AreEven, marks_in, readers_in}
-use Rattle.tile_edges.specs.steps.Traces.{AreTraces, met}
+use Rattle.tile_edges.specs.steps.Traces.{AreTraces, met_at}
 use Rattle.tile_edges.specs.steps.Walks.{AreFound, CanPass, CanTake, HasPassed, HasTaken, IsOnItsWay, IsTaken, cells_at}
-use Rattle.tile_edges.specs.steps.Walks.{held_by, met_at, touched}
+use Rattle.tile_edges.specs.steps.Walks.{held_by, touched}
 use Rattle.tile_edges.specs.declared.pairing.Pairs.{Pairs}
 use Rattle.tile_edges.specs.declared.touching.Traces.{Traces}
 use Rattle.tile_edges.proofs.Traces.{met_place, none_traced, pairs_more, traced_more}
@@ -68,7 +67,7 @@ none_left [] n e = omega arith
 none_left (x ∷ xs) zero e = absurd cc
 none_left (x ∷ xs) (suc n) e = let l = none_left xs n e in omega (arith, l)
 
-module _ (program : Program) (params : List ℤ) (tiling : Tiling) (list : TileList) (table : Table)
+module _ (flow : Bool) (program : Program) (params : List ℤ) (tiling : Tiling) (list : TileList) (table : Table)
     (can : CanPass program params tiling list table) where
   abbrev walk : List Visit
   walk = walk_of program params
@@ -79,11 +78,11 @@ module _ (program : Program) (params : List ℤ) (tiling : Tiling) (list : TileL
     pub visit : Visit
     pub at : slice_get walk n ≡ Some visit
     pub same : instance visit ≡ x
-    pub passed : HasPassed program params tiling list n kept found
+    pub passed : HasPassed flow program params tiling list n kept found
     pub left : rest ≡ drop (suc n) (map instance walk)
 
   pub next_place : (x : Instance) (all rest : List Instance) (kept : Traces) (found : Pairs) → all ≡ x ∷ rest
-      → IsOnItsWay program params tiling list all kept found → NextPlace x rest kept found
+      → IsOnItsWay flow program params tiling list all kept found → NextPlace x rest kept found
   next_place x all rest kept found is way =
       let next = next_left (map instance walk) way.done x rest (sym is ∙ way.left) in
       let less = slice_get_within (map instance walk) way.done x next.0 in
@@ -149,7 +148,7 @@ module _ (program : Program) (params : List ℤ) (tiling : Tiling) (list : TileL
   pub can_take : (x : Instance) (rest : List Instance) (kept : Traces) (found : Pairs)
       → (next : NextPlace x rest kept found) (cells : List ℕ)
       → cells ≡ (touched program params).written next.n ∷ (touched program params).read next.n
-      → CanTake cells kept found
+      → CanTake flow cells kept found
   can_take x rest kept found next cells are = record {
     even = next.passed.even;
     kept_is = next.passed.kept_is;
@@ -157,10 +156,12 @@ module _ (program : Program) (params : List ℤ) (tiling : Tiling) (list : TileL
         let both : w ∷ rs ≡ (touched program params).written next.n ∷ (touched program params).read next.n =
         sym e ∙ are in
         let first : w ≡ (touched program params).written next.n = cc in
-        let met_there = subst (λ cs. In t (met_at kept cs ((touched program params).written next.n))) are
-        (subst (λ c. In t (met_at kept cells c)) first i) in
+        let others : rs ≡ (touched program params).read next.n = cc in
+        let met_there = subst (λ c. In t (met_at flow (marks_in kept) (readers_in kept) c
+        ((touched program params).read next.n))) first
+        (subst (λ cs. In t (met_at flow (marks_in kept) (readers_in kept) w cs)) others i) in
         let place = met_place (held_by program params tiling list) (touched program params) next.n (marks_in kept)
-        (readers_in kept) next.passed.traces t met_there in
+        (readers_in kept) flow next.passed.traces t met_there in
         let tile = place.2.tile in
         let less = slice_get_within list.tiles.items t tile.tile tile.is in
         let long = next.passed.long in
@@ -171,8 +172,8 @@ module _ (program : Program) (params : List ℤ) (tiling : Tiling) (list : TileL
   pub gone_on : (x : Instance) (rest : List Instance) (kept kept_then : Traces) (found found_then : Pairs)
       → (next : NextPlace x rest kept found) (cells : List ℕ)
       → cells ≡ (touched program params).written next.n ∷ (touched program params).read next.n
-      → IsTaken tiling list x cells kept found kept_then found_then
-      → IsOnItsWay program params tiling list rest kept_then found_then
+      → IsTaken flow tiling list x cells kept found kept_then found_then
+      → IsOnItsWay flow program params tiling list rest kept_then found_then
   gone_on x rest kept kept_then found found_then next cells are took =
       let p = touched program params in
       let H = held_by program params tiling list in
@@ -182,8 +183,7 @@ module _ (program : Program) (params : List ℤ) (tiling : Tiling) (list : TileL
         is = next.at;
         tile = subst (IsTileOf tiling list took.tile) (sym next.same) took.is;
       } in
-      let gains = subst (λ cs. Gains (met (marks_in kept) cs ++ get_or (readers_in kept) (p.written n) []) took.tile
-      (rows_in found) (rows_in found_then)) are (took.taken.gains (p.written n) (p.read n) are) in
+      let gains = took.taken.gains (p.written n) (p.read n) are in
       let long = next.passed.long in
       let same = gains.long in
       let seen = length-map found.rows.items (λ s. s.keys) in
@@ -195,10 +195,10 @@ module _ (program : Program) (params : List ℤ) (tiling : Tiling) (list : TileL
         left = next.left;
         passed = record {
           even = took.taken.even;
-          traces = traced_more H p n took.tile (marks_in kept) (marks_in kept_then) (readers_in kept)
+          traces = traced_more H p n flow took.tile (marks_in kept) (marks_in kept_then) (readers_in kept)
               (readers_in kept_then) holds next.passed.traces (took.taken.visited (p.written n) (p.read n) are);
-          pairs = pairs_more H p n took.tile (marks_in kept) (readers_in kept) (rows_in found) (rows_in found_then) holds
-              next.passed.traces next.passed.pairs gains;
+          pairs = pairs_more H p n (marks_in kept) (readers_in kept) flow took.tile (rows_in found) (rows_in found_then)
+              holds next.passed.traces next.passed.pairs gains;
           rises = gains.rises next.passed.rises;
           kept_is = took.taken.kept_is;
           long = omega (arith, long, same, seen, seen_then);
@@ -207,7 +207,7 @@ module _ (program : Program) (params : List ℤ) (tiling : Tiling) (list : TileL
 
   -- what a pass has found where it ends
   pub found_all : (most : ℕ) (all : List Instance) (kept : Traces) (found : Pairs) → all ≡ []
-      → IsOnItsWay program params tiling list all kept found → AreFound program params tiling list most found
+      → IsOnItsWay flow program params tiling list all kept found → AreFound flow program params tiling list most found
   found_all most all kept found none way =
       let past = none_left (map instance walk) way.done (sym none ∙ way.left) in
       let long = length-map walk instance in
@@ -224,7 +224,7 @@ module _ (program : Program) (params : List ℤ) (tiling : Tiling) (list : TileL
 
   -- and where it stops
   pub found_many : (most : ℕ) (rest : List Instance) (kept : Traces) (found : Pairs) → most < found.count
-      → IsOnItsWay program params tiling list rest kept found → AreFound program params tiling list most found
+      → IsOnItsWay flow program params tiling list rest kept found → AreFound flow program params tiling list most found
   found_many most rest kept found many way = record {
     done = way.done;
     within = way.within;
@@ -237,10 +237,10 @@ module _ (program : Program) (params : List ℤ) (tiling : Tiling) (list : TileL
 
   module _ (laws : WalkLaws) (small : AreSmall) where
     pub step_on : (x : Instance) (all rest : List Instance) (kept kept_then : Traces) (found found_then : Pairs)
-        → all ≡ x ∷ rest → IsOnItsWay program params tiling list all kept found
+        → all ≡ x ∷ rest → IsOnItsWay flow program params tiling list all kept found
         → ((row : Row) → slice_get table.rows.items x.number ≡ Some row
-        → IsTaken tiling list x (cells_at row x.turns) kept found kept_then found_then)
-        → IsOnItsWay program params tiling list rest kept_then found_then
+        → IsTaken flow tiling list x (cells_at row x.turns) kept found kept_then found_then)
+        → IsOnItsWay flow program params tiling list rest kept_then found_then
     step_on x all rest kept kept_then found found_then is way took =
         let next = next_place x all rest kept found is way in
         let has = has_row laws small x rest kept found next in
@@ -263,16 +263,17 @@ no_row (row ∷ rows) e (suc t) = no_row rows (back row e) t
     back (x ∷ xs) e = absurd cc
 
 -- before all places
-pub none_passed : (program : Program) (params : List ℤ) (tiling : Tiling) (list : TileList) (kept : Traces) (found : Pairs)
-    → AreEven kept → marks_in kept ≡ [] → readers_in kept ≡ [] → length found.rows.items ≡ length list.tiles.items
-    → joined (rows_in found) ≡ [] → AreKept found → HasPassed program params tiling list 0 kept found
-none_passed program params tiling list kept found even marks readers long none kept_is =
+pub none_passed : (flow : Bool) (program : Program) (params : List ℤ) (tiling : Tiling) (list : TileList)
+    (kept : Traces) (found : Pairs) → AreEven kept → marks_in kept ≡ [] → readers_in kept ≡ []
+    → length found.rows.items ≡ length list.tiles.items → joined (rows_in found) ≡ [] → AreKept found
+    → HasPassed flow program params tiling list 0 kept found
+none_passed flow program params tiling list kept found even marks readers long none kept_is =
     let H = held_by program params tiling list in
     let p = touched program params in
     record {
       even = even;
-      traces = subst (λ ms. AreTraces H p 0 ms (readers_in kept)) (sym marks)
-          (subst (λ rs. AreTraces H p 0 [] rs) (sym readers) (none_traced H p 0));
+      traces = subst (λ ms. AreTraces flow H p 0 ms (readers_in kept)) (sym marks)
+          (subst (λ rs. AreTraces flow H p 0 [] rs) (sym readers) (none_traced H p 0 flow));
       pairs = record {
         sound = λ t u i. absurd (subst (λ row. In u row) (no_row (rows_in found) none t) i);
         complete = λ i k less s. absurd (omega (arith, less));
@@ -283,16 +284,16 @@ none_passed program params tiling list kept found even marks readers long none k
     }
 
 -- a place whose cells were told by a row
-pub is_taken : (tiling : Tiling) (list : TileList) (x : Instance) (kept kept_then : Traces) (found found_then : Pairs)
-    (row given : Row) (cells : List ℕ) (turns : List ℤ) (tile : ℕ) → IsTileOf tiling list tile x
-    → cells ≡ cells_at given turns → turns ≡ x.turns → Some row ≡ Some given
-    → HasTaken cells tile kept found kept_then found_then
-    → IsTaken tiling list x (cells_at row x.turns) kept found kept_then found_then
-is_taken tiling list x kept kept_then found found_then row given cells turns tile is told at both taken =
+pub is_taken : (flow : Bool) (tiling : Tiling) (list : TileList) (x : Instance) (kept kept_then : Traces)
+    (found found_then : Pairs) (row given : Row) (cells : List ℕ) (turns : List ℤ) (tile : ℕ)
+    → IsTileOf tiling list tile x → cells ≡ cells_at given turns → turns ≡ x.turns → Some row ≡ Some given
+    → HasTaken flow cells tile kept found kept_then found_then
+    → IsTaken flow tiling list x (cells_at row x.turns) kept found kept_then found_then
+is_taken flow tiling list x kept kept_then found found_then row given cells turns tile is told at both taken =
     let same : given ≡ row = cc in
     record {
       tile = tile;
       is = is;
-      taken = subst (λ cs. HasTaken cs tile kept found kept_then found_then)
+      taken = subst (λ cs. HasTaken flow cs tile kept found kept_then found_then)
           (told ∙ ap₂ (λ (r : Row) (ts : List ℤ). cells_at r ts) same at) taken;
     }

@@ -1,6 +1,6 @@
--- A pass over the places meets at each place those that cover it.
+-- A pass over the places meets at each place those that it covers, or the last writers of what it reads.
 use Rattle.std.proofs.Common.{◌≡◌, ℕ, zero, suc, ◌<◌, ◌≢◌, ◌⊎◌, inl, inr, ⊎_elim, Bool, true, false, List, [], ◌∷◌}
-use Rattle.std.proofs.Common.{Some, None, ap, sym, refl, ◌∙◌, subst, arith}
+use Rattle.std.proofs.Common.{◌++◌, Some, None, ap, sym, refl, ◌∙◌, subst, arith}
 use Rattle.std.specs.Prelude.{Option, nat_eq, if◌then◌else◌}
 use Rattle.std.proofs.lemmas.Bool.{eqb-true, eqb-false, eq-eqb, ne_eqb}
 use Rattle.scop_syntax.specs.Members.{In}
@@ -113,58 +113,76 @@ reader_of p (suc n) c i l r w free = nat_cases i n
     further false h = h
 
 -- the last writers of cells
-lasts_are : (p : Plan) (n i : ℕ) (cs : List ℕ) → In i (lasts_at p n cs)
+listed_is : (i : ℕ) (o : Option ℕ) → In i (listed o) → o ≡ Some i
+listed_is i None h = absurd h
+listed_is i (Some k) (inl e) = ap Some (sym e)
+listed_is i (Some k) (inr h) = absurd h
+
+is_listed : (i : ℕ) (o : Option ℕ) → o ≡ Some i → In i (listed o)
+is_listed i o e = subst (λ p. In i (listed p)) (sym e) (inl refl)
+
+pub lasts_are : (p : Plan) (n i : ℕ) (cs : List ℕ) → In i (lasts_at p n cs)
     → (c : ℕ) × In c cs × (last_at p n c ≡ Some i)
 lasts_are p n i [] h = absurd h
-lasts_are p n i (c ∷ cs) h = ⊎_elim (λ a. (c, inl refl, one (last_at p n c) a))
+lasts_are p n i (c ∷ cs) h = ⊎_elim (λ a. (c, inl refl, listed_is i (last_at p n c) a))
     (λ a. let r = lasts_are p n i cs a in (r.0, inr r.1, r.2))
     (in_append i (listed (last_at p n c)) (lasts_at p n cs) h)
-  where
-    one : (o : Option ℕ) → In i (listed o) → o ≡ Some i
-    one None h = absurd h
-    one (Some k) (inl e) = ap Some (sym e)
-    one (Some k) (inr h) = absurd h
 
-lasts_of : (p : Plan) (n i c : ℕ) (cs : List ℕ) → In c cs → last_at p n c ≡ Some i → In i (lasts_at p n cs)
+pub lasts_of : (p : Plan) (n i c : ℕ) (cs : List ℕ) → In c cs → last_at p n c ≡ Some i → In i (lasts_at p n cs)
 lasts_of p n i c [] h e = absurd h
 lasts_of p n i c (d ∷ cs) (inl same) e =
     in_front i (listed (last_at p n d)) (lasts_at p n cs)
-    (subst (λ o. In i (listed o)) (sym (ap (last_at p n) (sym same) ∙ e)) (inl refl))
+    (is_listed i (last_at p n d) (ap (last_at p n) (sym same) ∙ e))
 lasts_of p n i c (d ∷ cs) (inr h) e = in_back i (listed (last_at p n d)) (lasts_at p n cs) (lasts_of p n i c cs h e)
 
-pub found_covers : (p : Plan) (i n : ℕ) → n < p.places → In i (sources_at p n) → Covers p i n
-found_covers p i n less h = ⊎_elim
-    (λ a. let r = lasts_are p n i (p.written n ∷ p.read n) a in
-    let l = last_is p n r.0 i r.2 in
-    record {
-      before = l.less;
-      within = less;
-      cell = r.0;
-      free = l.free;
-      meet = inl (l.wrote, ⊎_elim (λ (e : r.0 ≡ p.written n). inl (sym e)) (λ (m : In r.0 (p.read n)). inr m) r.1);
-    })
-    (λ a. let r = reader_is p n (p.written n) i a in
-    record { before = r.less; within = less; cell = p.written n; free = r.free; meet = inr (refl, r.read) })
-    (in_append i (lasts_at p n (p.written n ∷ p.read n)) (readers_at p n (p.written n)) h)
+-- unless flow alone counts, the places that are met are those of covers
+module _ (p : Plan) (n : ℕ) where
+  abbrev lasts : List ℕ
+  lasts = lasts_at p n (p.read n)
 
-pub covers_found : (p : Plan) (i n : ℕ) → Covers p i n → In i (sources_at p n)
-covers_found p i n c = by_kind c.meet
-  where
-    lasts : List ℕ
-    lasts = lasts_at p n (p.written n ∷ p.read n)
+  abbrev last : Option ℕ
+  last = last_at p n (p.written n)
 
-    written_last : p.written i ≡ c.cell → In c.cell (p.written n ∷ p.read n) → In i (sources_at p n)
-    written_last w h = in_front i lasts (readers_at p n (p.written n))
-        (lasts_of p n i c.cell (p.written n ∷ p.read n) h (last_of p n c.cell i c.before w c.free))
+  abbrev readers : List ℕ
+  readers = readers_at p n (p.written n)
 
-    by_kind : ((p.written i ≡ c.cell) × ((p.written n ≡ c.cell) ⊎ In c.cell (p.read n)))
-        ⊎ ((p.written n ≡ c.cell) × In c.cell (p.read i)) → In i (sources_at p n)
-    by_kind (inl (w, inl v)) = written_last w (inl (sym v))
-    by_kind (inl (w, inr h)) = written_last w (inr h)
-    by_kind (inr (w, h)) = by_test (nat_eq (p.written i) c.cell) refl
-      where
-        by_test : (b : Bool) → nat_eq (p.written i) c.cell ≡ b → In i (sources_at p n)
-        by_test true e = written_last (eqb-true (p.written i) c.cell e) (inl (sym w))
-        by_test false e = in_back i lasts (readers_at p n (p.written n))
-            (subst (λ (d : ℕ). In i (readers_at p n d)) (sym w)
-            (reader_of p n c.cell i c.before h (eqb-false (p.written i) c.cell e) c.free))
+  pub found_covers : (i : ℕ) → n < p.places → In i (sources_at false p n) → Covers p i n
+  found_covers i less h = ⊎_elim
+      (λ a. let r = lasts_are p n i (p.read n) a in
+      let l = last_is p n r.0 i r.2 in
+      record { before = l.less; within = less; cell = r.0; free = l.free; meet = inl (l.wrote, inr r.1) })
+      (λ b. ⊎_elim
+      (λ a. let l = last_is p n (p.written n) i (listed_is i last a) in
+      record {
+        before = l.less;
+        within = less;
+        cell = p.written n;
+        free = l.free;
+        meet = inl (l.wrote, inl refl);
+      })
+      (λ a. let r = reader_is p n (p.written n) i a in
+      record { before = r.less; within = less; cell = p.written n; free = r.free; meet = inr (refl, r.read) })
+      (in_append i (listed last) readers b))
+      (in_append i lasts (listed last ++ readers) h)
+
+  pub covers_found : (i : ℕ) → Covers p i n → In i (sources_at false p n)
+  covers_found i c = by_kind c.meet
+    where
+      written_last : p.written i ≡ c.cell → p.written n ≡ c.cell → In i (sources_at false p n)
+      written_last w v =
+          in_back i lasts (listed last ++ readers) (in_front i (listed last) readers
+          (is_listed i last (ap (last_at p n) v ∙ last_of p n c.cell i c.before w c.free)))
+
+      by_kind : ((p.written i ≡ c.cell) × ((p.written n ≡ c.cell) ⊎ In c.cell (p.read n)))
+          ⊎ ((p.written n ≡ c.cell) × In c.cell (p.read i)) → In i (sources_at false p n)
+      by_kind (inl (w, inl v)) = written_last w v
+      by_kind (inl (w, inr h)) =
+          in_front i lasts (listed last ++ readers)
+          (lasts_of p n i c.cell (p.read n) h (last_of p n c.cell i c.before w c.free))
+      by_kind (inr (w, h)) = by_test (nat_eq (p.written i) c.cell) refl
+        where
+          by_test : (b : Bool) → nat_eq (p.written i) c.cell ≡ b → In i (sources_at false p n)
+          by_test true e = written_last (eqb-true (p.written i) c.cell e) w
+          by_test false e = in_back i lasts (listed last ++ readers) (in_back i (listed last) readers
+              (subst (λ (d : ℕ). In i (readers_at p n d)) (sym w)
+              (reader_of p n c.cell i c.before h (eqb-false (p.written i) c.cell e) c.free)))

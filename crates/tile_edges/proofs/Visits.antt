@@ -9,7 +9,9 @@ use Rattle.scop_syntax.specs.Members.{In}
 use Rattle.scop_syntax.proofs.Members.{in_append, in_front, in_back, nat_cases}
 use Rattle.tile_edges.specs.steps.Touches.{HasTile, HasEntered, HasRoom, KeepSame}
 use Rattle.tile_edges.specs.declared.touching.Traces.{Traces}
-use Rattle.tile_edges.specs.steps.Traces.{HasVisited, marked, met}
+use Rattle.tile_edges.specs.steps.Gains.{Gains}
+use Rattle.tile_edges.specs.steps.Traces.{HasVisited, marked, met, met_at}
+use Rattle.tile_edges.proofs.PutPairs.{gains_join}
 use Rattle.tile_edges.proofs.Taken.{taken_more, seen_at, seen_set}
 
 -- a list that gets it
@@ -69,15 +71,16 @@ pub entered_all : (cells : List ℕ) (k u : ℕ) (a b : List (List ℕ)) → len
 entered_all cells k u a b past has = subst (λ cs. HasEntered u cs a b) (take_all k cells past) has
 
 -- all is read, and the first cell is written
-pub visited : (u w : ℕ) (rs marks marks_then : List ℕ) (readers middle readers_then : List (List ℕ)) → w < length marks
-    → w < length readers → HasEntered u rs readers middle → marks_then ≡ slice_set marks w (suc u)
-    → readers_then ≡ slice_set middle w [] → HasVisited u w rs marks readers marks_then readers_then
-visited u w rs marks marks_then readers middle readers_then inside within has is are = record {
+pub visited : (flow : Bool) (u w : ℕ) (rs marks marks_then : List ℕ) (readers middle readers_then : List (List ℕ))
+    → w < length marks → w < length middle → (flow ≡ false → HasEntered u rs readers middle)
+    → marks_then ≡ slice_set marks w (suc u) → readers_then ≡ slice_set middle w []
+    → HasVisited flow u w rs marks readers marks_then readers_then
+visited flow u w rs marks marks_then readers middle readers_then inside within has is are = record {
   writer = λ c. ap (λ (ms : List ℕ). get_or ms c 0) is ∙ mark c (nat_eq w c) refl;
-  found = λ c t. at c (λ row. In t row → (w ≢ c) × (In t (get_or readers c []) ⊎ (In c rs × (t ≡ u))))
-      (λ e i. absurd i) (λ ne i. (ne, has.found c t i));
-  kept = λ c t ne i. at c (λ row. In t row) (λ e. absurd (ne e)) (λ other. has.kept c t i);
-  entered = λ c ne i. at c (λ row. In u row) (λ e. absurd (ne e)) (λ other. has.there c i);
+  found = λ off c t. at c (λ row. In t row → (w ≢ c) × (In t (get_or readers c []) ⊎ (In c rs × (t ≡ u))))
+      (λ e i. absurd i) (λ ne i. (ne, (has off).found c t i));
+  kept = λ off c t ne i. at c (λ row. In t row) (λ e. absurd (ne e)) (λ other. (has off).kept c t i);
+  entered = λ off c ne i. at c (λ row. In u row) (λ e. absurd (ne e)) (λ other. (has off).there c i);
 }
   where
     mark : (c : ℕ) (b : Bool) → nat_eq w c ≡ b → get_or (slice_set marks w (suc u)) c 0 ≡ (if b then suc u else get_or marks c 0)
@@ -91,9 +94,8 @@ visited u w rs marks marks_then readers middle readers_then inside within has is
       where
         by_test : (b : Bool) → nat_eq w c ≡ b → P (get_or (slice_set middle w []) c [])
         by_test true e =
-            let long = has.long in
             subst P (sym (ap (λ (k : ℕ). get_or (slice_set middle w []) k []) (sym (eqb-true w c e))
-            ∙ get_or-set_same middle w [] [] (omega (arith, within, long)))) (here (eqb-true w c e))
+            ∙ get_or-set_same middle w [] [] within)) (here (eqb-true w c e))
         by_test false e =
             subst P (sym (get_or-set_other middle w c [] [] (λ k. eqb-false w c e (sym k)))) (there (eqb-false w c e))
 
@@ -119,6 +121,32 @@ in_met marks [] k t less i = absurd (omega (arith, less))
 in_met marks (c ∷ cs) zero t less i = in_front t (marked (get_or marks c 0)) (met marks cs) i
 in_met marks (c ∷ cs) (suc k) t less i =
     in_back t (marked (get_or marks c 0)) (met marks cs) (in_met marks cs k t (omega (arith, less)) i)
+
+-- what is met at reads is met, and unless flow alone counts, so are the writer and the readers of the cell written
+pub met_reads : (flow : Bool) (marks : List ℕ) (readers : List (List ℕ)) (w : ℕ) (cs : List ℕ) (t : ℕ)
+    → In t (met marks cs) → In t (met_at flow marks readers w cs)
+met_reads true marks readers w cs t i = i
+met_reads false marks readers w cs t i = in_front t (met marks cs) (marked (get_or marks w 0) ++ get_or readers w []) i
+
+pub met_written : (flow : Bool) (marks : List ℕ) (readers : List (List ℕ)) (w : ℕ) (cs : List ℕ) (t : ℕ)
+    → flow ≡ false → In t (marked (get_or marks w 0)) ⊎ In t (get_or readers w [])
+    → In t (met_at flow marks readers w cs)
+met_written true marks readers w cs t off i = absurd cc
+met_written false marks readers w cs t off (inl i) =
+    in_back t (met marks cs) (marked (get_or marks w 0) ++ get_or readers w [])
+    (in_front t (marked (get_or marks w 0)) (get_or readers w []) i)
+met_written false marks readers w cs t off (inr i) =
+    in_back t (met marks cs) (marked (get_or marks w 0) ++ get_or readers w [])
+    (in_back t (marked (get_or marks w 0)) (get_or readers w []) i)
+
+pub gains_met : (flow : Bool) (marks : List ℕ) (readers : List (List ℕ)) (w : ℕ) (cs : List ℕ) (u : ℕ)
+    (a b c d : List (List ℕ)) → flow ≡ false → Gains (met marks cs) u a b → Gains (marked (get_or marks w 0)) u b c
+    → Gains (get_or readers w []) u c d → Gains (met_at flow marks readers w cs) u a d
+gains_met true marks readers w cs u a b c d off g h k = absurd cc
+gains_met false marks readers w cs u a b c d off g h k =
+    let m = marked (get_or marks w 0) in
+    let rs = get_or readers w [] in
+    gains_join (met marks cs) (m ++ rs) u a b d g (gains_join m rs u b c d h k)
 
 pub keep_both : (a b c : Traces) → KeepSame a b → KeepSame b c → KeepSame a c
 keep_both a b c g h =

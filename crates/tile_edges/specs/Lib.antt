@@ -1,3 +1,4 @@
+pub mod Waiting
 pub mod Edges
 pub mod Counting
 pub mod steps

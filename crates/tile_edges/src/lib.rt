@@ -1,7 +1,7 @@
 //! Which tiles of a plan wait for which, so that a tile may begin as soon as those before it have released it (J. Park and
 //! others, "Sparsifying synchronization for high-performance shared-memory sparse triangular solver", ISC 2014): exactly
-//! the pairs of tiles of which the first holds a place of the walk that covers one of the second. One pass over the walk
-//! finds them.
+//! the pairs of tiles of which the second holds a place of the walk that covers one of the first, or where flow alone
+//! counts, reads what it wrote last. One pass over the walk finds them.
 #![tactic(auto)]
 
 mod finding;

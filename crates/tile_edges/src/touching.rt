@@ -1,16 +1,17 @@
-//! What is kept of each cell: the tile of its last writer, and those of its readers since then.
-ghost use Rattle.std.specs.Prelude.{◌≡◌, ◌<◌, ◌≤◌, ℕ, [], OnOk, get_or, length, slice_set, suc, true};
+//! What is kept of each cell: the tile of its last writer, and unless flow alone counts, those of its readers since
+//! then.
+ghost use Rattle.std.specs.Prelude.{◌≡◌, ◌<◌, ◌≤◌, ℕ, [], OnOk, false, get_or, length, slice_set, suc, true};
 ghost use Rattle.scop_syntax.specs.Members.{In};
 ghost use Rattle.tile_edges.specs.steps.Gains.{Gains};
 ghost use Rattle.tile_edges.specs.steps.Rows.{AreKept, rows_in};
 ghost use Rattle.tile_edges.specs.steps.Touches.{AreEven, HasEntered, HasRoom, HasTile, KeepSame, marks_in, readers_in};
-ghost use Rattle.tile_edges.specs.steps.Traces.{HasVisited, met};
-ghost use Rattle.tile_edges.specs.steps.Walks.{met_at};
+ghost use Rattle.tile_edges.specs.steps.Traces.{HasVisited, met, met_at};
 
 use crate::pairing::Pairs;
 use std::alloc::{AllocError, Global};
 
-/// Of each cell a mark, 0 or one more than the tile of its last writer, and the tiles of its readers since then.
+/// Of each cell a mark, 0 or one more than the tile of its last writer, and the tiles of its readers since then, unless
+/// flow alone counts.
 #[derive(Drop)]
 pub struct Traces {
     pub marks: Vec<usize>,
@@ -106,35 +107,47 @@ impl Traces {
         &self.readers[cell]
     }
 
-    /// The tile waits for those that are met where it touches these cells, and writes one of them.
+    /// The tile waits for those that are met where it reads cells, and then writes one: for the writer and the readers
+    /// of that one unless flow alone counts.
     pub fn meet(
         &self,
         cells: &[usize],
         cell: usize,
         tile: usize,
+        flow: bool,
         pairs: &mut Pairs,
     ) -> Result<(), AllocError>
         requires even { AreEven self.now }
         requires room { HasRoom cells.now self.now }
         requires written { cell < length self.now.marks.items }
-        requires tiles { (t : ℕ) → In t (met_at self.now cells.now cell) → t < length pairs.old.rows.items }
+        requires tiles { (t : ℕ) → In t (met_at flow (marks_in self.now) (readers_in self.now) cell cells.now)
+            → t < length pairs.old.rows.items }
         requires kept { AreKept pairs.old }
-        ensures gains { OnOk result (Gains (met_at self.now cells.now cell) tile (rows_in pairs.old)
-            (rows_in pairs.new)) }
+        ensures gains { OnOk result (Gains (met_at flow (marks_in self.now) (readers_in self.now) cell cells.now) tile
+            (rows_in pairs.old) (rows_in pairs.new)) }
         ensures kept { OnOk result (AreKept pairs.new) }
     {
         self.meet_writers(cells, tile, pairs)?;
+        if flow {
+            return Ok(());
+        }
+        pairs.add_marked(self.marks[cell], tile)?;
         pairs.add_all(self.readers(cell), tile)?;
         Ok(())
     }
 
-    /// The tile reads cells.
-    fn read(&mut self, cells: &[usize], tile: usize) -> Result<(), AllocError>
+    /// The tile reads cells, which is kept unless flow alone counts.
+    fn read(&mut self, cells: &[usize], tile: usize, flow: bool) -> Result<(), AllocError>
         requires even { AreEven self.old }
         requires room { HasRoom cells.now self.old }
+        ensures even { OnOk result (AreEven self.new) }
         ensures marks { OnOk result (self.new.marks ≡ self.old.marks) }
-        ensures entered { OnOk result (HasEntered tile cells.now (readers_in self.old) (readers_in self.new)) }
+        ensures entered { OnOk result (flow ≡ false
+            → HasEntered tile cells.now (readers_in self.old) (readers_in self.new)) }
     {
+        if flow {
+            return Ok(());
+        }
         for cell in cells {
             enter(&mut self.readers[*cell], tile)?;
         }
@@ -160,15 +173,21 @@ impl Traces {
     }
 
     /// The tile reads cells, and then writes one.
-    pub fn visit(&mut self, cells: &[usize], cell: usize, tile: usize) -> Result<(), AllocError>
+    pub fn visit(
+        &mut self,
+        cells: &[usize],
+        cell: usize,
+        tile: usize,
+        flow: bool,
+    ) -> Result<(), AllocError>
         requires even { AreEven self.old }
         requires room { HasRoom cells.now self.old }
         requires written { cell < length self.old.marks.items }
         ensures even { OnOk result (AreEven self.new) }
-        ensures visited { OnOk result (HasVisited tile cell cells.now (marks_in self.old) (readers_in self.old)
+        ensures visited { OnOk result (HasVisited flow tile cell cells.now (marks_in self.old) (readers_in self.old)
             (marks_in self.new) (readers_in self.new)) }
     {
-        self.read(cells, tile)?;
+        self.read(cells, tile, flow)?;
         self.write(cell, tile)?;
         Ok(())
     }

@@ -17,6 +17,7 @@ ghost use Rattle.tile_edges.specs.declared.waiting.EdgesStop.TheVariants.{TooMan
 use crate::rows::rows_of;
 use crate::walking::{MOST, pairs_of};
 use loop_tree::{Tiling, Tree};
+use scop_syntax::execution_laws::cells_have_numbers_of_their_own;
 use scop_syntax::tree::Kernel;
 use std::alloc::{AllocError, Global};
 use stmt_table::table::Table;
@@ -49,6 +50,7 @@ fn edges_or_more(
     tree: &Tree,
     tiling: &Tiling,
     list: &TileList,
+    flow: bool,
 ) -> Result<TileEdges, AllocError>
     requires limits { WithinLimits (program_of kernel.now) params.now }
     requires inside { IsInside (program_of kernel.now) params.now }
@@ -59,18 +61,20 @@ fn edges_or_more(
     requires fits { CanTile (tiling_of tiling.now) (visits (trees_in tree.now) params.now) }
     requires tiles { IsTileListOf (trees_in tree.now) params.now (tiling_of tiling.now) list.now }
     ensures few { IfOk result (λ e. length e.targets.items ≤ 4194304
-        → AreEdgesOf (program_of kernel.now) params.now (tiling_of tiling.now) list.now e) }
+        → AreEdgesOf flow (program_of kernel.now) params.now (tiling_of tiling.now) list.now e) }
     ensures many { IfOk result (λ e. 4194304 < length e.targets.items
-        → AreTooMany (program_of kernel.now) params.now (tiling_of tiling.now) list.now) }
+        → AreTooMany flow (program_of kernel.now) params.now (tiling_of tiling.now) list.now) }
 {
+    cells_have_numbers_of_their_own();
     covers_are_those_of_the_walk();
     pairs_make_plans();
-    let pairs = pairs_of(alloc, kernel, params, table, tiling, list)?;
+    let pairs = pairs_of(alloc, kernel, params, table, tiling, list, flow)?;
     let edges = rows_of(alloc, &pairs)?;
     Ok(edges)
 }
 
-/// The pairs of tiles of which the second waits for the first. `tree` is that of the plan, whose tiles `list` has.
+/// The pairs of tiles of which the second waits for the first: where `flow` alone counts, by what its places read, else
+/// by what they cover. `tree` is that of the plan, whose tiles `list` has.
 ///
 /// # Errors
 /// `TooMany` exactly where there are more than 2^22 pairs, else `NoMemory`.
@@ -82,6 +86,7 @@ pub fn edges(
     tree: &Tree,
     tiling: &Tiling,
     list: &TileList,
+    flow: bool,
 ) -> Result<TileEdges, EdgesStop>
     requires limits { WithinLimits (program_of kernel.now) params.now }
     requires inside { IsInside (program_of kernel.now) params.now }
@@ -91,12 +96,12 @@ pub fn edges(
         (visits (trees_in tree.now) params.now) }
     requires fits { CanTile (tiling_of tiling.now) (visits (trees_in tree.now) params.now) }
     requires tiles { IsTileListOf (trees_in tree.now) params.now (tiling_of tiling.now) list.now }
-    ensures edges { IfOk result (AreEdgesOf (program_of kernel.now) params.now (tiling_of tiling.now) list.now) }
+    ensures edges { IfOk result (AreEdgesOf flow (program_of kernel.now) params.now (tiling_of tiling.now) list.now) }
     ensures few { IfOk result (λ e. length e.targets.items ≤ 4194304) }
     ensures many { IfErr result (λ stop. stop ≡ too_many
-        → AreTooMany (program_of kernel.now) params.now (tiling_of tiling.now) list.now) }
+        → AreTooMany flow (program_of kernel.now) params.now (tiling_of tiling.now) list.now) }
 {
-    match edges_or_more(alloc, kernel, params, table, tree, tiling, list) {
+    match edges_or_more(alloc, kernel, params, table, tree, tiling, list, flow) {
         Err(_) => Err(EdgesStop::NoMemory),
         Ok(edges) => {
             if edges.targets.len() > MOST {

@@ -15,9 +15,8 @@ ghost use Rattle.tile_edges.specs.steps.Finding.{FirstsFit, HasTileOf, IsFinder,
 ghost use Rattle.tile_edges.specs.steps.Gains.{Gains};
 ghost use Rattle.tile_edges.specs.steps.Rows.{AreKept, joined, rows_in};
 ghost use Rattle.tile_edges.specs.steps.Touches.{AreEven, marks_in, readers_in};
-ghost use Rattle.tile_edges.specs.steps.Traces.{HasVisited};
-ghost use Rattle.tile_edges.specs.steps.Walks.{AreFound, CanPass, CanTake, HasTaken, IsOnItsWay, IsTaken};
-ghost use Rattle.tile_edges.specs.steps.Walks.{cells_at, met_at};
+ghost use Rattle.tile_edges.specs.steps.Traces.{HasVisited, met_at};
+ghost use Rattle.tile_edges.specs.steps.Walks.{AreFound, CanPass, CanTake, HasTaken, IsOnItsWay, IsTaken, cells_at};
 
 use crate::finding::Finder;
 use crate::pairing::Pairs;
@@ -78,21 +77,22 @@ fn take(
     written: usize,
     read: &[usize],
     tile: usize,
+    flow: bool,
     traces: &mut Traces,
     pairs: &mut Pairs,
 ) -> Result<(), AllocError>
     requires cells { cells.now ≡ written ∷ read.now }
-    requires can { CanTake cells.now traces.old pairs.old }
+    requires can { CanTake flow cells.now traces.old pairs.old }
     ensures even { OnOk result (AreEven traces.new) }
     ensures kept { OnOk result (AreKept pairs.new) }
-    ensures visited { OnOk result (HasVisited tile written read.now (marks_in traces.old) (readers_in traces.old)
+    ensures visited { OnOk result (HasVisited flow tile written read.now (marks_in traces.old) (readers_in traces.old)
         (marks_in traces.new) (readers_in traces.new)) }
-    ensures gains { OnOk result (Gains (met_at traces.old cells.now written) tile (rows_in pairs.old)
-        (rows_in pairs.new)) }
+    ensures gains { OnOk result (Gains (met_at flow (marks_in traces.old) (readers_in traces.old) written read.now) tile
+        (rows_in pairs.old) (rows_in pairs.new)) }
 {
     traces.reach_all(alloc, cells)?;
-    traces.meet(cells, written, tile, pairs)?;
-    traces.visit(read, written, tile)?;
+    traces.meet(read, written, tile, flow, pairs)?;
+    traces.visit(read, written, tile, flow)?;
     Ok(())
 }
 
@@ -101,16 +101,17 @@ fn take_all(
     alloc: Global,
     cells: &[usize],
     tile: usize,
+    flow: bool,
     traces: &mut Traces,
     pairs: &mut Pairs,
 ) -> Result<(), AllocError>
-    requires { CanTake cells.now traces.old pairs.old }
-    ensures { OnOk result (HasTaken cells.now tile traces.old pairs.old traces.new pairs.new) }
+    requires { CanTake flow cells.now traces.old pairs.old }
+    ensures { OnOk result (HasTaken flow cells.now tile traces.old pairs.old traces.new pairs.new) }
 {
     match cells.split_first() {
         None => Ok(()),
         Some((written, read)) => {
-            take(alloc, cells, *written, read, tile, traces, pairs)?;
+            take(alloc, cells, *written, read, tile, flow, traces, pairs)?;
             Ok(())
         }
     }
@@ -154,6 +155,7 @@ impl Pass {
         table: &Table,
         tiling: &Tiling,
         list: &TileList,
+        flow: bool,
         instance: &Instance,
     ) -> Result<(), AllocError>
         requires row { instance.now.statement < length table.now.rows.items }
@@ -163,13 +165,13 @@ impl Pass {
         requires finder { IsFinder (tiling_of tiling.now) list.now self.old.finder }
         requires there { HasTileOf (tiling_of tiling.now) list.now (instance_of instance.now) }
         requires take { (row : GivenRow) → slice_get table.now.rows.items instance.now.statement ≡ Some row
-            → CanTake (cells_at row (instance_of instance.now).turns) self.old.traces self.old.pairs }
+            → CanTake flow (cells_at row (instance_of instance.now).turns) self.old.traces self.old.pairs }
         ensures finder { OnOk result (IsFinder (tiling_of tiling.now) list.now self.new.finder) }
         ensures here { OnOk result (IsTileOf (tiling_of tiling.now) list.now self.new.finder.at (instance_of instance.now)) }
         ensures desk { self.new.desk ≡ self.old.desk }
         ensures taken { OnOk result ((row : GivenRow)
             → slice_get table.now.rows.items instance.now.statement ≡ Some row
-            → IsTaken (tiling_of tiling.now) list.now (instance_of instance.now)
+            → IsTaken flow (tiling_of tiling.now) list.now (instance_of instance.now)
             (cells_at row (instance_of instance.now).turns) self.old.traces self.old.pairs self.new.traces
             self.new.pairs) }
     {
@@ -183,6 +185,7 @@ impl Pass {
             alloc,
             self.cells.as_slice(),
             tile,
+            flow,
             &mut self.traces,
             &mut self.pairs,
         )?;
@@ -200,6 +203,7 @@ fn take_ahead(
     table: &Table,
     tiling: &Tiling,
     list: &TileList,
+    flow: bool,
     spot: &Spot,
     count: u64,
     pass: &mut Pass,
@@ -209,11 +213,11 @@ fn take_ahead(
     requires few { count ≤ spot.now.stretch.left }
     requires tile { LieIn (tiling_of tiling.now) list.now pass.old.finder.at spot.now.stretch count }
     requires room { HasRoomForAll table.now pass.old.desk }
-    requires way { IsOnItsWay (program_of kernel.now) params.now (tiling_of tiling.now) list.now
+    requires way { IsOnItsWay flow (program_of kernel.now) params.now (tiling_of tiling.now) list.now
         (to_come (trees_in source.now) params.now spot.now) pass.old.traces pass.old.pairs }
     ensures finder { OnOk result (pass.new.finder ≡ pass.old.finder) }
     ensures room { OnOk result (HasRoomForAll table.now pass.new.desk) }
-    ensures way { OnOk result (IsOnItsWay (program_of kernel.now) params.now (tiling_of tiling.now) list.now
+    ensures way { OnOk result (IsOnItsWay flow (program_of kernel.now) params.now (tiling_of tiling.now) list.now
         (to_come_on (trees_in source.now) params.now spot.now count) pass.new.traces pass.new.pairs) }
 {
     instances_are_those_of_statements();
@@ -228,7 +232,7 @@ fn take_ahead(
         row.go_on(&mut pass.desk);
         put_laid(row, &pass.desk, &mut pass.cells)?;
         let cells = pass.cells.as_slice();
-        take_all(alloc, cells, tile, &mut pass.traces, &mut pass.pairs)?;
+        take_all(alloc, cells, tile, flow, &mut pass.traces, &mut pass.pairs)?;
     }
     Ok(())
 }
@@ -242,15 +246,16 @@ fn pass_ahead(
     table: &Table,
     tiling: &Tiling,
     list: &TileList,
+    flow: bool,
     passed: &Instance,
     spot: &mut Spot,
     pass: &mut Pass,
 ) -> Result<(), AllocError>
     requires can { CanPass (program_of kernel.now) params.now (tiling_of tiling.now) list.now table.now }
     requires front { IsTileOf (tiling_of tiling.now) list.now pass.old.finder.at (instance_of passed.now) }
-    requires passing { IsPassing (program_of kernel.now) params.now (trees_in source.now) (tiling_of tiling.now) list.now
-        table.now spot.old pass.old }
-    ensures passing { OnOk result (IsPassing (program_of kernel.now) params.now (trees_in source.now)
+    requires passing { IsPassing flow (program_of kernel.now) params.now (trees_in source.now) (tiling_of tiling.now)
+        list.now table.now spot.old pass.old }
+    ensures passing { OnOk result (IsPassing flow (program_of kernel.now) params.now (trees_in source.now)
         (tiling_of tiling.now) list.now table.now spot.new pass.new) }
     ensures fewer { OnOk result (length (to_come (trees_in source.now) params.now spot.new)
         ≤ length (to_come (trees_in source.now) params.now spot.old)) }
@@ -263,7 +268,7 @@ fn pass_ahead(
         return Ok(());
     }
     take_ahead(
-        alloc, kernel, source, params, table, tiling, list, spot, count, pass,
+        alloc, kernel, source, params, table, tiling, list, flow, spot, count, pass,
     )?;
     go_along(&mut spot.stretch, count);
     Ok(())
@@ -278,23 +283,24 @@ fn pass_rest(
     table: &Table,
     tiling: &Tiling,
     list: &TileList,
+    flow: bool,
     spot: &mut Spot,
     pass: &mut Pass,
 ) -> Result<(), AllocError>
     requires can { CanPass (program_of kernel.now) params.now (tiling_of tiling.now) list.now table.now }
     requires walk { CanWalk (trees_in source.now) params.now [] }
-    requires passing { IsPassing (program_of kernel.now) params.now (trees_in source.now) (tiling_of tiling.now) list.now
-        table.now spot.old pass.old }
-    ensures { OnOk result (AreFound (program_of kernel.now) params.now (tiling_of tiling.now) list.now 4194304
+    requires passing { IsPassing flow (program_of kernel.now) params.now (trees_in source.now) (tiling_of tiling.now)
+        list.now table.now spot.old pass.old }
+    ensures { OnOk result (AreFound flow (program_of kernel.now) params.now (tiling_of tiling.now) list.now 4194304
         pass.new.pairs) }
 {
     instances_are_those_of_statements();
     statements_are_numbered();
     cells_lie_within_22_bits();
     while let Some(instance) = spot.next(source, params) {
-        pass.pass(alloc, table, tiling, list, &instance)?;
+        pass.pass(alloc, table, tiling, list, flow, &instance)?;
         pass_ahead(
-            alloc, kernel, source, params, table, tiling, list, &instance, spot, pass,
+            alloc, kernel, source, params, table, tiling, list, flow, &instance, spot, pass,
         )?;
         if pass.pairs.count > MOST {
             return Ok(());
@@ -303,7 +309,7 @@ fn pass_rest(
     Ok(())
 }
 
-/// The pairs of tiles that a kernel's walk tells, or more than there may be.
+/// The pairs of tiles that a kernel's walk tells, or more than there may be, by flow alone or by all covers.
 pub(crate) fn pairs_of(
     alloc: Global,
     kernel: &Kernel,
@@ -311,15 +317,16 @@ pub(crate) fn pairs_of(
     table: &Table,
     tiling: &Tiling,
     list: &TileList,
+    flow: bool,
 ) -> Result<Pairs, AllocError>
     requires { CanPass (program_of kernel.now) params.now (tiling_of tiling.now) list.now table.now }
-    ensures { IfOk result (AreFound (program_of kernel.now) params.now (tiling_of tiling.now) list.now 4194304) }
+    ensures { IfOk result (AreFound flow (program_of kernel.now) params.now (tiling_of tiling.now) list.now 4194304) }
 {
     let source = Tree::of_source(alloc, kernel)?;
     let mut spot = Spot::of(alloc, &source)?;
     let mut pass = Pass::of(alloc, table, tiling, list)?;
     pass_rest(
-        alloc, kernel, &source, params, table, tiling, list, &mut spot, &mut pass,
+        alloc, kernel, &source, params, table, tiling, list, flow, &mut spot, &mut pass,
     )?;
     Ok(pass.pairs)
 }

@@ -1,5 +1,5 @@
 -- What lies ahead along a stretch.
-use Rattle.std.specs.Prelude.{ℕ, zero, suc, ◌-◌, ◌≤◌, ℤ, List, [], ◌++◌, take}
+use Rattle.std.specs.Prelude.{ℕ, zero, suc, ◌-◌, ◌≤◌, ℤ, Bool, List, [], ◌++◌, take}
 use Rattle.whole_numbers.specs.Lists.{sums}
 use Rattle.scop_syntax.specs.Tree.{Program}
 use Rattle.scop_syntax.specs.View.{instance_of}
@@ -51,9 +51,9 @@ abbrev pub LieIn : Tiling → TileList → ℕ → Stretch → ℕ → Type 0
 LieIn tiling list t s n = (j : ℕ) → 1 ≤ j → j ≤ n → IsTileOf tiling list t (moved_on s j)
 
 -- a pass over the walk, the rest of which is what is to come of a spot
-pub record IsPassing (program : Program) (params : List ℤ) (ts : Trees) (tiling : Tiling) (list : TileList)
-    (table : Table) (spot : Spot) (pass : Pass) : Type 0 where
+pub record IsPassing (flow : Bool) (program : Program) (params : List ℤ) (ts : Trees) (tiling : Tiling)
+    (list : TileList) (table : Table) (spot : Spot) (pass : Pass) : Type 0 where
   pub spot_is : IsSpotOf ts params spot
   pub finder : IsFinder tiling list pass.finder
   pub room : HasRoomForAll table pass.desk
-  pub way : IsOnItsWay program params tiling list (to_come ts params spot) pass.traces pass.pairs
+  pub way : IsOnItsWay flow program params tiling list (to_come ts params spot) pass.traces pass.pairs

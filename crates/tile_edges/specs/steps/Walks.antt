@@ -1,5 +1,5 @@
 -- A pass over the places of a walk.
-use Rattle.std.specs.Prelude.{◌≡◌, ℕ, ◌<◌, ◌≤◌, ℤ, false, List, [], ◌∷◌, ◌++◌, length, map, get_or, slice_get, drop}
+use Rattle.std.specs.Prelude.{◌≡◌, ℕ, ◌<◌, ◌≤◌, ℤ, Bool, false, List, [], ◌∷◌, length, map, slice_get, drop}
 use Rattle.whole_numbers.specs.Affine.{value_of}
 use Rattle.scop_syntax.specs.Execution.{layout, total_cells}
 use Rattle.scop_syntax.specs.Tree.{Program}
@@ -21,7 +21,7 @@ use Rattle.tile_edges.specs.steps.Finding.{FirstsFit, HasTileOf, TilesRise}
 use Rattle.tile_edges.specs.steps.Gains.{AreRising, Gains}
 use Rattle.tile_edges.specs.steps.Rows.{AreKept, joined, rows_in}
 use Rattle.tile_edges.specs.steps.Touches.{AreEven, marks_in, readers_in}
-use Rattle.tile_edges.specs.steps.Traces.{ArePairs, AreTraces, HasVisited, met}
+use Rattle.tile_edges.specs.steps.Traces.{ArePairs, AreTraces, HasVisited, met_at}
 use Rattle.tile_edges.specs.declared.pairing.Pairs.{Pairs}
 use Rattle.tile_edges.specs.declared.touching.Traces.{Traces}
 
@@ -54,31 +54,31 @@ abbrev pub held_by : Program → List ℤ → Tiling → TileList → ℕ → �
 held_by program params tiling list t i = Holds (walk_of program params) tiling list t i
 
 -- the pass has gone over the first n places
-pub record HasPassed (program : Program) (params : List ℤ) (tiling : Tiling) (list : TileList) (n : ℕ) (kept : Traces)
-    (found : Pairs) : Type 0 where
+pub record HasPassed (flow : Bool) (program : Program) (params : List ℤ) (tiling : Tiling) (list : TileList) (n : ℕ)
+    (kept : Traces) (found : Pairs) : Type 0 where
   pub even : AreEven kept
-  pub traces : AreTraces (held_by program params tiling list) (touched program params) n (marks_in kept)
+  pub traces : AreTraces flow (held_by program params tiling list) (touched program params) n (marks_in kept)
       (readers_in kept)
-  pub pairs : ArePairs (held_by program params tiling list) (touched program params) n (rows_in found)
+  pub pairs : ArePairs flow (held_by program params tiling list) (touched program params) n (rows_in found)
   pub rises : AreRising (rows_in found)
   pub kept_is : AreKept found
   pub long : length found.rows.items ≡ length list.tiles.items
 
 -- these instances are left of the walk
-pub record IsOnItsWay (program : Program) (params : List ℤ) (tiling : Tiling) (list : TileList) (rest : List Instance)
-    (kept : Traces) (found : Pairs) : Type 0 where
+pub record IsOnItsWay (flow : Bool) (program : Program) (params : List ℤ) (tiling : Tiling) (list : TileList)
+    (rest : List Instance) (kept : Traces) (found : Pairs) : Type 0 where
   pub done : ℕ
   pub within : done ≤ length (walk_of program params)
   pub left : rest ≡ drop done (map instance (walk_of program params))
-  pub passed : HasPassed program params tiling list done kept found
+  pub passed : HasPassed flow program params tiling list done kept found
 
 -- the pairs are those that a pass finds, all of them where they are no more than that
-pub record AreFound (program : Program) (params : List ℤ) (tiling : Tiling) (list : TileList) (most : ℕ) (found : Pairs)
-    : Type 0 where
+pub record AreFound (flow : Bool) (program : Program) (params : List ℤ) (tiling : Tiling) (list : TileList) (most : ℕ)
+    (found : Pairs) : Type 0 where
   pub done : ℕ
   pub within : done ≤ length (walk_of program params)
   pub all : found.count ≤ most → done ≡ length (walk_of program params)
-  pub pairs : ArePairs (held_by program params tiling list) (touched program params) done (rows_in found)
+  pub pairs : ArePairs flow (held_by program params tiling list) (touched program params) done (rows_in found)
   pub rises : AreRising (rows_in found)
   pub count : found.count ≡ length (joined (rows_in found))
   pub long : length found.rows.items ≡ length list.tiles.items
@@ -94,29 +94,25 @@ pub record CanPass (program : Program) (params : List ℤ) (tiling : Tiling) (li
   pub rise : TilesRise tiling list.tiles.items
   pub there : (x : Instance) → In x (map instance (walk_of program params)) → HasTileOf tiling list x
 
--- the tiles that are met where the first of these cells is written
-abbrev pub met_at : Traces → List ℕ → ℕ → List ℕ
-met_at kept cells w = met (marks_in kept) cells ++ get_or (readers_in kept) w []
-
 -- a place that touches these cells can be taken, and has been, the first by writing it
-pub record CanTake (cells : List ℕ) (kept : Traces) (found : Pairs) : Type 0 where
+pub record CanTake (flow : Bool) (cells : List ℕ) (kept : Traces) (found : Pairs) : Type 0 where
   pub even : AreEven kept
   pub kept_is : AreKept found
-  pub tiles : (w : ℕ) (rs : List ℕ) → cells ≡ w ∷ rs → (t : ℕ) → In t (met_at kept cells w)
-      → t < length found.rows.items
+  pub tiles : (w : ℕ) (rs : List ℕ) → cells ≡ w ∷ rs → (t : ℕ)
+      → In t (met_at flow (marks_in kept) (readers_in kept) w rs) → t < length found.rows.items
 
-pub record HasTaken (cells : List ℕ) (u : ℕ) (kept : Traces) (found : Pairs) (kept_then : Traces) (found_then : Pairs)
-    : Type 0 where
+pub record HasTaken (flow : Bool) (cells : List ℕ) (u : ℕ) (kept : Traces) (found : Pairs) (kept_then : Traces)
+    (found_then : Pairs) : Type 0 where
   pub even : AreEven kept_then
   pub kept_is : AreKept found_then
   pub visited : (w : ℕ) (rs : List ℕ) → cells ≡ w ∷ rs
-      → HasVisited u w rs (marks_in kept) (readers_in kept) (marks_in kept_then) (readers_in kept_then)
+      → HasVisited flow u w rs (marks_in kept) (readers_in kept) (marks_in kept_then) (readers_in kept_then)
   pub gains : (w : ℕ) (rs : List ℕ) → cells ≡ w ∷ rs
-      → Gains (met_at kept cells w) u (rows_in found) (rows_in found_then)
+      → Gains (met_at flow (marks_in kept) (readers_in kept) w rs) u (rows_in found) (rows_in found_then)
 
 -- the tile of an instance has taken these cells
-pub record IsTaken (tiling : Tiling) (list : TileList) (x : Instance) (cells : List ℕ) (kept : Traces) (found : Pairs)
-    (kept_then : Traces) (found_then : Pairs) : Type 0 where
+pub record IsTaken (flow : Bool) (tiling : Tiling) (list : TileList) (x : Instance) (cells : List ℕ) (kept : Traces)
+    (found : Pairs) (kept_then : Traces) (found_then : Pairs) : Type 0 where
   pub tile : ℕ
   pub is : IsTileOf tiling list tile x
-  pub taken : HasTaken cells tile kept found kept_then found_then
+  pub taken : HasTaken flow cells tile kept found kept_then found_then

@@ -14,23 +14,24 @@ pairs_of-requires c =
 
 pub rows_of-requires : goal.rows_of-requires
 rows_of-requires c u i =
-    let less = below c.covers_are_those_of_the_walk.ensures c.pairs_make_plans.ensures.once
-    (program_of c.args.kernel.now) c.args.params.now (trees_in c.args.tree.now) (tiling_of c.args.tiling.now)
-    c.args.list.now c.requires.limits c.requires.inside c.requires.tiles 4194304 c.in_ok-pairs.pairs
-    c.in_ok-pairs.ensures u i in
+    let less = below c.covers_are_those_of_the_walk.ensures c.cells_have_numbers_of_their_own.ensures.apart
+    c.pairs_make_plans.ensures.once c.args.flow (program_of c.args.kernel.now) c.args.params.now
+    (trees_in c.args.tree.now) (tiling_of c.args.tiling.now) c.args.list.now c.requires.limits c.requires.inside
+    c.requires.tiles 4194304 c.in_ok-pairs.pairs c.in_ok-pairs.ensures u i in
     let seen = length-map c.in_ok-pairs.pairs.rows.items (λ s. s.keys) in
     omega (arith, less, seen)
 
 pub returns-clause-few : goal.returns-clause-few
 returns-clause-few c few =
-    edges_found c.covers_are_those_of_the_walk.ensures c.pairs_make_plans.ensures.once (program_of c.args.kernel.now)
-    c.args.params.now (trees_in c.args.tree.now) (tiling_of c.args.tiling.now) c.args.list.now c.requires.limits
-    c.requires.inside c.requires.tiles 4194304 c.in_ok-pairs.pairs c.in_ok-pairs.ensures c.in_ok-edges.edges
-    c.in_ok-edges.ensures few refl
+    edges_found c.covers_are_those_of_the_walk.ensures c.cells_have_numbers_of_their_own.ensures.apart
+    c.pairs_make_plans.ensures.once c.args.flow (program_of c.args.kernel.now) c.args.params.now
+    (trees_in c.args.tree.now) (tiling_of c.args.tiling.now) c.args.list.now c.requires.limits c.requires.inside
+    c.requires.tiles 4194304 c.in_ok-pairs.pairs c.in_ok-pairs.ensures c.in_ok-edges.edges c.in_ok-edges.ensures few
+    refl
 
 pub returns-clause-many : goal.returns-clause-many
 returns-clause-many c many =
-    too_many c.covers_are_those_of_the_walk.ensures c.pairs_make_plans.ensures.once (program_of c.args.kernel.now)
-    c.args.params.now (trees_in c.args.tree.now) (tiling_of c.args.tiling.now) c.args.list.now c.requires.limits
-    c.requires.inside c.requires.tiles 4194304 c.in_ok-pairs.pairs c.in_ok-pairs.ensures c.in_ok-edges.edges
-    c.in_ok-edges.ensures many
+    too_many c.covers_are_those_of_the_walk.ensures c.cells_have_numbers_of_their_own.ensures.apart
+    c.pairs_make_plans.ensures.once c.args.flow (program_of c.args.kernel.now) c.args.params.now
+    (trees_in c.args.tree.now) (tiling_of c.args.tiling.now) c.args.list.now c.requires.limits c.requires.inside
+    c.requires.tiles 4194304 c.in_ok-pairs.pairs c.in_ok-pairs.ensures c.in_ok-edges.edges c.in_ok-edges.ensures many

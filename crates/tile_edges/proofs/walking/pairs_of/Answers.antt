@@ -22,8 +22,9 @@ pass_rest-requires-clause-passing c = record {
     within = omega arith;
     left = c.in_ok-spot.ensures.rest c.args.params.now
         ∙ c.in_ok-source.ensures.visits c.args.params.now c.requires.limits.count;
-    passed = none_passed (program_of c.args.kernel.now) c.args.params.now (tiling_of c.args.tiling.now) c.args.list.now
-        c.in_ok-pass.pass.traces c.in_ok-pass.pass.pairs c.in_ok-pass.ensures.even c.in_ok-pass.ensures.marks
-        c.in_ok-pass.ensures.readers c.in_ok-pass.ensures.long c.in_ok-pass.ensures.none c.in_ok-pass.ensures.kept;
+    passed = none_passed c.args.flow (program_of c.args.kernel.now) c.args.params.now (tiling_of c.args.tiling.now)
+        c.args.list.now c.in_ok-pass.pass.traces c.in_ok-pass.pass.pairs c.in_ok-pass.ensures.even
+        c.in_ok-pass.ensures.marks c.in_ok-pass.ensures.readers c.in_ok-pass.ensures.long
+        c.in_ok-pass.ensures.none c.in_ok-pass.ensures.kept;
   };
 }

@@ -18,9 +18,9 @@ ahead-requires-clause-size c = c.requires.can.size
 
 pub ahead-requires-clause-fits : goal.ahead-requires-clause-fits
 ahead-requires-clause-fits c =
-    fit_ahead (program_of c.args.kernel.now) c.args.params.now (trees_in c.args.source.now) (tiling_of c.args.tiling.now)
-    c.args.list.now c.args.table.now c.args.spot.now c.args.pass.now.traces c.args.pass.now.pairs c.requires.can
-    c.requires.passing.way
+    fit_ahead c.args.flow (program_of c.args.kernel.now) c.args.params.now (trees_in c.args.source.now)
+    (tiling_of c.args.tiling.now) c.args.list.now c.args.table.now c.args.spot.now c.args.pass.now.traces
+    c.args.pass.now.pairs c.requires.can c.requires.passing.way
 
 pub ahead-requires-clause-front : goal.ahead-requires-clause-front
 ahead-requires-clause-front c =
@@ -49,9 +49,9 @@ returns-clause-passing c =
       finder = subst (IsFinder (tiling_of c.args.tiling.now) c.args.list.now) (sym c.in_ok-take_ahead.ensures.finder)
           c.in_ok-count.ensures.finder;
       room = c.in_ok-take_ahead.ensures.room;
-      way = subst (λ xs. IsOnItsWay (program_of c.args.kernel.now) c.args.params.now (tiling_of c.args.tiling.now)
-          c.args.list.now (xs ++ behind) c.take_ahead.new.pass.traces c.take_ahead.new.pass.pairs)
-          (sym c.go_along.ensures) c.in_ok-take_ahead.ensures.way;
+      way = subst (λ xs. IsOnItsWay c.args.flow (program_of c.args.kernel.now) c.args.params.now
+          (tiling_of c.args.tiling.now) c.args.list.now (xs ++ behind) c.take_ahead.new.pass.traces
+          c.take_ahead.new.pass.pairs) (sym c.go_along.ensures) c.in_ok-take_ahead.ensures.way;
     }
 
 pub returns-clause-fewer : goal.returns-clause-fewer

@@ -28,8 +28,9 @@ pass-requires-clause-row c =
       turns = c.instances_are_those_of_statements.ensures.turns;
       number = c.statements_are_numbered.ensures.number;
     } in
-    row_within program params tiling list table can laws c.cells_lie_within_22_bits.ensures.numbers x rest kept found
-    (next_place program params tiling list table can x all rest kept found c.in-Some.ensures.rest
+    row_within c.args.flow program params tiling list table can laws c.cells_lie_within_22_bits.ensures.numbers x rest
+    kept found
+    (next_place c.args.flow program params tiling list table can x all rest kept found c.in-Some.ensures.rest
     c.loop-instance.invariant.way)
 
 pub pass-requires-clause-fits : goal.pass-requires-clause-fits
@@ -45,8 +46,8 @@ pass-requires-clause-fits c =
     let kept = c.loop-instance.pass.traces in
     let found = c.loop-instance.pass.pairs in
     let can = c.requires.can in
-    can.fits x (next_walked program params tiling list table can x rest kept found
-    (next_place program params tiling list table can x all rest kept found c.in-Some.ensures.rest
+    can.fits x (next_walked c.args.flow program params tiling list table can x rest kept found
+    (next_place c.args.flow program params tiling list table can x all rest kept found c.in-Some.ensures.rest
     c.loop-instance.invariant.way))
 
 pub pass-requires-clause-there : goal.pass-requires-clause-there
@@ -62,8 +63,8 @@ pass-requires-clause-there c =
     let kept = c.loop-instance.pass.traces in
     let found = c.loop-instance.pass.pairs in
     let can = c.requires.can in
-    can.there x (next_walked program params tiling list table can x rest kept found
-    (next_place program params tiling list table can x all rest kept found c.in-Some.ensures.rest
+    can.there x (next_walked c.args.flow program params tiling list table can x rest kept found
+    (next_place c.args.flow program params tiling list table can x all rest kept found c.in-Some.ensures.rest
     c.loop-instance.invariant.way))
 
 pub pass-requires-clause-take : goal.pass-requires-clause-take
@@ -84,11 +85,11 @@ pass-requires-clause-take c row told =
       turns = c.instances_are_those_of_statements.ensures.turns;
       number = c.statements_are_numbered.ensures.number;
     } in
-    let next = next_place program params tiling list table can x all rest kept found c.in-Some.ensures.rest
+    let next = next_place c.args.flow program params tiling list table can x all rest kept found c.in-Some.ensures.rest
     c.loop-instance.invariant.way in
-    can_take program params tiling list table can x rest kept found next (cells_at row x.turns)
-    (cells_told program params tiling list table can laws c.cells_lie_within_22_bits.ensures.numbers x rest kept found
-    next row told)
+    can_take c.args.flow program params tiling list table can x rest kept found next (cells_at row x.turns)
+    (cells_told c.args.flow program params tiling list table can laws c.cells_lie_within_22_bits.ensures.numbers x rest
+    kept found next row told)
 
 pub pass_ahead-requires-clause-passing : goal.pass_ahead-requires-clause-passing
 pass_ahead-requires-clause-passing c =
@@ -109,16 +110,17 @@ pass_ahead-requires-clause-passing c =
       spot_is = c.in-Some.ensures.spot;
       finder = c.in_ok-pass.ensures.finder;
       room = subst (HasRoomForAll table) (sym c.in_ok-pass.ensures.desk) c.loop-instance.invariant.room;
-      way = step_on program params tiling list table c.requires.can laws c.cells_lie_within_22_bits.ensures.numbers x
-          all rest c.loop-instance.pass.traces c.pass.new.self.traces c.loop-instance.pass.pairs c.pass.new.self.pairs
+      way = step_on c.args.flow program params tiling list table c.requires.can laws
+          c.cells_lie_within_22_bits.ensures.numbers x all rest c.loop-instance.pass.traces c.pass.new.self.traces
+          c.loop-instance.pass.pairs c.pass.new.self.pairs
           c.in-Some.ensures.rest c.loop-instance.invariant.way c.in_ok-pass.ensures.taken;
     }
 
 pub returns-then-pass-gt-MOST : goal.returns-then-pass-gt-MOST
 returns-then-pass-gt-MOST c =
     let many : 4194304 < c.pass_ahead.new.pass.pairs.count = search rules in
-    found_many (program_of c.args.kernel.now) c.args.params.now (tiling_of c.args.tiling.now) c.args.list.now
-    c.args.table.now c.requires.can 4194304
+    found_many c.args.flow (program_of c.args.kernel.now) c.args.params.now (tiling_of c.args.tiling.now)
+    c.args.list.now c.args.table.now c.requires.can 4194304
     (to_come (trees_in c.args.source.now) c.args.params.now c.pass_ahead.new.spot) c.pass_ahead.new.pass.traces
     c.pass_ahead.new.pass.pairs many c.in_ok-pass_ahead.ensures.passing.way
 
@@ -126,6 +128,6 @@ pub returns : goal.returns
 returns c =
     let all = to_come (trees_in c.args.source.now) c.args.params.now c.loop-instance.spot in
     let none : all ≡ [] = search rules in
-    found_all (program_of c.args.kernel.now) c.args.params.now (tiling_of c.args.tiling.now) c.args.list.now
+    found_all c.args.flow (program_of c.args.kernel.now) c.args.params.now (tiling_of c.args.tiling.now) c.args.list.now
     c.args.table.now c.requires.can 4194304 all c.loop-instance.pass.traces c.loop-instance.pass.pairs none
     c.loop-instance.invariant.way

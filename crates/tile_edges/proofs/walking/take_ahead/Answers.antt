@@ -25,9 +25,10 @@ row-row-requires c =
       turns = c.instances_are_those_of_statements.ensures.turns;
       number = c.statements_are_numbered.ensures.number;
     } in
-    row_ahead program params tiling list c.args.table.now c.requires.can laws c.cells_lie_within_22_bits.ensures.numbers
-    (trees_in c.args.source.now) c.args.spot.now kept found (omega (arith, some, few))
-    (subst (λ xs. IsOnItsWay program params tiling list xs kept found)
+    row_ahead c.args.flow program params tiling list c.args.table.now c.requires.can laws
+    c.cells_lie_within_22_bits.ensures.numbers (trees_in c.args.source.now) c.args.spot.now kept found
+    (omega (arith, some, few))
+    (subst (λ xs. IsOnItsWay c.args.flow program params tiling list xs kept found)
     (first_to_come (trees_in c.args.source.now) params c.args.spot.now) c.requires.way)
 
 pub lay-requires : goal.lay-requires
@@ -46,7 +47,7 @@ loop-init c =
       finder = refl;
       room = room_stays_for_all c.args.table.now c.args.pass.now.desk c.lay.new.desk c.requires.room c.lay.ensures.room;
       laid = subst (λ ts. IsLaid c.row-row.result.now (steps_in s) ts c.lay.new.desk) c.turns.ensures c.lay.ensures.laid;
-      way = subst (λ xs. IsOnItsWay program params tiling list xs kept found)
+      way = subst (λ xs. IsOnItsWay c.args.flow program params tiling list xs kept found)
           (first_to_come (trees_in c.args.source.now) params c.args.spot.now) c.requires.way;
     }
 
@@ -77,9 +78,9 @@ take_all-requires c =
       turns = c.instances_are_those_of_statements.ensures.turns;
       number = c.statements_are_numbered.ensures.number;
     } in
-    can_ahead program params tiling list c.args.table.now c.requires.can laws c.cells_lie_within_22_bits.ensures.numbers
-    (trees_in c.args.source.now) c.args.spot.now c.loop.counter c.loop.pass.traces c.loop.pass.pairs row
-    c.as_slice-cells.result.now (omega (arith, less, few)) c.row-row.ensures
+    can_ahead c.args.flow program params tiling list c.args.table.now c.requires.can laws
+    c.cells_lie_within_22_bits.ensures.numbers (trees_in c.args.source.now) c.args.spot.now c.loop.counter
+    c.loop.pass.traces c.loop.pass.pairs row c.as_slice-cells.result.now (omega (arith, less, few)) c.row-row.ensures
     (lent ∙ c.in_ok-put_laid.ensures (steps_in s) (turns_in s (suc c.loop.counter))
     (c.go_on.ensures.laid (steps_in s) here c.loop.invariant.laid)) c.loop.invariant.way
 
@@ -107,9 +108,9 @@ loop-preserved c =
       room = room_stays_for_all c.args.table.now c.loop.pass.desk c.go_on.new.desk c.loop.invariant.room
           c.go_on.ensures.room;
       laid = subst (λ k. IsLaid row (steps_in s) (turns_in s k) c.go_on.new.desk) next laid;
-      way = subst (λ k. IsOnItsWay program params tiling list (to_come_on ts params spot k) c.take_all.new.traces
-          c.take_all.new.pairs) next
-          (gone_ahead program params tiling list c.args.table.now c.requires.can laws
+      way = subst (λ k. IsOnItsWay c.args.flow program params tiling list (to_come_on ts params spot k)
+          c.take_all.new.traces c.take_all.new.pairs) next
+          (gone_ahead c.args.flow program params tiling list c.args.table.now c.requires.can laws
           c.cells_lie_within_22_bits.ensures.numbers ts spot c.loop.counter c.args.count c.args.pass.now.finder.at
           c.loop.pass.traces c.take_all.new.traces c.loop.pass.pairs c.take_all.new.pairs row c.as_slice-cells.result.now
           c.loop-test.true c.requires.few c.requires.tile c.row-row.ensures
@@ -127,5 +128,5 @@ returns-clause-way c =
     let end = c.loop-test.false in
     let most = c.loop.auto.counter-end in
     let same : c.loop.counter ≡ c.args.count = omega (arith, end, most) in
-    subst (λ k. IsOnItsWay program params tiling list (to_come_on ts params c.args.spot.now k) c.loop.pass.traces
-    c.loop.pass.pairs) same c.loop.invariant.way
+    subst (λ k. IsOnItsWay c.args.flow program params tiling list (to_come_on ts params c.args.spot.now k)
+    c.loop.pass.traces c.loop.pass.pairs) same c.loop.invariant.way

@@ -12,6 +12,6 @@ invariant-loop l = record {
   finder : l.pass.finder ≡ l.fn.pass.finder;
   room : HasRoomForAll l.table l.pass.desk;
   laid : IsLaid l.row (steps_in l.spot.stretch) (turns_in l.spot.stretch l.counter) l.pass.desk;
-  way : IsOnItsWay (program_of l.kernel) l.params (tiling_of l.tiling) l.list
+  way : IsOnItsWay l.flow (program_of l.kernel) l.params (tiling_of l.tiling) l.list
       (to_come_on (trees_in l.source) l.params l.spot l.counter) l.pass.traces l.pass.pairs;
 }

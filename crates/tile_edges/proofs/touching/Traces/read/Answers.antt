@@ -36,6 +36,6 @@ loop-cell-preserved c =
     }
 
 pub returns-clause-entered : goal.returns-clause-entered
-returns-clause-entered c =
+returns-clause-entered c off =
     entered_all c.args.cells.now c.loop-cell.cell-index c.args.tile (readers_in c.args.self.now)
     (readers_in c.loop-cell.self) (omega arith) c.loop-cell.invariant.entered

@@ -13,11 +13,12 @@ write-requires-clause-room c =
 
 pub returns-clause-visited : goal.returns-clause-visited
 returns-clause-visited c =
-    let even = c.requires.even in
+    let even = c.in_ok-read.ensures.even in
+    let same = ap (λ v. length v.items) c.in_ok-read.ensures.marks in
     let room = c.requires.written in
-    let seen = length-map c.args.self.now.readers.items (λ list. list.items) in
-    visited c.args.tile c.args.cell c.args.cells.now (marks_in c.args.self.now) (marks_in c.write.new.self)
+    let seen = length-map c.read.new.self.readers.items (λ list. list.items) in
+    visited c.args.flow c.args.tile c.args.cell c.args.cells.now (marks_in c.args.self.now) (marks_in c.write.new.self)
     (readers_in c.args.self.now) (readers_in c.read.new.self) (readers_in c.write.new.self) room
-    (omega (arith, even, room, seen)) c.in_ok-read.ensures.entered
+    (omega (arith, even, same, room, seen)) c.in_ok-read.ensures.entered
     (c.in_ok-write.ensures.mark ∙ ap (λ v. slice_set v.items c.args.cell (suc c.args.tile)) c.in_ok-read.ensures.marks)
     c.in_ok-write.ensures.readers
