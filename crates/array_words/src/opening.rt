@@ -75,7 +75,8 @@ fn split(words: &Words, rest: &mut Seat<(), View>, worker: Worker) -> Pass
 }
 
 /// The words of the opening state, with these cells, which stay as they are, and a pass for each worker, none of which has
-/// made a step. Behind the cells of all arrays stands a counter for each tile where tiles are released one by one.
+/// made a step. Behind the cells of all arrays stand the copies of an expansion, and a counter for each tile where tiles are
+/// released one by one.
 ///
 /// # Errors
 /// `AllocError`.

@@ -1,5 +1,6 @@
 -- What a worker's instances, done at once, leave of a board (`none_done`, `some_done`).
-use Rattle.std.proofs.Common.{◌≡◌, ◌∙◌, ℕ, ◌+◌, ◌<◌, ◌≤◌, List, [], length, get_or, map, ap, ap₂, sym, refl, arith}
+use Rattle.std.proofs.Common.{◌≡◌, ◌∙◌, ◌⊎◌, ℕ, ◌+◌, ◌<◌, ◌≤◌, List, [], length, get_or, map, ap, ap₂, inl, inr, sym}
+use Rattle.std.proofs.Common.{refl, arith}
 use Rattle.std.specs.Prelude.{Vec}
 use Rattle.std.specs.Global.{Global}
 use Rattle.std.specs.Vec.{with_item}
@@ -19,6 +20,7 @@ use Rattle.tile_core.specs.declared.worker.Stage.{Stage}
 use Rattle.tile_core.specs.declared.worker.Stage.TheVariants.{Idle, Ended, Holding, Working}
 use Rattle.tile_core.specs.declared.worker.Worker.{Worker}
 use Rattle.tile_core.specs.steps.Acts.{after_instances, with_cells}
+use Rattle.tile_core.specs.steps.Copied.{DoesNone, DoesSome}
 use Rattle.tile_core.proofs.Acts.{same_acts, same_after, same_alone, stretch_run}
 use Rattle.tile_core.proofs.Gates.{shape_extends}
 use Rattle.tile_core.proofs.Marks.{by_waves_alone}
@@ -59,6 +61,31 @@ module _ (plan : Plan) (b : Board) (id : ℕ) (w : Worker) (board : IsBoard plan
         acts = [];
         replayed = same;
         workers = workers_kept plan b id w board (worker_there plan b id w board within is);
+      }
+
+  -- no instance is due, and nothing is done
+  pub none_due : (x : Worker) (cs : Vec ℕ Global) (n : ℕ) → DoesNone plan w.stage x.stage b.cells.items cs.items n
+      → w.reads.items ≡ [] → x.reads.items ≡ [] → IsWorker plan x
+      → Stretches plan b id n (record b { cells = cs; workers = with_item b.workers id x })
+  none_due x cs n none unread cleared kept =
+      let d : Board = record b { cells = cs; workers = with_item b.workers id x } in
+      let stays : worker_of x ≡ worker_of w = ap₂ staged none.stage (cleared ∙ sym unread) in
+      let same : state_of d ≡ state_of b =
+      ap₂ (λ (ys : List ℕ) (ws : List core.Worker). record {
+        claims = b.claims;
+        finished = b.finished;
+        cells = ys;
+        workers = ws;
+      }) none.cells
+      (sym (set_worker b id x (worker_of w) stays) ∙ set_again (map worker_of b.workers.items) id (worker_of w) here) in
+      record {
+        stretch = λ t k at.
+            let full = none.due t k (where_it_is t k at).0 in
+            let left = at.1 in absurd (omega (arith, full, left));
+        none = λ h. (none.none, same);
+        acts = [];
+        replayed = same;
+        workers = workers_kept plan b id x board kept;
       }
 
   -- n instances are done
@@ -106,3 +133,22 @@ module _ (plan : Plan) (b : Board) (id : ℕ) (w : Worker) (board : IsBoard plan
         replayed = run;
         workers = workers_kept plan b id x board kept;
       }
+
+  -- a worker that may have an instance due
+  pub copied_done : IsDealt (walk_shape plan) → (x : Worker) (cs : Vec ℕ Global) (n : ℕ) (old new : List ℕ)
+      → old ≡ b.cells.items → cs.items ≡ new
+      → DoesNone plan w.stage x.stage old new n ⊎ DoesSome plan w.stage x.stage old new n
+      → w.reads.items ≡ [] → x.reads.items ≡ [] → IsWorker plan x
+      → Stretches plan b id n (record b { cells = cs; workers = with_item b.workers id x })
+  copied_done dealt x cs n old new before after (inl none) unread cleared kept =
+      none_due x cs n record {
+        due = none.due;
+        none = none.none;
+        cells = after ∙ (none.cells ∙ before);
+        stage = none.stage;
+      } unread cleared kept
+  copied_done dealt x cs n old new before after (inr done) unread cleared kept =
+      some_done dealt x cs done.tile done.first n done.works unread done.some done.within done.stage cleared
+      (after
+      ∙ (done.cells ∙ ap (λ (ys : List ℕ). after_instances (walk_shape plan) done.tile done.first n ys) before))
+      kept

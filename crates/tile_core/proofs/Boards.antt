@@ -67,6 +67,18 @@ pub working_tile : (plan : Plan) (w : Worker) (t k : ℕ) → IsWorker plan w �
     → t < (shape_of plan).tiles
 working_tile plan w t k is e = is.tile t (subst (λ s. Holds (staged s w.reads.items) t) (sym e) refl)
 
+-- what a worker tells of its place, where an instance is due
+pub due_at : (plan : Plan) (w : Worker) (i : CodeInstance) (at : ℕ × ℕ) → IsWorker plan w → IsDue plan w.stage i
+    → ((t k : ℕ) → w.stage ≡ Working t k → at ≡ (t, k))
+    → (w.stage ≡ Working at.0 at.1) × (at.0 < (walk_shape plan).tiles) × (at.1 < (walk_shape plan).size at.0)
+    × (place_of plan i ≡ (walk_shape plan).place at.0 at.1)
+due_at plan w i at is d told =
+    let less = working_tile plan w d.tile d.count is d.works in
+    let tiles = (shape_extends plan).tiles in
+    subst (λ (p : ℕ × ℕ). (w.stage ≡ Working p.0 p.1) × (p.0 < (walk_shape plan).tiles)
+    × (p.1 < (walk_shape plan).size p.0) × (place_of plan i ≡ (walk_shape plan).place p.0 p.1))
+    (sym (told d.tile d.count d.works)) (d.works, omega (arith, less, tiles), d.left, d.place)
+
 step_here : (plan : Plan) (b : Board) (id : ℕ) (w : Worker) (v : core.Worker) (e : core.Event) → IsAt b id w
     → worker_of w ≡ v
     → step (shape_of plan) (state_of b) id e ≡ acts (shape_of plan) (state_of b) id v e

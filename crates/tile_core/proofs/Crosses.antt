@@ -12,6 +12,7 @@ use Rattle.scop_syntax.proofs.tree.Item.TheLaws.TheKnot as items
 use Rattle.scop_syntax.specs.contracts.tree.Kernel as Kernel
 use Rattle.stmt_table.specs.contracts.table.Table as Table
 use Rattle.tile_list.specs.contracts.list.TileList as TileList
+use Rattle.tile_core.specs.contracts.expansion.Expansion as Expansion
 use Rattle.tile_core.specs.contracts.plan.Plan as Plan
 use Rattle.tile_core.specs.contracts.view.Key as Key
 use Rattle.tile_core.specs.contracts.words.Words as Words
@@ -28,12 +29,16 @@ tree_sync = search (crosses, nodes.crosses, sendable) depth 60 fits 20000
 list_sync : IsSync TileList.the_row
 list_sync = search (crosses, sendable) depth 100 fits 20000
 
+expansion_sync : IsSync Expansion.the_row
+expansion_sync = search (crosses, sendable) depth 60 fits 20000
+
 plan_sync : (κ : NamedLft) → IsSync (Plan.the_field κ).row
 plan_sync κ =
     let a = kernel_sync in
     let b = table_sync in
     let c = tree_sync in
     let d = list_sync in
+    let e = expansion_sync in
     search (crosses, sendable) depth 60 fits 20000
 
 key_sync : (κ : NamedLft) → IsSync (Key.the_field κ).row

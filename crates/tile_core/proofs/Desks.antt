@@ -9,7 +9,7 @@ use Rattle.stmt_table.specs.Desks.{HasSameRoom, IsLaid}
 use Rattle.stmt_table.specs.declared.desk.Desk.{Desk}
 use Rattle.stmt_table.specs.declared.table.Row.{Row}
 use Rattle.stmt_table.proofs.Desks.{room_stays, same_room_chain}
-use Rattle.tile_core.specs.Plans.{places_in, walk_shape}
+use Rattle.tile_core.specs.Plans.{places_in, plain_shape}
 use Rattle.tile_core.specs.Ranks.{place_in}
 use Rattle.tile_core.specs.declared.plan.Plan.{Plan}
 use Rattle.tile_core.specs.steps.Acts.{values_at}
@@ -35,22 +35,22 @@ module _ (plan : Plan) (row : Row) (steps : List ℤ) (x : Instance) where
   }
 
   pub read_cell : (desk : Desk) (r number : ℕ) → IsDeskAt plan row steps x desk → r < row.code.reads
-      → TellsCell row desk (r + 1) number → number ≡ get_or ((walk_shape plan).read place) r 0
+      → TellsCell row desk (r + 1) number → number ≡ get_or ((plain_shape plan).read place) r 0
   read_cell desk r number at less told =
       at.tells.read r number less (λ form there. told steps x.turns form at.laid
       (subst (λ n. slice_get row.cells.items n ≡ Some form) (let e : suc r ≡ r + 1 = omega arith in e) there))
 
   pub written_cell : (desk : Desk) (number : ℕ) → IsDeskAt plan row steps x desk → TellsCell row desk 0 number
-      → number ≡ (walk_shape plan).written place
+      → number ≡ (plain_shape plan).written place
   written_cell desk number at told = at.tells.written number (λ form there. told steps x.turns form at.laid there)
 
   -- what its code makes of the values of the cells that are read
   pub value_there : (desk : Desk) (cells values : List ℕ) (value : ℕ) → IsDeskAt plan row steps x desk
-      → values ≡ values_at cells ((walk_shape plan).read place) → value ≡ value_by row.code x.turns values
-      → value ≡ (walk_shape plan).value place (values_at cells ((walk_shape plan).read place))
+      → values ≡ values_at cells ((plain_shape plan).read place) → value ≡ value_by row.code x.turns values
+      → value ≡ (plain_shape plan).value place (values_at cells ((plain_shape plan).read place))
   value_there desk cells values value at are is =
-      let rs = (walk_shape plan).read place in
+      let rs = (plain_shape plan).read place in
       let n = ap (λ (vs : List ℕ). length vs) are in
       let m = length-map rs (λ c. get_or cells c 0) in
       let count = at.tells.reads in
-      is ∙ (at.tells.value values (omega (arith, n, m, count)) ∙ ap ((walk_shape plan).value place) are)
+      is ∙ (at.tells.value values (omega (arith, n, m, count)) ∙ ap ((plain_shape plan).value place) are)

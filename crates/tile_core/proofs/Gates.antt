@@ -10,7 +10,9 @@ use Rattle.tile_events.specs.Plan as events
 use Rattle.tile_events.specs.Releases.{released}
 use Rattle.tile_edges.specs.Edges.{edges_of}
 use Rattle.tile_edges.specs.declared.waiting.TileEdges.{TileEdges}
-use Rattle.tile_core.specs.Plans.{HasRest, gated, plan_of, shape_of, walk_plan, walk_shape}
+use Rattle.tile_core.specs.Plans.{HasRest, gated, plain_plan, plain_shape, plan_of, shape_of, sources_in, walk_plan}
+use Rattle.tile_core.specs.Plans.{walk_shape, with_copies}
+use Rattle.tile_core.specs.declared.expansion.Expansion.{Expansion}
 use Rattle.tile_core.specs.declared.plan.Plan.{Plan}
 
 pub if_true : {A : Type 0} (b : Bool) (x y : A) → b ≡ true → (if b then x else y) ≡ x
@@ -110,21 +112,40 @@ pub releases_there : (plan : Plan) (t k : ℕ) → (walk_shape plan).size t ≤ 
     → IsRelease (shape_of plan) ((shape_of plan).place t k)
 releases_there plan t k from to = release_there plan.edges (walk_shape plan) t k from to
 
--- the cells at first, where all counters are 0
-initial_by : (o : Option (Bor TileEdges)) (plan : Plan) (cells : List ℕ) → HasRest plan cells → (c : ℕ)
-    → get_or cells c 0 ≡ (gated o (walk_plan plan cells)).initial c
-initial_by None plan cells rest c = refl
-initial_by (Some e) plan cells rest c =
-    nat_cases c (walk_shape plan).cells
-    (λ l. sym (if_true (nat_lt c (walk_shape plan).cells) (get_or cells c 0) 0 (lt-ltb c (walk_shape plan).cells l)))
-    (λ e. behind (omega (arith, e)))
+-- a row that holds 0 from a cell on, told as one that does so anyway
+held_to : (n c : ℕ) (cells : List ℕ) (f : ℕ → ℕ) → (n ≤ c → get_or cells c 0 ≡ 0) → get_or cells c 0 ≡ f c
+    → get_or cells c 0 ≡ (if nat_lt c n then f c else 0)
+held_to n c cells f rest same =
+    nat_cases c n
+    (λ l. same ∙ sym (if_true (nat_lt c n) (f c) 0 (lt-ltb c n l))) (λ e. behind (omega (arith, e)))
     (λ l. behind (omega (arith, l)))
   where
-    behind : (walk_shape plan).cells ≤ c
-        → get_or cells c 0 ≡ (if nat_lt c (walk_shape plan).cells then get_or cells c 0 else 0)
-    behind from =
-        rest c from ∙ sym (if_false (nat_lt c (walk_shape plan).cells) (get_or cells c 0) 0
-        (le-ltb c (walk_shape plan).cells from))
+    behind : n ≤ c → get_or cells c 0 ≡ (if nat_lt c n then f c else 0)
+    behind from = rest from ∙ sym (if_false (nat_lt c n) (f c) 0 (le-ltb c n from))
+
+-- the cells at first, where all copies are 0
+copies_by : (o : Option (Bor Expansion)) (plan : Plan) (cells : List ℕ) → HasRest plan cells → (c : ℕ)
+    → get_or cells c 0 ≡ (with_copies o (sources_in plan) (plain_plan plan cells)).initial c
+copies_by None plan cells rest c = refl
+copies_by (Some e) plan cells rest c =
+    held_to (plain_shape plan).cells c cells (λ d. get_or cells d 0) (λ from. rest c from) refl
+
+wider_by : (o : Option (Bor Expansion)) (plan : Plan)
+    → (plain_shape plan).cells ≤ (with_copies o (sources_in plan) (plain_shape plan)).cells
+wider_by None plan = omega arith
+wider_by (Some e) plan = omega arith
+
+-- the copies stand behind the cells of all arrays
+pub wider : (plan : Plan) → (plain_shape plan).cells ≤ (walk_shape plan).cells
+wider plan = wider_by plan.expansion plan
+
+-- and all counters
+initial_by : (o : Option (Bor TileEdges)) (plan : Plan) (cells : List ℕ) → HasRest plan cells → (c : ℕ)
+    → get_or cells c 0 ≡ (gated o (walk_plan plan cells)).initial c
+initial_by None plan cells rest c = copies_by plan.expansion plan cells rest c
+initial_by (Some e) plan cells rest c =
+    held_to (walk_shape plan).cells c cells (walk_plan plan cells).initial
+    (λ from. let w = wider plan in rest c (omega (arith, w, from))) (copies_by plan.expansion plan cells rest c)
 
 pub initial_is : (plan : Plan) (cells : List ℕ) → HasRest plan cells → (c : ℕ)
     → get_or cells c 0 ≡ (plan_of plan cells).initial c
@@ -136,5 +157,7 @@ pub same_plan : (plan : Plan) (xs ys : List ℕ) → ((c : ℕ) → get_or xs c 
 same_plan plan xs ys same =
     let at : (λ (c : ℕ). get_or xs c 0) ≡ (λ (c : ℕ). get_or ys c 0) = λ i c. same c i in
     ap (λ (f : ℕ → ℕ). record (shape_of plan) {
-      initial = (gated plan.edges (record (walk_shape plan) { initial = f })).initial;
+      initial = (gated plan.edges (record (walk_shape plan) {
+        initial = (with_copies plan.expansion (sources_in plan) (record (plain_shape plan) { initial = f })).initial;
+      })).initial;
     }) at

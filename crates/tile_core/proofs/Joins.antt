@@ -13,7 +13,7 @@ use Rattle.stmt_table.specs.Joins.{IsJoinAt, joined_by}
 use Rattle.stmt_table.specs.declared.join.JoinLanes.{JoinLanes}
 use Rattle.stmt_table.specs.declared.lane.Lane.{Lane}
 use Rattle.stmt_table.specs.declared.table.Row.{Row}
-use Rattle.tile_core.specs.Plans.{places_in, walk_shape}
+use Rattle.tile_core.specs.Plans.{places_in, plain_shape}
 use Rattle.tile_core.specs.Ranks.{place_in}
 use Rattle.tile_core.specs.Rows.{IsRowAt}
 use Rattle.tile_core.specs.Stretches.{IsAhead}
@@ -42,16 +42,16 @@ module _ (plan : Plan) (row : Row) (steps : List ℤ) (x : Instance) (lanes : Jo
   own = lanes.place ∷ lanes.first ∷ lanes.second ∷ lanes.third ∷ []
 
   read_lane : (r : ℕ) (lane : Lane) → r < 3 → slice_get own (suc r) ≡ Some lane
-      → lane.at ≡ get_or ((walk_shape plan).read place) r 0
+      → lane.at ≡ get_or ((plain_shape plan).read place) r 0
   read_lane r lane less there =
       let reads = at.laid.joins.reads in
       at.tells.read r lane.at (omega (arith, less, reads))
       (λ form told. (at.laid.cells.each (suc r) form lane told there).at)
 
-  pub written_lane : lanes.place.at ≡ (walk_shape plan).written place
+  pub written_lane : lanes.place.at ≡ (plain_shape plan).written place
   written_lane = at.tells.written lanes.place.at (λ form told. (at.laid.cells.each 0 form lanes.place told refl).at)
 
-  read_within : (r cells : ℕ) (lane : Lane) → r < 3 → slice_get own (suc r) ≡ Some lane → (walk_shape plan).cells ≤ cells
+  read_within : (r cells : ℕ) (lane : Lane) → r < 3 → slice_get own (suc r) ≡ Some lane → (plain_shape plan).cells ≤ cells
       → lane.at < cells
   read_within r cells lane less there wide =
       let reads = at.laid.joins.reads in
@@ -60,7 +60,7 @@ module _ (plan : Plan) (row : Row) (steps : List ℤ) (x : Instance) (lanes : Jo
       omega (arith, found, inside, wide)
 
   -- they stand at cells of the plan
-  pub all_within : (cells : List ℕ) → (walk_shape plan).cells ≤ length cells → AreWithin lanes cells
+  pub all_within : (cells : List ℕ) → (plain_shape plan).cells ≤ length cells → AreWithin lanes cells
   all_within cells wide =
       let found = written_lane in
       let inside = at.tells.written_inside in record {
@@ -71,15 +71,15 @@ module _ (plan : Plan) (row : Row) (steps : List ℤ) (x : Instance) (lanes : Jo
       }
 
   -- a join is stored
-  pub join_stored : (walk_shape plan).adds ((walk_shape plan).written place) ≡ false
+  pub join_stored : (plain_shape plan).adds ((plain_shape plan).written place) ≡ false
   join_stored = sym at.tells.adds ∙ at.laid.stores
 
   -- what it makes of the values of the cells that are read
   pub join_there : (cells : List ℕ)
       → joined_by lanes.join (get_or cells lanes.first.at 0) (get_or cells lanes.second.at 0)
-      (get_or cells lanes.third.at 0) ≡ (walk_shape plan).value place (values_at cells ((walk_shape plan).read place))
+      (get_or cells lanes.third.at 0) ≡ (plain_shape plan).value place (values_at cells ((plain_shape plan).read place))
   join_there cells =
-      let rs = (walk_shape plan).read place in
+      let rs = (plain_shape plan).read place in
       let f : ℕ → ℕ = λ c. get_or cells c 0 in
       let count : length rs ≡ 3 = sym at.tells.reads ∙ at.laid.joins.reads in
       let values : f lanes.first.at ∷ f lanes.second.at ∷ f lanes.third.at ∷ [] ≡ values_at cells rs =
@@ -88,7 +88,7 @@ module _ (plan : Plan) (row : Row) (steps : List ℤ) (x : Instance) (lanes : Jo
       ∙ (ap (λ (c : ℕ). f (get_or rs 0 0) ∷ f (get_or rs 1 0) ∷ f c ∷ []) (read_lane 2 lanes.third (omega arith) refl)
       ∙ three f rs count)) in
       sym (at.laid.joins.value (leaves_at row.code x.turns) _ _ _)
-      ∙ (at.tells.value _ (sym at.laid.joins.reads) ∙ ap ((walk_shape plan).value place) values)
+      ∙ (at.tells.value _ (sym at.laid.joins.reads) ∙ ap ((plain_shape plan).value place) values)
 
 -- what a worker has ahead, where the lanes stand at the first of it
 pub joined_from : (plan : Plan) (stage : Stage) (next : Option CodeInstance) (stretch : Stretch) (count : ℕ)

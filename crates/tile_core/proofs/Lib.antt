@@ -3,6 +3,7 @@ pub mod Cuts
 pub mod Scans
 pub mod Gates
 pub mod Marks
+pub mod Copies
 pub mod Plans
 pub mod Tiles
 pub mod TouchedCells
@@ -11,8 +12,10 @@ pub mod Desks
 pub mod Ahead
 pub mod Joins
 pub mod Workers
+pub mod CopiedCells
 pub mod HeldTiles
 pub mod GatedPlans
+pub mod HeldCells
 pub mod Successors
 pub mod Waiting
 pub mod Stretches

@@ -4,7 +4,7 @@ use Rattle.std.proofs.Common.{arith}
 use Rattle.std.specs.Prelude.{slice_get}
 use Rattle.std.proofs.lemmas.Option.{slice_get_within}
 use Rattle.scop_syntax.specs.Cells.{Cell, accesses, cell_of}
-use Rattle.scop_syntax.specs.Execution.{IsCell, cell_number, layout}
+use Rattle.scop_syntax.specs.Execution.{IsCell, cell_number, layout, total_cells}
 use Rattle.scop_syntax.specs.Limits.{WithinLimits}
 use Rattle.scop_syntax.specs.Members.{In}
 use Rattle.scop_syntax.specs.Reductions.{is_marked, loads}
@@ -17,13 +17,13 @@ use Rattle.stmt_table.specs.declared.table.Row.{Row}
 use Rattle.stmt_table.proofs.Accesses.{touched_access}
 use Rattle.stmt_table.proofs.Visits.{HasRowBy, WalkLaws, adds_told, cell_told_by, reads_told, row_by, value_told}
 use Rattle.tile_events.specs.Flat.{read_by, value_by, written_by}
-use Rattle.tile_events.specs.Plan.{IsDealt}
 use Rattle.tile_core.specs.Marks.{adds_to}
-use Rattle.tile_core.specs.Plans.{IsPlan, extents_in, places_in, program_in, walk_shape, walk_in}
+use Rattle.tile_core.specs.Plans.{IsPlan, extents_in, places_in, program_in, walk_in}
 use Rattle.tile_core.specs.Ranks.{place_in}
 use Rattle.tile_core.specs.Rows.{IsFormed, IsRowAt}
 use Rattle.tile_core.specs.declared.plan.Plan.{Plan}
 use Rattle.tile_core.proofs.Marks.{adds_is}
+use Rattle.tile_core.proofs.Plans.{visit_read, visit_written}
 use Rattle.tile_core.proofs.TouchedCells.{ArePlaced, TellsCell, few_reads, place_within, read_is, reads_there, there, written_is}
 
 -- a visit's row
@@ -62,10 +62,11 @@ module _ (laws : WalkLaws) (plan : Plan) (x : Instance) (is : IsPlan plan) where
       (λ form e. tells form (ap (λ (r : Row). slice_get r.cells.items access) same ∙ e))
 
   -- what the row of a walked instance tells
-  pub row_tells : AreSmall → StandOnce (program_in plan) plan.params.now → ArePlaced → IsDealt (walk_shape plan)
+  pub row_tells : AreSmall → StandOnce (program_in plan) plan.params.now → ArePlaced
+      → ((c : Cell) → IsCell (extents_in plan) c → cell_number (extents_in plan) c < total_cells (extents_in plan))
       → In x (places_in plan) → (row : Row) → slice_get plan.table.now.rows.items x.number ≡ Some row
       → IsRowAt plan row x
-  row_tells small once placed dealt walked row told =
+  row_tells small once placed below walked row told =
       let t = there plan x walked in
       let v = t.0 in
       let has = row_at v t.1.is in
@@ -94,11 +95,11 @@ module _ (laws : WalkLaws) (plan : Plan) (x : Instance) (is : IsPlan plan) where
         adds = adds_told marked program params plan.table.now x v has
             ∙ (sym (adds_is (extents_in plan) marked own cell)
             ∙ sym (ap (λ o. adds_to (extents_in plan) marked (written_by (extents_in plan) o)) t.1.at));
-        written_inside = dealt.written place within;
+        written_inside = visit_written (extents_in plan) (walk_in plan) below is.inside place within;
         read = λ r number l tells. read_is plan x r number once is walked (omega (arith, l, told_reads, many))
             (tells_cell small has.row has.told (suc r) number tells);
-        read_inside = λ r l. dealt.read place (get_or loaded r 0) within
-            (in_at loaded r 0 (omega (arith, l, told_reads, many)));
+        read_inside = λ r l. visit_read (extents_in plan) (walk_in plan) below is.inside marked place (get_or loaded r 0)
+            within (in_at loaded r 0 (omega (arith, l, told_reads, many)));
         value = λ values long. value_told marked program params plan.table.now x v values has (long ∙ sym told_reads)
             ∙ sym (ap (λ o. value_by marked o values) t.1.at);
       })

@@ -11,7 +11,7 @@ use Rattle.tile_events.specs.Releases.{Edges, pairs_to, released}
 use Rattle.tile_events.specs.Rule.{gate_word}
 use Rattle.tile_edges.specs.Edges.{AreEdgesOf, edges_of}
 use Rattle.tile_edges.specs.declared.waiting.TileEdges.{TileEdges}
-use Rattle.tile_core.specs.Plans.{HasEdges, HaveRoom, IsPlan, gated, program_in, shape_of, walk_shape}
+use Rattle.tile_core.specs.Plans.{HasEdges, HaveRoom, IsPlan, gated, is_expanded, program_in, shape_of, walk_shape}
 use Rattle.tile_core.specs.declared.plan.Plan.{Plan}
 use Rattle.tile_core.proofs.Cuts.{starts_rise}
 use Rattle.tile_core.proofs.Gates.{if_false, tiles_are}
@@ -90,10 +90,10 @@ module _ (plan : Plan) (e : Bor TileEdges) (some : plan.edges ≡ Some e) where
       ∙ counter_there (walk_shape plan) pairs t n
 
   module _ (is : IsPlan plan) where
-    pub edges_are : AreEdgesOf (program_in plan) plan.params.now is.tiling plan.list.now e.now
+    pub edges_are : AreEdgesOf (is_expanded plan) (program_in plan) plan.params.now is.tiling plan.list.now e.now
     edges_are =
         subst (λ (o : Option (Bor TileEdges)). MatchOption o ⊤
-        (λ x. AreEdgesOf (program_in plan) plan.params.now is.tiling plan.list.now x.now)) some is.edges
+        (λ x. AreEdgesOf (is_expanded plan) (program_in plan) plan.params.now is.tiling plan.list.now x.now)) some is.edges
 
     room : HaveRoom plan.list.now e.now
     room = subst (λ (o : Option (Bor TileEdges)). MatchOption o ⊤ (λ x. HaveRoom plan.list.now x.now)) some is.room

@@ -1,5 +1,5 @@
 -- Sizes of tiles, and offsets of waves: a plan's tiles as a deal.
-use Rattle.std.proofs.Common.{◌≡◌, ℕ, zero, suc, ◌-◌, ◌+◌, ◌≤◌, ◌<◌, Bool, true, false, List, [], ◌∷◌, length, Some}
+use Rattle.std.proofs.Common.{◌≡◌, ℕ, zero, suc, ◌-◌, ◌+◌, ◌≤◌, ◌<◌, Bool, true, false, List, [], ◌∷◌, ◌++◌, length, Some}
 use Rattle.std.proofs.Common.{ap, sym}
 use Rattle.std.proofs.Common.{◌∙◌, arith}
 use Rattle.std.specs.Prelude.{slice_get, nat_lt, if◌then◌else◌}
@@ -7,13 +7,14 @@ use Rattle.std.specs.Option.{option_map}
 use Rattle.std.proofs.lemmas.List.{length-map}
 use Rattle.std.proofs.lemmas.Option.{slice_get-map, slice_get-get_or, get_or_from_slice_get}
 use Rattle.scop_syntax.proofs.Members.{nat_cases}
+use Rattle.expansions.proofs.Firsts.{at_back, at_front}
 use Rattle.tile_list.specs.Tiles.{waves_in}
 use Rattle.tile_list.specs.TilesView.{waves_of}
 use Rattle.tile_list.specs.declared.list.Tile.{Tile}
 use Rattle.tile_events.specs.Deal.{offset_to}
 use Rattle.tile_events.specs.Plan.{IsDealt}
-use Rattle.tile_core.specs.Plans.{IsPlan, deal_of, walk_plan, sizes_of}
-use Rattle.tile_core.specs.Ranks.{start_at}
+use Rattle.tile_core.specs.Plans.{IsPlan, deal_of, walk_plan}
+use Rattle.tile_core.specs.Ranks.{sizes_of, start_at}
 use Rattle.tile_core.specs.declared.plan.Plan.{Plan}
 
 -- the next tile begins behind all instances of this one
@@ -26,6 +27,19 @@ start_step (u ∷ us) (suc t) tile e = let r = start_step us t tile e in omega (
 pub size_is : (tiles : List Tile) (t : ℕ) (tile : Tile) → slice_get tiles t ≡ Some tile
     → tile.size ≡ start_at (sizes_of tiles) (suc t) - start_at (sizes_of tiles) t
 size_is tiles t tile e = let s = start_step tiles t tile e in omega (arith, s)
+
+-- the starts of one tile more
+pub starts_more : (tiles : List Tile) (n start : ℕ) (old new : List ℕ) → new ≡ old ++ start ∷ [] → length old ≡ n
+    → start ≡ start_at (sizes_of tiles) n
+    → ((t : ℕ) → t < n → slice_get old t ≡ Some (start_at (sizes_of tiles) t)) → (t : ℕ) → t < n + 1
+    → slice_get new t ≡ Some (start_at (sizes_of tiles) t)
+starts_more tiles n start old new put many begins each t less =
+    ap (λ (xs : List ℕ). slice_get xs t) put
+    ∙ nat_cases t n
+    (λ l. at_front old (start ∷ []) t _ (each t l))
+    (λ e. ap (slice_get (old ++ start ∷ [])) (let q : t ≡ length old + 0 = omega (arith, e, many) in q)
+    ∙ (at_back old (start ∷ []) 0 ∙ (ap Some begins ∙ ap (λ m. Some (start_at (sizes_of tiles) m)) (sym e))))
+    (λ l. absurd (omega (arith, l, less)))
 
 wave_there : (tiles : List Tile) (t : ℕ) (tile : Tile) → slice_get tiles t ≡ Some tile
     → slice_get (waves_of tiles) t ≡ Some tile.wave

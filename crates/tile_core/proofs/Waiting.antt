@@ -1,7 +1,9 @@
 -- What holds between two events of a run whose tiles are released one by one, from the laws of such plans.
-use Rattle.std.proofs.Common.{◌≡◌, ◌⊎◌, ℕ, ◌+◌, ◌<◌, ◌≤◌, false, List, [], get_or, Some, Bor, refl, subst, arith}
+use Rattle.std.proofs.Common.{◌≡◌, ◌⊎◌, ℕ, suc, ◌+◌, ◌<◌, ◌≤◌, false, true, List, [], length, get_or, Some, Bor}
+use Rattle.std.proofs.Common.{refl, subst, arith}
 use Rattle.std.proofs.lemmas.Option.{slice_get_within}
 use Rattle.scop_syntax.specs.Cells.{PlacesConflict}
+use Rattle.scop_syntax.specs.Writers.{last_of}
 use Rattle.scop_syntax.proofs.Members.{nat_cases}
 use Rattle.tile_events.specs.Core.{State, needed_by, seen_by}
 use Rattle.tile_events.specs.Covers.{ArePairsOf}
@@ -11,9 +13,10 @@ use Rattle.tile_events.specs.Releases.{AreCovered, AreEdges, Edges, IsDone, Lead
 use Rattle.tile_events.specs.Sound.{IsBegun, IsFinished, Sound}
 use Rattle.tile_edges.specs.Edges.{edges_of}
 use Rattle.tile_edges.specs.declared.waiting.TileEdges.{TileEdges}
-use Rattle.tile_core.specs.Plans.{IsPlan, extents_in, plan_of, shape_of, walk_in, walk_plan, walk_shape}
+use Rattle.tile_core.specs.Plans.{IsPlan, extents_in, is_expanded, plan_of, shape_of, walk_in, walk_plan, walk_shape}
 use Rattle.tile_core.specs.declared.plan.Plan.{Plan}
-use Rattle.tile_core.proofs.GatedPlans.{GateLaws, covered_is, pairs_are, touch_from}
+use Rattle.tile_core.proofs.Copies.{last_source, source_within}
+use Rattle.tile_core.proofs.GatedPlans.{GateLaws, covered_is, pairs_are, read_before, touch_from, touch_read}
 use Rattle.tile_core.proofs.Gates.{by_edges, tiles_are}
 use Rattle.tile_core.proofs.Marks.{none_added, none_with}
 use Rattle.tile_core.proofs.Successors.{edges_are, needs_with, seen_with}
@@ -78,13 +81,31 @@ module _ (laws : WaitLaws) (plan : Plan) (e : Bor TileEdges) (is : IsPlan plan) 
         laws.tells (walk_plan plan cells) pairs s (laws.gate.dealt plan cells is) (edges_are plan e some is).rows few
         there
 
-    pub conflicts_done : (i j : ℕ) → PlacesConflict (walk_in plan) i j → IsBegun s ((walk_shape plan).tile j)
+    touched_done : (i j : ℕ) → i < j → j < length (walk_in plan) → Touch (walk_plan plan cells) i j
+        → IsBegun s ((walk_shape plan).tile j)
         → ((walk_shape plan).tile i ≡ (walk_shape plan).tile j)
         ⊎ IsDone (walk_plan plan cells) pairs s ((walk_shape plan).tile i)
-    conflicts_done i j conflict begun =
+    touched_done i j less within touch begun =
         laws.ends (walk_plan plan cells) pairs s i j (laws.gate.dealt plan cells is) (edges_are plan e some is).rows
-        (covered_is laws.gate plan is cells e.now (edges_are plan e some is) none) there conflict.order
-        (slice_get_within (walk_in plan) j conflict.later conflict.is_later) (touch_from plan cells i j none conflict) begun
+        (covered_is laws.gate plan is cells e.now (edges_are plan e some is) none) there less within touch begun
+
+    pub conflicts_done : (i j : ℕ) → is_expanded plan ≡ false → PlacesConflict (walk_in plan) i j
+        → IsBegun s ((walk_shape plan).tile j)
+        → ((walk_shape plan).tile i ≡ (walk_shape plan).tile j)
+        ⊎ IsDone (walk_plan plan cells) pairs s ((walk_shape plan).tile i)
+    conflicts_done i j unexpanded conflict =
+        touched_done i j conflict.order (slice_get_within (walk_in plan) j conflict.later conflict.is_later)
+        (touch_from plan cells i j unexpanded none conflict)
+
+    pub sources_done : (i j r : ℕ) → is_expanded plan ≡ true → last_of (walk_in plan) j (suc r) ≡ Some i
+        → IsBegun s ((walk_shape plan).tile j)
+        → ((walk_shape plan).tile i ≡ (walk_shape plan).tile j)
+        ⊎ IsDone (walk_plan plan cells) pairs s ((walk_shape plan).tile i)
+    sources_done i j r expanded last =
+        let source = last_source (walk_in plan) i j r last in
+        let within = source_within (walk_in plan) j (Some i) source in
+        touched_done i j (read_before laws.gate.numbers plan is cells expanded i j r last) within
+        (touch_read laws.gate.numbers plan is cells expanded i j r last)
 
     pub gate_filled : (u : ℕ) → u < (shape_of plan).tiles → ((t : ℕ) → t < u → IsFinished s t)
         → needed_by (shape_of plan).gate (shape_of plan) u ≤ seen_by (shape_of plan).gate s u

@@ -138,7 +138,7 @@ next_is plan r None old new at goes ends =
     record { instance = sym h.0; behind = sym goes ∙ (z ∙ sym h.1) }
 
 -- the rank of an instance of a tile is one of the scan
-rank_within : (plan : Plan) (t k : ℕ) → IsScan (deal_of plan) → length (scan_in plan) ≡ length (walk_in plan)
+pub rank_within : (plan : Plan) (t k : ℕ) → IsScan (deal_of plan) → length (scan_in plan) ≡ length (walk_in plan)
     → t < (shape_of plan).tiles → k < (walk_shape plan).size t → (deal_of plan).start t + k < length (scan_in plan)
 rank_within plan t k scan many less left =
     let d = deal_of plan in

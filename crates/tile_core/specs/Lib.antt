@@ -2,6 +2,7 @@ pub mod Ranks
 pub mod Acts
 pub mod steps
 pub mod Marks
+pub mod Expansions
 pub mod Plans
 pub mod Workers
 pub mod Stretches

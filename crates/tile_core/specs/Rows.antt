@@ -5,7 +5,7 @@ use Rattle.scop_syntax.specs.Values.{wrapped}
 use Rattle.scop_syntax.specs.Walk.{Instance}
 use Rattle.stmt_table.specs.Codes.{IsWellMade, value_by}
 use Rattle.stmt_table.specs.declared.table.Row.{Row}
-use Rattle.tile_core.specs.Plans.{places_in, walk_shape}
+use Rattle.tile_core.specs.Plans.{places_in, plain_shape}
 use Rattle.tile_core.specs.Ranks.{place_in}
 use Rattle.tile_core.specs.declared.plan.Plan.{Plan}
 
@@ -18,15 +18,15 @@ IsFormed row x access number =
 pub record IsRowAt (plan : Plan) (row : Row) (x : Instance) : Type 0 where
   pub made : IsWellMade row.code
   pub accesses : length row.cells.items ≡ suc row.code.reads
-  pub reads : row.code.reads ≡ length ((walk_shape plan).read (place_in (places_in plan) x))
+  pub reads : row.code.reads ≡ length ((plain_shape plan).read (place_in (places_in plan) x))
   pub few : row.code.reads ≤ 16
   pub written : (number : ℕ) → IsFormed row x 0 number
-      → number ≡ (walk_shape plan).written (place_in (places_in plan) x)
-  pub adds : row.adds ≡ (walk_shape plan).adds ((walk_shape plan).written (place_in (places_in plan) x))
-  pub written_inside : (walk_shape plan).written (place_in (places_in plan) x) < (walk_shape plan).cells
+      → number ≡ (plain_shape plan).written (place_in (places_in plan) x)
+  pub adds : row.adds ≡ (plain_shape plan).adds ((plain_shape plan).written (place_in (places_in plan) x))
+  pub written_inside : (plain_shape plan).written (place_in (places_in plan) x) < (plain_shape plan).cells
   pub read : (r number : ℕ) → r < row.code.reads → IsFormed row x (suc r) number
-      → number ≡ get_or ((walk_shape plan).read (place_in (places_in plan) x)) r 0
+      → number ≡ get_or ((plain_shape plan).read (place_in (places_in plan) x)) r 0
   pub read_inside : (r : ℕ) → r < row.code.reads
-      → get_or ((walk_shape plan).read (place_in (places_in plan) x)) r 0 < (walk_shape plan).cells
+      → get_or ((plain_shape plan).read (place_in (places_in plan) x)) r 0 < (plain_shape plan).cells
   pub value : (values : List ℕ) → length values ≡ row.code.reads
-      → value_by row.code x.turns values ≡ (walk_shape plan).value (place_in (places_in plan) x) values
+      → value_by row.code x.turns values ≡ (plain_shape plan).value (place_in (places_in plan) x) values

@@ -1,4 +1,5 @@
 -- What only proofs and private contracts need.
 pub mod Acts
+pub mod Copied
 pub mod Desks
 pub mod Joins

@@ -5,6 +5,7 @@ ghost use Rattle.tile_core.specs.Acts.{last_event};
 ghost use Rattle.tile_core.specs.Boards.{Does, IsBoard, Stretches, event_of, seen_of, state_of};
 ghost use Rattle.tile_core.specs.Plans.{HasEdges, shape_of, walk_shape};
 
+use crate::copying::do_copied;
 use crate::plan::Plan;
 use crate::plan_laws::walks_are_dealt;
 use crate::stretching::{do_ahead, updated};
@@ -140,7 +141,8 @@ impl Board {
         if read >= plan.reads(instance) {
             return Err(NotEnabled);
         }
-        let value = cell_at(&self.cells, plan.cell_read(instance, read));
+        let (tile, done) = worker.at();
+        let value = cell_at(&self.cells, plan.cell_read(instance, tile, done, read));
         self.workers[id].read(value);
         Ok(Seen::Read(value))
     }
@@ -158,7 +160,8 @@ impl Board {
         if worker.reads.len() != plan.reads(due) {
             return Err(NotEnabled);
         }
-        let at = plan.cell_written(due);
+        let (tile, done) = worker.at();
+        let at = plan.cell_written(due, tile, done);
         if plan.adds(due) != adds {
             return Err(NotEnabled);
         }
@@ -196,6 +199,9 @@ impl Board {
         let worker = &mut self.workers[id];
         if worker.reads.len() > 0 {
             return 0;
+        }
+        if plan.expansion.is_some() {
+            return do_copied(&mut self.cells, plan, worker);
         }
         let rounds = worker.rounds(plan);
         if rounds > 0 {

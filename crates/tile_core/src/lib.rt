@@ -6,7 +6,9 @@
 
 pub mod board;
 pub mod cell_laws;
+mod copying;
 pub mod cores;
+pub mod expansion;
 pub mod first_words;
 mod joining;
 pub mod plan;

@@ -8,6 +8,7 @@ ghost use Rattle.tile_core.specs.Rows.{IsRowAt};
 ghost use Rattle.tile_events.specs.Core.{needed_by};
 ghost use Rattle.tile_core.specs.Plans.{HaveRoom, IsPlan, place_of, places_in, shape_of, walk_shape};
 
+use crate::expansion::Expansion;
 use crate::plan_laws::{rows_tell_instances, walks_are_dealt};
 use loop_tree::Tree;
 use scop_syntax::instance::Instance;
@@ -20,7 +21,8 @@ use tile_list::{Tile, TileList};
 /// A kernel with its parameters, the table of its statements, the tree of a plan of it, and the tiles of its visits. Where
 /// it has the pairs of these of which one waits for the other, a tile is opened once all that lead to it have released
 /// it, else once all tiles of earlier waves are finished. What writes a cell of one of the arrays that are marked adds to
-/// it, without a load of it, and waits for no other that does.
+/// it, without a load of it, and waits for no other that does. Where it has an expansion, each instance writes a copy of its
+/// own and reads those of its sources, for which alone it waits.
 #[derive(Clone, Copy)]
 pub struct Plan<'a> {
     pub kernel: &'a Kernel,
@@ -30,6 +32,7 @@ pub struct Plan<'a> {
     pub list: &'a TileList,
     pub edges: Option<&'a TileEdges>,
     pub marked: &'a [usize],
+    pub expansion: Option<&'a Expansion>,
 }
 
 /// The tile with this number.
@@ -164,27 +167,43 @@ impl<'a> Plan<'a> {
         self.row(instance).reads()
     }
 
-    /// The cell of read `read` of the instance, by its number among those of all arrays.
+    /// The cell of read `read` of instance `done` of a tile, by its number among those of all arrays and the copies behind
+    /// them.
     #[inline]
-    pub fn cell_read(&self, instance: &Instance, read: usize) -> usize
+    pub fn cell_read(&self, instance: &Instance, tile: u64, done: usize, read: usize) -> usize
         requires plan { IsPlan self.now }
         requires walked { In (instance_of instance.now) (places_in self.now) }
+        requires tile { tile < (walk_shape self.now).tiles }
+        requires left { done < (walk_shape self.now).size tile }
+        requires place { place_of self.now instance.now ≡ (walk_shape self.now).place tile done }
         requires read { read < length ((walk_shape self.now).read (place_of self.now instance.now)) }
         ensures cell { result ≡ get_or ((walk_shape self.now).read (place_of self.now instance.now)) read 0 }
         ensures inside { result < (walk_shape self.now).cells }
     {
-        self.row(instance).cell_at(instance.turns(), read + 1)
+        walks_are_dealt();
+        let own = self.row(instance).cell_at(instance.turns(), read + 1);
+        match self.expansion {
+            None => own,
+            Some(expansion) => expansion.cell_read(own, expansion.place(tile, done), read),
+        }
     }
 
-    /// The cell that the instance writes, by its number among those of all arrays.
+    /// The cell that instance `done` of a tile writes, by its number among those of all arrays and the copies behind them.
     #[inline]
-    pub fn cell_written(&self, instance: &Instance) -> usize
+    pub fn cell_written(&self, instance: &Instance, tile: u64, done: usize) -> usize
         requires plan { IsPlan self.now }
         requires walked { In (instance_of instance.now) (places_in self.now) }
+        requires tile { tile < (walk_shape self.now).tiles }
+        requires left { done < (walk_shape self.now).size tile }
+        requires place { place_of self.now instance.now ≡ (walk_shape self.now).place tile done }
         ensures cell { result ≡ (walk_shape self.now).written (place_of self.now instance.now) }
         ensures inside { result < (walk_shape self.now).cells }
     {
-        self.row(instance).cell_at(instance.turns(), 0)
+        walks_are_dealt();
+        match self.expansion {
+            None => self.row(instance).cell_at(instance.turns(), 0),
+            Some(expansion) => expansion.cells + expansion.place(tile, done),
+        }
     }
 
     /// Whether the instance adds to its cell; else it stores there.

@@ -1,5 +1,5 @@
 //! Laws of plans, as contracts of functions that call the laws which their proofs use.
-ghost use Rattle.std.specs.Prelude.{◌≡◌, ℕ, ◌<◌, ◌≤◌, List, Some, length, slice_get, slice_index_or};
+ghost use Rattle.std.specs.Prelude.{◌≡◌, ℕ, ◌+◌, ◌<◌, ◌≤◌, List, Some, false, length, slice_get, slice_index_or, true};
 ghost use Rattle.scop_syntax.specs.Cells.{Cell};
 ghost use Rattle.scop_syntax.specs.Execution.{
   IsCell,
@@ -8,11 +8,13 @@ ghost use Rattle.scop_syntax.specs.Execution.{
   cell_number,
   exec,
   held,
+  value_stored_at,
 };
 ghost use Rattle.scop_syntax.specs.Members.{In};
 ghost use Rattle.scop_syntax.specs.Walk.{Instance, Visit, instance};
 ghost use Rattle.stmt_table.specs.declared.table.Row.{Row};
 ghost use Rattle.tile_edges.specs.Edges.{IsTileOf};
+ghost use Rattle.tile_events.specs.Copies.{AreSources, expanded};
 ghost use Rattle.tile_events.specs.Core.{State};
 ghost use Rattle.tile_events.specs.Deal.{IsScan};
 ghost use Rattle.tile_events.specs.Flat.{flat};
@@ -25,10 +27,14 @@ ghost use Rattle.tile_core.specs.Plans.{
   IsPlan,
   deal_of,
   extents_in,
+  is_expanded,
   places_in,
+  plain_plan,
+  plain_shape,
   plan_of,
   program_in,
   scan_in,
+  sources_in,
   walk_in,
   walk_plan,
   walk_shape,
@@ -41,14 +47,16 @@ use scop_syntax::limit_laws::cells_lie_within_22_bits;
 use scop_syntax::walk_laws::{
     instances_are_those_of_statements, statements_are_numbered, walks_are_in_order,
 };
+use tile_events::copy_laws::copies_keep_what_is_read;
 use tile_events::core_laws::all_interleavings_agree;
 use tile_events::deal_laws::scans_are_dealt;
 use tile_events::flat_laws::{covers_are_those_of_the_walk, plans_execute_the_walk};
 use tile_events::release_laws::{covers_join_what_touches, pairs_make_plans};
 use tile_list::laws::{numbers_tell_waves, tiles_stand_one_behind_another};
 
-/// The tiles of a plan hold each place of the walk once, that of its instance, and of two places that touch one cell, but
-/// not where both add to it, the earlier comes first in one tile or lies in an earlier wave.
+/// The tiles of a plan hold each place of the walk once, that of its instance, and of two places that touch one cell,
+/// but not where both add to it, the earlier comes first in one tile or lies in an earlier wave. Its places are those of
+/// the walk, over the cells of all arrays; with an expansion each has a copy behind them.
 pub fn walks_are_dealt()
     ensures scan { (plan : Plan) → IsPlan plan → IsScan (deal_of plan) }
     ensures count { (plan : Plan) → IsPlan plan → length (scan_in plan) ≡ length (walk_in plan) }
@@ -56,17 +64,24 @@ pub fn walks_are_dealt()
         → IsTileOf is.tiling plan.list.now ((walk_shape plan).tile j) (instance v) }
     ensures good { (plan : Plan) (cells : List ℕ) → IsPlan plan → GoodPlan (walk_plan plan cells) }
     ensures dealt { (plan : Plan) (cells : List ℕ) → IsPlan plan → IsDealt (walk_plan plan cells) }
+    ensures plain { (plan : Plan) (cells : List ℕ) → is_expanded plan ≡ false
+        → walk_plan plan cells ≡ plain_plan plan cells }
+    ensures copied { (plan : Plan) (cells : List ℕ) → is_expanded plan ≡ true
+        → walk_plan plan cells ≡ expanded (plain_plan plan cells) (sources_in plan) }
+    ensures sources { (plan : Plan) (j : ℕ) → IsPlan plan → is_expanded plan ≡ true → j < length (walk_in plan)
+        → AreSources (plain_shape plan) j ((plain_shape plan).read j) (sources_in plan j) }
 {
     walks_are_in_order();
     cells_have_numbers_of_their_own();
     scans_are_dealt();
     plans_execute_the_walk();
+    copies_keep_what_is_read();
     tiles_stand_one_behind_another();
     numbers_tell_waves();
 }
 
-/// A plan, also one whose tiles are released one by one, deals each place to a tile, and of two places that touch one cell
-/// the later waits for the earlier, at once or by way of places in between.
+/// A plan, also one whose tiles are released one by one, deals each place to a tile, and of two places that touch one
+/// cell the later waits for the earlier, at once or by way of places in between.
 pub fn plans_are_good()
     ensures scan { (plan : Plan) → IsPlan plan → IsScan (deal_of plan) }
     ensures count { (plan : Plan) → IsPlan plan → length (scan_in plan) ≡ length (walk_in plan) }
@@ -76,11 +91,14 @@ pub fn plans_are_good()
     walks_are_dealt();
     covers_are_those_of_the_walk();
     covers_join_what_touches();
+    cells_have_numbers_of_their_own();
     pairs_make_plans();
 }
 
-/// Over the arrays' contents one behind another, each place of a plan loads what the kernel's own execution reads
-/// there, and a sound state in which all tiles are done has its arrays. Zeros behind the contents change no plan.
+/// Over the arrays' contents one behind another, each place of a plan loads what the kernel's own execution reads there,
+/// and a sound state in which all tiles are done has its arrays; with an expansion it has the contents as they were, and
+/// in the copy of each place the value that the kernel's own execution stores there. Zeros behind the contents change no
+/// plan.
 pub fn plans_execute_the_kernel()
     ensures row { (plan : Plan) (contents : List (List ℕ)) (cells : List ℕ) → HoldsContents contents cells
         → plan_of plan cells ≡ plan_of plan (flat contents) }
@@ -89,14 +107,24 @@ pub fn plans_execute_the_kernel()
         → values_read (plan_of plan (flat contents)) j
         ≡ values_loaded_by plan.marked.now (extents_in plan) (before_place (extents_in plan) contents (walk_in plan) j)
         v.body v.point }
-    ensures end { (plan : Plan) (contents : List (List ℕ)) (s : State) → IsPlan plan
+    ensures end { (plan : Plan) (contents : List (List ℕ)) (s : State) → IsPlan plan → is_expanded plan ≡ false
         → IsShaped (extents_in plan) contents → Sound (plan_of plan (flat contents)) s
         → IsQuiet (plan_of plan (flat contents)) s → (c : Cell) → IsCell (extents_in plan) c
         → slice_index_or s.cells (cell_number (extents_in plan) c) 0
         ≡ held (extents_in plan) (exec (program_in plan) plan.params.now contents) c }
+    ensures kept { (plan : Plan) (contents : List (List ℕ)) (s : State) → IsPlan plan → is_expanded plan ≡ true
+        → IsShaped (extents_in plan) contents → Sound (plan_of plan (flat contents)) s
+        → (c : Cell) → IsCell (extents_in plan) c
+        → slice_index_or s.cells (cell_number (extents_in plan) c) 0 ≡ held (extents_in plan) contents c }
+    ensures copies { (plan : Plan) (contents : List (List ℕ)) (s : State) (j : ℕ) → IsPlan plan
+        → is_expanded plan ≡ true → IsShaped (extents_in plan) contents → Sound (plan_of plan (flat contents)) s
+        → IsQuiet (plan_of plan (flat contents)) s → j < length (walk_in plan)
+        → slice_index_or s.cells ((plain_shape plan).cells + j) 0
+        ≡ value_stored_at (extents_in plan) contents (walk_in plan) j }
 {
     walks_are_dealt();
     pairs_make_plans();
+    copies_keep_what_is_read();
     plans_are_good();
     plans_execute_the_walk();
     cells_have_numbers_of_their_own();
@@ -119,9 +147,9 @@ pub fn rows_tell_instances()
     ensures tells { (plan : Plan) (x : Instance) (row : Row) → IsPlan plan → In x (places_in plan)
         → slice_get plan.table.now.rows.items x.number ≡ Some row → IsRowAt plan row x }
 {
-    walks_are_dealt();
     walks_are_in_order();
     instances_are_those_of_statements();
     statements_are_numbered();
+    cells_have_numbers_of_their_own();
     cells_lie_within_22_bits();
 }

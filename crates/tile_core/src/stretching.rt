@@ -3,7 +3,7 @@
 ghost use Rattle.std.specs.Prelude.{◌≡◌, ◌≤◌, ℕ, ℤ, List, length, take};
 ghost use Rattle.scop_syntax.specs.Walk.{Instance};
 ghost use Rattle.stmt_table.specs.Desks.{HasSameRoom, IsLaid};
-ghost use Rattle.tile_core.specs.Plans.{IsPlan, places_in, walk_shape};
+ghost use Rattle.tile_core.specs.Plans.{IsPlan, places_in, plain_shape};
 ghost use Rattle.tile_core.specs.Ranks.{place_in};
 ghost use Rattle.tile_core.specs.Stretches.{IsAhead};
 ghost use Rattle.tile_core.specs.Workers.{IsWorker};
@@ -35,7 +35,7 @@ fn read_all(cells: &[u64], row: &Row, desk: &mut Desk)
     requires { StandsIn row.now desk.old cells.now }
     ensures reads { (plan : AnyPlan) (steps : List ℤ) (x : Instance) → IsDeskAt plan row.now steps x desk.old
         → take row.now.code.reads desk.new.slots.items
-        ≡ values_at cells.now ((walk_shape plan).read (place_in (places_in plan) x)) }
+        ≡ values_at cells.now ((plain_shape plan).read (place_in (places_in plan) x)) }
     ensures stays { StaysLaid row.now desk.old desk.new }
 {
     for read in 0..row.code.reads {
@@ -49,7 +49,7 @@ fn read_all(cells: &[u64], row: &Row, desk: &mut Desk)
 pub(crate) fn do_laid(cells: &mut [u64], row: &Row, desk: &mut Desk)
     requires { StandsIn row.now desk.old cells.old }
     ensures cells { (plan : AnyPlan) (steps : List ℤ) (x : Instance) → IsDeskAt plan row.now steps x desk.old
-        → cells.new ≡ after_place (walk_shape plan) (place_in (places_in plan) x) cells.old }
+        → cells.new ≡ after_place (plain_shape plan) (place_in (places_in plan) x) cells.old }
     ensures laid { (steps turns : List ℤ) → IsLaid row.now steps turns desk.old
         → IsLaid row.now steps (sums turns steps) desk.new }
     ensures room { HasSameRoom desk.old desk.new }
@@ -66,9 +66,9 @@ pub(crate) fn do_ahead(cells: &mut [u64], plan: &Plan, worker: &mut Worker, coun
     requires plan { IsPlan plan.now }
     requires worker { IsWorker plan.now worker.old }
     requires ahead { IsAhead plan.now worker.old.stage worker.old.next worker.old.spot.stretch count }
-    requires cells { (walk_shape plan.now).cells ≤ length cells.old }
+    requires cells { (plain_shape plan.now).cells ≤ length cells.old }
     ensures cells { (t k : ℕ) → worker.old.stage ≡ stage_of.Working t k
-        → cells.new ≡ after_instances (walk_shape plan.now) t k count cells.old }
+        → cells.new ≡ after_instances (plain_shape plan.now) t k count cells.old }
     ensures same { worker.new ≡ record worker.old { desk = worker.new.desk } }
     ensures worker { IsWorker plan.now worker.new }
 {

@@ -1,7 +1,7 @@
 //! Whole rounds of a braid that a worker has ahead, done on a row of cells by a desk for each strand.
 ghost use Rattle.std.specs.Prelude.{◌≡◌, ◌+◌, ◌*◌, ◌<◌, ◌≤◌, [], ℕ, length, suc};
 ghost use Rattle.stmt_table.specs.Desks.{HasRoomForAll};
-ghost use Rattle.tile_core.specs.Plans.{IsPlan, walk_shape};
+ghost use Rattle.tile_core.specs.Plans.{IsPlan, plain_shape, walk_shape};
 ghost use Rattle.tile_core.specs.Strands.{AreLaid, HaveRows, IsLaidFor, IsRound, StandsInRound};
 ghost use Rattle.tile_core.specs.Stretches.{IsWoven};
 ghost use Rattle.tile_core.specs.Workers.{IsWorker};
@@ -54,10 +54,10 @@ fn do_round(cells: &mut [u64], plan: &Plan, worker: &mut Worker)
     requires plan { IsPlan plan.now }
     requires worker { IsWorker plan.now worker.old }
     requires stands { StandsInRound plan.now worker.old.spot.braid worker.old.desks.items }
-    requires cells { (walk_shape plan.now).cells ≤ length cells.old }
+    requires cells { (plain_shape plan.now).cells ≤ length cells.old }
     ensures cells { (round t k : ℕ)
         → IsRound plan.now worker.old.spot.braid round t k worker.old.desks.items
-        → cells.new ≡ after_instances (walk_shape plan.now) t k worker.old.spot.braid.count cells.old }
+        → cells.new ≡ after_instances (plain_shape plan.now) t k worker.old.spot.braid.count cells.old }
     ensures laid { (round : ℕ) → AreLaid plan.now.table.now worker.old.spot.braid 0 worker.old.spot.braid.count
         round worker.old.desks.items
         → AreLaid plan.now.table.now worker.old.spot.braid 0 worker.old.spot.braid.count (suc round)
@@ -77,9 +77,9 @@ fn do_rounds(cells: &mut [u64], plan: &Plan, worker: &mut Worker, rounds: usize)
     requires plan { IsPlan plan.now }
     requires worker { IsWorker plan.now worker.old }
     requires woven { IsWoven plan.now worker.old.stage worker.old.next worker.old.spot rounds }
-    requires cells { (walk_shape plan.now).cells ≤ length cells.old }
+    requires cells { (plain_shape plan.now).cells ≤ length cells.old }
     ensures cells { (t k : ℕ) → worker.old.stage ≡ stage_of.Working t k
-        → cells.new ≡ after_instances (walk_shape plan.now) t (suc k) (rounds * worker.old.spot.braid.count) cells.old }
+        → cells.new ≡ after_instances (plain_shape plan.now) t (suc k) (rounds * worker.old.spot.braid.count) cells.old }
     ensures same { worker.new ≡ record worker.old { desks = worker.new.desks } }
     ensures worker { IsWorker plan.now worker.new }
 {
@@ -96,9 +96,9 @@ pub(crate) fn do_woven(cells: &mut [u64], plan: &Plan, worker: &mut Worker, roun
     requires plan { IsPlan plan.now }
     requires worker { IsWorker plan.now worker.old }
     requires woven { IsWoven plan.now worker.old.stage worker.old.next worker.old.spot rounds }
-    requires cells { (walk_shape plan.now).cells ≤ length cells.old }
+    requires cells { (plain_shape plan.now).cells ≤ length cells.old }
     ensures cells { (t k : ℕ) → worker.old.stage ≡ stage_of.Working t k
-        → cells.new ≡ after_instances (walk_shape plan.now) t k result cells.old }
+        → cells.new ≡ after_instances (plain_shape plan.now) t k result cells.old }
     ensures count { (t k : ℕ) → worker.old.stage ≡ stage_of.Working t k
         → (1 ≤ result) × (k + result ≤ (walk_shape plan.now).size t) }
     ensures stage { (t k : ℕ) → worker.old.stage ≡ stage_of.Working t k

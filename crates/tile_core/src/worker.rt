@@ -214,6 +214,17 @@ impl Worker {
         }
     }
 
+    /// Its tile, and how many instances of it are done, where it is at work.
+    #[inline]
+    pub fn at(&self) -> (u64, usize)
+        ensures { (t k : ℕ) → self.now.stage ≡ stage_of.Working t k → result ≡ (t, k) }
+    {
+        match self.stage {
+            Stage::Working(tile, done) => (tile, done),
+            _ => (0, 0),
+        }
+    }
+
     /// The tile that its own tile releases next; None where it is not at work, or its tile has an instance left or has
     /// released all.
     pub fn releases(&self, plan: &Plan) -> Option<u64>

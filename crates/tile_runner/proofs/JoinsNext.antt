@@ -6,7 +6,7 @@ use Rattle.stmt_table.specs.Codes.{leaves_at}
 use Rattle.stmt_table.specs.Joins.{IsJoinAt, joined_by}
 use Rattle.stmt_table.specs.declared.join.JoinLanes.{JoinLanes}
 use Rattle.stmt_table.specs.declared.lane.Lane.{Lane}
-use Rattle.tile_core.specs.Plans.{IsPlan, walk_plan}
+use Rattle.tile_core.specs.Plans.{IsPlan, plain_plan, walk_plan}
 use Rattle.tile_core.specs.Rows.{IsRowAt}
 use Rattle.tile_core.specs.declared.plan.Plan.{Plan}
 use Rattle.tile_core.specs.declared.view.View.{View}
@@ -20,7 +20,7 @@ use Rattle.tile_runner.specs.Laid.{AreJoined}
 use Rattle.tile_runner.proofs.Laid.{RowsTell, first_tells, next_last, next_read}
 
 module _ (plan : Plan) (s : Stage) (lanes : JoinLanes) (a : AreJoined plan s lanes 1) (law : RowsTell)
-    (is : IsPlan plan) where
+    (is : IsPlan plan) (plain : (cells : List ℕ) → walk_plan plan cells ≡ plain_plan plan cells) where
   abbrev Laid : List ℤ → List ℤ → Type 0
   Laid steps turns = IsJoinAt a.row steps turns lanes
 
@@ -33,7 +33,7 @@ module _ (plan : Plan) (s : Stage) (lanes : JoinLanes) (a : AreJoined plan s lan
       → IsNextRead (walk_plan plan cells) s xs lane.at
   lane_read cells xs n lane long less there =
       let reads = a.are.laid.joins.reads in
-      next_read plan s a.row Laid a.are cells xs n lane.at tells long (omega (arith, less, reads))
+      next_read plan s a.row Laid a.are cells xs n lane.at (plain cells) tells long (omega (arith, less, reads))
       (λ form told. (a.are.laid.cells.each (n + 1) form lane told there).at)
 
   -- where all are known, it stores what the join makes of them
@@ -42,8 +42,8 @@ module _ (plan : Plan) (s : Stage) (lanes : JoinLanes) (a : AreJoined plan s lan
   lane_store cells x y z =
       subst (λ (b : Bool). IsNextLast b (walk_plan plan cells) s (x ∷ y ∷ z ∷ []) lanes.place.at
       (joined_by lanes.join x y z)) a.are.laid.stores
-      (next_last plan s a.row Laid a.are cells (x ∷ y ∷ z ∷ []) lanes.place.at (joined_by lanes.join x y z) tells
-      (sym a.are.laid.joins.reads) (λ form told. (a.are.laid.cells.each 0 form lanes.place told refl).at)
+      (next_last plan s a.row Laid a.are cells (x ∷ y ∷ z ∷ []) lanes.place.at (joined_by lanes.join x y z)
+      (plain cells) tells (sym a.are.laid.joins.reads) (λ form told. (a.are.laid.cells.each 0 form lanes.place told refl).at)
       (sym (a.are.laid.joins.value (leaves_at a.row.code a.are.first.turns) x y z)))
 
 module _ (words : Words) (s : Stage) (xs : List ℕ) (seat : Seat (Unit {0}) View) (is : IsSeat words s xs seat) where

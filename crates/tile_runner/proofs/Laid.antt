@@ -15,7 +15,8 @@ use Rattle.stmt_table.specs.Desks.{HasSameRoom, IsLaid}
 use Rattle.stmt_table.specs.declared.desk.Desk.{Desk}
 use Rattle.stmt_table.specs.declared.table.Row.{Row}
 use Rattle.stmt_table.proofs.Desks.{room_stays, room_stays_for_all}
-use Rattle.tile_core.specs.Plans.{IsPlan, places_in, walk_plan, walk_shape}
+use Rattle.tile_events.specs.Plan as events
+use Rattle.tile_core.specs.Plans.{IsPlan, places_in, plain_plan, walk_plan, walk_shape}
 use Rattle.tile_core.specs.Ranks.{place_in}
 use Rattle.tile_core.specs.Rows.{IsFormed, IsRowAt}
 use Rattle.tile_core.specs.Stretches.{IsAhead, moved}
@@ -89,31 +90,35 @@ module _ (plan : Plan) (s : Stage) (row : Row) (Laid : List ℤ → List ℤ →
   first_tells law is = law plan a.first row is (a.walked 0 (omega arith)) a.own
 
   -- where its first n reads are known, the next one is that of access n + 1
-  pub next_read : (cells xs : List ℕ) (n c : ℕ) → IsRowAt plan row a.first → length xs ≡ n → n < row.code.reads
-      → IsFormed row a.first (n + 1) c → IsNextRead (walk_plan plan cells) s xs c
-  next_read cells xs n c tells long less formed =
-      let p = walk_plan plan cells in
+  pub next_read : (cells xs : List ℕ) (n c : ℕ) → walk_plan plan cells ≡ plain_plan plan cells
+      → IsRowAt plan row a.first → length xs ≡ n → n < row.code.reads → IsFormed row a.first (n + 1) c
+      → IsNextRead (walk_plan plan cells) s xs c
+  next_read cells xs n c plain tells long less formed =
+      let p = plain_plan plan cells in
       let within = a.within in
       let reads = tells.reads ∙ ap (λ j. length (p.read j)) first_place in
       let at = tells.read n c less (subst (λ (m : ℕ). IsFormed row a.first m c) (let q : n + 1 ≡ suc n = omega arith in q) formed)
       ∙ ap₂ (λ (j m : ℕ). get_or (p.read j) m 0) first_place (sym long) in
-      subst (λ (u : Stage). IsNextRead p u xs c) (sym a.works)
-      (omega (arith, within), omega (arith, long, less, reads), at)
+      subst (λ (q : events.Plan). IsNextRead q s xs c) (sym plain)
+      (subst (λ (u : Stage). IsNextRead p u xs c) (sym a.works)
+      (omega (arith, within), omega (arith, long, less, reads), at))
 
   -- where all are known, what the code makes of them goes to the cell of access 0
-  pub next_last : (cells xs : List ℕ) (c x : ℕ) → IsRowAt plan row a.first → length xs ≡ row.code.reads
-      → IsFormed row a.first 0 c → x ≡ value_by row.code a.first.turns xs
+  pub next_last : (cells xs : List ℕ) (c x : ℕ) → walk_plan plan cells ≡ plain_plan plan cells
+      → IsRowAt plan row a.first → length xs ≡ row.code.reads → IsFormed row a.first 0 c
+      → x ≡ value_by row.code a.first.turns xs
       → IsNextLast row.adds (walk_plan plan cells) s xs c x
-  next_last cells xs c x tells long formed made =
-      let p = walk_plan plan cells in
+  next_last cells xs c x plain tells long formed made =
+      let p = plain_plan plan cells in
       let within = a.within in
-      subst (λ (u : Stage). IsNextLast row.adds p u xs c x) (sym a.works) (
+      subst (λ (q : events.Plan). IsNextLast row.adds q s xs c x) (sym plain)
+      (subst (λ (u : Stage). IsNextLast row.adds p u xs c x) (sym a.works) (
         omega (arith, within),
         long ∙ (tells.reads ∙ ap (λ j. length (p.read j)) first_place),
         sym (tells.adds ∙ ap (λ j. p.adds (p.written j)) first_place),
         tells.written c formed ∙ ap p.written first_place,
         made ∙ (tells.value xs long ∙ ap (λ j. p.value j xs) first_place),
-      )
+      ))
 
 -- behind the first of them the others come next where what was laid has gone on
 pub others_laid : (plan : Plan) (s : Stage) (row : Row) (Old New : List ℤ → List ℤ → Type 0) (n : ℕ)

@@ -1,4 +1,6 @@
+pub mod Ends
 pub mod JoinsNext
 pub mod Laid
+pub mod NextCopies
 pub mod Passes
 pub mod StrandsNext

@@ -1,11 +1,13 @@
 //! What a pass has ahead at once, done by the steps of its seat and then passed by: instances along a stretch, or whole
-//! rounds of a braid.
-ghost use Rattle.std.specs.Prelude.{◌≡◌, ◌+◌, ◌<◌, ◌≤◌, [], ℕ};
+//! rounds of a braid. Where each instance has a copy of its own it is one instance.
+ghost use Rattle.std.specs.Prelude.{◌≡◌, ◌+◌, ◌<◌, ◌≤◌, [], ℕ, false};
 ghost use Rattle.tile_core.specs.Passes.{IsPass, walk_in};
+ghost use Rattle.tile_core.specs.Plans.{is_expanded};
 ghost use Rattle.tile_core.specs.Stretches.{IsAhead, IsWoven};
 ghost use Rattle.tile_core.specs.Workers.{HasNoneDue};
 ghost use Rattle.tile_core.specs.declared.worker.Stage.TheVariants.{Working};
 
+use crate::copies::do_copied;
 use crate::rounds::do_rounds;
 use crate::stretches::do_along;
 use tile_core::words::{Pass, Words};
@@ -14,6 +16,7 @@ use tile_core::words::{Pass, Words};
 #[inline]
 fn do_stretch(words: &Words, pass: &mut Pass, count: usize)
     requires pass { IsPass words.now pass.old }
+    requires plain { is_expanded words.now.plan ≡ false }
     requires ahead { IsAhead words.now.plan pass.old.worker.stage pass.old.worker.next pass.old.worker.spot.stretch
         count }
     requires reads { pass.old.worker.reads.items ≡ [] }
@@ -30,6 +33,7 @@ fn do_stretch(words: &Words, pass: &mut Pass, count: usize)
 /// are.
 fn do_woven(words: &Words, pass: &mut Pass, rounds: usize) -> usize
     requires pass { IsPass words.now pass.old }
+    requires plain { is_expanded words.now.plan ≡ false }
     requires woven { IsWoven words.now.plan pass.old.worker.stage pass.old.worker.next pass.old.worker.spot rounds }
     requires reads { pass.old.worker.reads.items ≡ [] }
     ensures some { 0 < result }
@@ -45,7 +49,8 @@ fn do_woven(words: &Words, pass: &mut Pass, rounds: usize) -> usize
 }
 
 /// Does what a pass has ahead at once: its next instance and the whole rounds behind it, or else all that go by the steps
-/// of a stretch. Tells how many instances these were: 0 where it has none due.
+/// of a stretch; where each has a copy of its own, the next instance alone. Tells how many instances these were: 0
+/// where it has none due.
 pub(crate) fn do_ahead(words: &Words, pass: &mut Pass) -> usize
     requires pass { IsPass words.now pass.old }
     requires reads { pass.old.worker.reads.items ≡ [] }
@@ -57,6 +62,9 @@ pub(crate) fn do_ahead(words: &Words, pass: &mut Pass) -> usize
     ensures reads { pass.new.worker.reads.items ≡ [] }
     ensures pass { IsPass words.now pass.new }
 {
+    if words.plan.expansion.is_some() {
+        return do_copied(words, pass);
+    }
     let rounds = pass.worker.rounds(&words.plan);
     if rounds > 0 {
         return do_woven(words, pass, rounds);

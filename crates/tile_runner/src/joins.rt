@@ -1,11 +1,11 @@
 //! The instances that a worker has ahead along a stretch of a statement whose code is a join: the lanes of its four
 //! cells are at hand, and each instance costs three loads, two operators and a store.
-ghost use Rattle.std.specs.Prelude.{◌≡◌, ◌+◌, ℕ, ℤ, [], IfSome, List, suc};
+ghost use Rattle.std.specs.Prelude.{◌≡◌, ◌+◌, ℕ, ℤ, [], IfSome, List, false, suc};
 ghost use Rattle.array_words.specs.Seats.{IsSeat};
 ghost use Rattle.whole_numbers.specs.Lists.{sums};
 ghost use Rattle.stmt_table.specs.Joins.{IsJoinAt};
 ghost use Rattle.stmt_table.specs.declared.table.Row.{Row as AnyRow};
-ghost use Rattle.tile_core.specs.Plans.{IsPlan};
+ghost use Rattle.tile_core.specs.Plans.{IsPlan, is_expanded};
 ghost use Rattle.tile_core.specs.Stretches.{IsAhead};
 ghost use Rattle.tile_core.specs.Views.{done_at, tile_at};
 ghost use Rattle.tile_core.specs.declared.worker.Stage.TheVariants.{Working};
@@ -16,7 +16,7 @@ use array_words::{load_at, store_at};
 use atomic_table::Seat;
 use stmt_table::join::JoinLanes;
 use tile_core::plan::Plan;
-use tile_core::plan_laws::rows_tell_instances;
+use tile_core::plan_laws::{rows_tell_instances, walks_are_dealt};
 use tile_core::view::View;
 use tile_core::words::Words;
 use tile_core::worker::Worker;
@@ -43,12 +43,14 @@ pub(crate) fn lay_join(plan: &Plan, worker: &Worker) -> Option<JoinLanes>
 #[inline]
 fn do_join(words: &Words, seat: &mut Seat<(), View>, lanes: &mut JoinLanes)
     requires seat { IsSeat words.now seat.old.me.0.stage [] seat.old }
+    requires plain { is_expanded words.now.plan ≡ false }
     requires laid { AreJoined words.now.plan seat.old.me.0.stage lanes.old 1 }
     ensures seat { IsSeat words.now (Working (tile_at seat.old.me.0.stage) (suc (done_at seat.old.me.0.stage))) []
         seat.new }
     ensures laid { (row : AnyRow) (steps turns : List ℤ) → IsJoinAt row steps turns lanes.old
         → IsJoinAt row steps (sums turns steps) lanes.new }
 {
+    walks_are_dealt();
     rows_tell_instances();
     let first = load_at(words, seat, lanes.first.at as usize);
     let second = load_at(words, seat, lanes.second.at as usize);
@@ -61,6 +63,7 @@ fn do_join(words: &Words, seat: &mut Seat<(), View>, lanes: &mut JoinLanes)
 /// Does so many instances, at the first of which the lanes of a join stand, by the steps of the seat.
 pub(crate) fn do_joins(words: &Words, seat: &mut Seat<(), View>, mut lanes: JoinLanes, count: usize)
     requires seat { IsSeat words.now seat.old.me.0.stage [] seat.old }
+    requires plain { is_expanded words.now.plan ≡ false }
     requires laid { AreJoined words.now.plan seat.old.me.0.stage lanes count }
     ensures { IsSeat words.now (Working (tile_at seat.old.me.0.stage) (done_at seat.old.me.0.stage + count)) []
         seat.new }

@@ -1,7 +1,8 @@
 //! The whole rounds of a braid that a worker has ahead: the row of each strand's statement is laid on a desk of its own
 //! once, and the strands then take turns.
-ghost use Rattle.std.specs.Prelude.{◌≡◌, ◌+◌, ◌*◌, [], ℕ, suc};
+ghost use Rattle.std.specs.Prelude.{◌≡◌, ◌+◌, ◌*◌, [], ℕ, false, suc};
 ghost use Rattle.array_words.specs.Seats.{IsSeat};
+ghost use Rattle.tile_core.specs.Plans.{is_expanded};
 ghost use Rattle.tile_core.specs.Strands.{AreLaid};
 ghost use Rattle.tile_core.specs.Stretches.{IsWoven};
 ghost use Rattle.tile_core.specs.Views.{done_at, tile_at};
@@ -22,6 +23,7 @@ use tile_core::worker::Worker;
 fn do_round(words: &Words, seat: &mut Seat<(), View>, worker: &mut Worker)
     requires seat { IsSeat words.now seat.old.me.0.stage [] seat.old }
     requires worker { IsWorker words.now.plan worker.old }
+    requires plain { is_expanded words.now.plan ≡ false }
     requires next { AreStrandsNext words.now.plan seat.old.me.0.stage worker.old.spot.braid worker.old.desks.items }
     ensures seat { IsSeat words.now (Working (tile_at seat.old.me.0.stage)
         (done_at seat.old.me.0.stage + worker.old.spot.braid.count)) [] seat.new }
@@ -51,6 +53,7 @@ pub(crate) fn do_rounds(
     requires seat { IsSeat words.now (Working (tile_at worker.old.stage) (suc (done_at worker.old.stage))) []
         seat.old }
     requires worker { IsWorker words.now.plan worker.old }
+    requires plain { is_expanded words.now.plan ≡ false }
     requires woven { IsWoven words.now.plan worker.old.stage worker.old.next worker.old.spot rounds }
     ensures seat { IsSeat words.now (Working (tile_at worker.old.stage)
         (suc (done_at worker.old.stage) + rounds * worker.old.spot.braid.count)) [] seat.new }

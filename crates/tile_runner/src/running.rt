@@ -1,24 +1,22 @@
 //! The run of all workers.
 ghost use Rattle.array_words.specs.Closing.{IsClosed};
-ghost use Rattle.std.specs.Prelude.{◌≡◌, ℕ, ◌<◌, ◌≤◌, All, IfErr, IfOk, List, get_or, length};
+ghost use Rattle.std.specs.Prelude.{◌≡◌, ℕ, ◌+◌, ◌<◌, ◌≤◌, All, IfErr, IfOk, List, false, get_or, length, true};
 ghost use Rattle.scop_syntax.specs.Cells.{Cell};
-ghost use Rattle.scop_syntax.specs.Execution.{IsCell, IsShaped, cell_number, exec, held};
-ghost use Rattle.tile_core.specs.Plans.{HasRest, HoldsContents, IsPlan, extents_in, plan_of, program_in, shape_of};
+ghost use Rattle.scop_syntax.specs.Execution.{IsCell, IsShaped, cell_number, exec, held, value_stored_at};
+ghost use Rattle.tile_core.specs.Plans.{HasRest, HoldsContents, IsPlan, extents_in, is_expanded};
+ghost use Rattle.tile_core.specs.Plans.{plain_shape, plan_of, program_in, shape_of, walk_in};
 ghost use Rattle.tile_runner.specs.Running.{IsOver, IsReady};
 
 use crate::working::work;
 use array_words::{Closed, close, start};
 use io_ports::Gate;
-use scop_syntax::execution_laws::cells_have_numbers_of_their_own;
 use std::alloc::{AllocError, Global};
 use std::sync::Wait;
 use std::thread;
 use std::thread::Threads;
 use tile_core::plan::Plan;
-use tile_core::plan_laws::{plans_execute_the_kernel, walks_are_dealt};
+use tile_core::plan_laws::{plans_are_good, plans_execute_the_kernel};
 use tile_core::words::{Pass, Words};
-use tile_events::flat_laws::plans_execute_the_walk;
-use tile_events::release_laws::pairs_make_plans;
 
 /// Runs every pass, on at most so many threads.
 fn work_all<R: Threads + Wait + Sync, G: Gate>(
@@ -69,8 +67,10 @@ fn run_passes<'a, R: Threads + Wait + Sync, G: Gate>(
 }
 
 /// Runs the plan on these cells with so many workers, each on a thread where there is one. All memory is taken before
-/// the first claim. Where the cells are those of all arrays, one array behind another, and the counters of tiles, which are
-/// 0, stand behind them where tiles are released one by one, each is left as the kernel's own execution leaves it.
+/// the first claim. Where the cells are those of all arrays, one array behind another, and behind them stand zeros, the
+/// copies of an expansion and the counters of tiles that are released one by one, each is left as the kernel's own
+/// execution leaves it; with an expansion each is left as it was, and the copy of each place holds what that execution
+/// stores there.
 ///
 /// # Errors
 /// `AllocError`; the cells are then as they were.
@@ -87,19 +87,26 @@ pub fn run_plan<'a, R: Threads + Wait + Sync, G: Gate>(
     requires rest { HasRest plan cells.old.items }
     requires some { 1 ≤ workers }
     requires few { workers ≤ 64 }
-    ensures arrays { IfOk result (λ _. (contents : List (List ℕ)) → IsShaped (extents_in plan.entry) contents
+    ensures arrays { IfOk result (λ _. (contents : List (List ℕ)) → is_expanded plan.entry ≡ false
+        → IsShaped (extents_in plan.entry) contents
         → HoldsContents contents cells.old.items → (c : Cell) → IsCell (extents_in plan.entry) c
         → get_or cells.new.items (cell_number (extents_in plan.entry) c) 0
         ≡ held (extents_in plan.entry) (exec (program_in plan.entry) plan.entry.params.now contents) c) }
+    ensures kept { IfOk result (λ _. (contents : List (List ℕ)) → is_expanded plan.entry ≡ true
+        → IsShaped (extents_in plan.entry) contents
+        → HoldsContents contents cells.old.items → (c : Cell) → IsCell (extents_in plan.entry) c
+        → get_or cells.new.items (cell_number (extents_in plan.entry) c) 0 ≡ held (extents_in plan.entry) contents c) }
+    ensures copies { IfOk result (λ _. (contents : List (List ℕ)) (j : ℕ) → is_expanded plan.entry ≡ true
+        → IsShaped (extents_in plan.entry) contents
+        → HoldsContents contents cells.old.items → j < length (walk_in plan.entry)
+        → get_or cells.new.items ((plain_shape plan.entry).cells + j) 0
+        ≡ value_stored_at (extents_in plan.entry) contents (walk_in plan.entry) j) }
     ensures cells { IfOk result (λ _. IsClosed (plan_of plan.entry cells.old.items) cells.old.items cells.new.items) }
     ensures plan { IfOk result (λ c. c.plan ≡ plan.entry) }
     ensures ended { IfOk result (λ c. c.ended ≡ workers) }
     ensures unchanged { IfErr result (λ _. cells.new.items ≡ cells.old.items) }
 {
-    walks_are_dealt();
+    plans_are_good();
     plans_execute_the_kernel();
-    plans_execute_the_walk();
-    pairs_make_plans();
-    cells_have_numbers_of_their_own();
     run_passes(rt, alloc, plan, cells, workers, gate)
 }

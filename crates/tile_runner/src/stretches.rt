@@ -1,13 +1,13 @@
 //! The instances that a worker has ahead along a stretch: the row of their statement is laid on the worker's desk once,
 //! and each then costs the loads of what it reads, the steps of its code, and a store or an add. Where the code is a
 //! join, its lanes are at hand instead.
-ghost use Rattle.std.specs.Prelude.{◌≡◌, ◌+◌, ◌≤◌, ℕ, ℤ, [], List, suc, take};
+ghost use Rattle.std.specs.Prelude.{◌≡◌, ◌+◌, ◌≤◌, ℕ, ℤ, [], List, false, suc, take};
 ghost use Rattle.array_words.specs.Seats.{IsSeat};
 ghost use Rattle.array_words.specs.Stores.{IsNextLast};
 ghost use Rattle.whole_numbers.specs.Lists.{sums};
 ghost use Rattle.stmt_table.specs.Desks.{HasSameRoom, IsLaid};
 ghost use Rattle.tile_core.specs.Passes.{walk_in};
-ghost use Rattle.tile_core.specs.Plans.{IsPlan};
+ghost use Rattle.tile_core.specs.Plans.{IsPlan, is_expanded};
 ghost use Rattle.tile_core.specs.Stretches.{IsAhead};
 ghost use Rattle.tile_core.specs.Views.{done_at, tile_at};
 ghost use Rattle.tile_core.specs.Workers.{IsWorker};
@@ -21,7 +21,7 @@ use scop_syntax::instance::MAX_LOOPS;
 use stmt_table::desk::Desk;
 use stmt_table::table::Row;
 use tile_core::plan::Plan;
-use tile_core::plan_laws::rows_tell_instances;
+use tile_core::plan_laws::{rows_tell_instances, walks_are_dealt};
 use tile_core::view::View;
 use tile_core::words::Words;
 use tile_core::worker::Worker;
@@ -79,6 +79,7 @@ fn give_at(words: &Words, seat: &mut Seat<(), View>, adds: bool, cell: usize, va
 #[inline]
 pub(crate) fn do_laid(words: &Words, seat: &mut Seat<(), View>, row: &Row, desk: &mut Desk)
     requires seat { IsSeat words.now seat.old.me.0.stage [] seat.old }
+    requires plain { is_expanded words.now.plan ≡ false }
     requires laid { AreOnDesk words.now.plan seat.old.me.0.stage row.now desk.old 1 }
     ensures seat { IsSeat words.now (Working (tile_at seat.old.me.0.stage) (suc (done_at seat.old.me.0.stage))) []
         seat.new }
@@ -86,6 +87,7 @@ pub(crate) fn do_laid(words: &Words, seat: &mut Seat<(), View>, row: &Row, desk:
         → IsLaid row.now steps (sums turns steps) desk.new }
     ensures room { HasSameRoom desk.old desk.new }
 {
+    walks_are_dealt();
     rows_tell_instances();
     for read in 0..row.reads() {
         let value = load_at(words, seat, row.cell(desk, read + 1));
@@ -101,6 +103,7 @@ pub(crate) fn do_laid(words: &Words, seat: &mut Seat<(), View>, row: &Row, desk:
 fn do_on_desk(words: &Words, seat: &mut Seat<(), View>, worker: &mut Worker, count: usize)
     requires seat { IsSeat words.now worker.old.stage [] seat.old }
     requires worker { IsWorker words.now.plan worker.old }
+    requires plain { is_expanded words.now.plan ≡ false }
     requires ahead { IsAhead words.now.plan worker.old.stage worker.old.next worker.old.spot.stretch count }
     ensures seat { IsSeat words.now (Working (tile_at worker.old.stage) (done_at worker.old.stage + count)) []
         seat.new }
@@ -118,6 +121,7 @@ fn do_on_desk(words: &Words, seat: &mut Seat<(), View>, worker: &mut Worker, cou
 pub(crate) fn do_along(words: &Words, seat: &mut Seat<(), View>, worker: &mut Worker, count: usize)
     requires seat { IsSeat words.now worker.old.stage [] seat.old }
     requires worker { IsWorker words.now.plan worker.old }
+    requires plain { is_expanded words.now.plan ≡ false }
     requires ahead { IsAhead words.now.plan worker.old.stage worker.old.next worker.old.spot.stretch count }
     ensures seat { IsSeat words.now (Working (tile_at worker.old.stage) (done_at worker.old.stage + count)) []
         seat.new }

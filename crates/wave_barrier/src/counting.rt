@@ -21,7 +21,7 @@ pub struct Short {
     pub needs: u64,
 }
 
-/// The word of the tile's counter: the counters stand behind the counts and the cells of all arrays.
+/// The word of the tile's counter: the counters stand behind the counts, the cells of all arrays and their copies.
 pub(crate) fn counter_word(words: &Words, tile: u64) -> usize
     requires words { IsWords words.now }
     requires edges { HasEdges words.now.plan }

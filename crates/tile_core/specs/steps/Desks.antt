@@ -6,7 +6,7 @@ use Rattle.scop_syntax.specs.Walk.{Instance}
 use Rattle.stmt_table.specs.Desks.{HasRoom, HasSameRoom, IsLaid}
 use Rattle.stmt_table.specs.declared.desk.Desk.{Desk}
 use Rattle.stmt_table.specs.declared.table.Row.{Row}
-use Rattle.tile_core.specs.Plans.{walk_shape}
+use Rattle.tile_core.specs.Plans.{plain_shape}
 use Rattle.tile_core.specs.Rows.{IsRowAt}
 use Rattle.tile_core.specs.declared.plan.Plan.{Plan}
 
@@ -28,7 +28,7 @@ pub record StandsIn (row : Row) (desk : Desk) (cells : List ℕ) : Type 0 where
   pub steps : List ℤ
   pub instance : Instance
   pub at : IsDeskAt plan row steps instance desk
-  pub wide : (walk_shape plan).cells ≤ length cells
+  pub wide : (plain_shape plan).cells ≤ length cells
 
 -- the desk stays laid as it was, with as much room
 pub record StaysLaid (row : Row) (before after : Desk) : Type 0 where

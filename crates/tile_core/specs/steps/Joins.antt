@@ -4,7 +4,7 @@ use Rattle.scop_syntax.specs.Walk.{Instance}
 use Rattle.stmt_table.specs.Joins.{IsJoinAt}
 use Rattle.stmt_table.specs.declared.join.JoinLanes.{JoinLanes}
 use Rattle.stmt_table.specs.declared.table.Row.{Row}
-use Rattle.tile_core.specs.Plans.{places_in, walk_shape}
+use Rattle.tile_core.specs.Plans.{places_in, plain_shape}
 use Rattle.tile_core.specs.Ranks.{place_in}
 use Rattle.tile_core.specs.Rows.{IsRowAt}
 use Rattle.tile_core.specs.Stretches.{moved}
@@ -26,7 +26,7 @@ pub record AreWithin (lanes : JoinLanes) (cells : List ℕ) : Type 0 where
 pub record AreJoinedFrom (plan : Plan) (row : Row) (steps : List ℤ) (x : Instance) (t k count : ℕ)
     (lanes : JoinLanes) : Type 0 where
   pub tells : (j : ℕ) → j < count → IsRowAt plan row (moved x steps j)
-  pub place : (j : ℕ) → j < count → place_in (places_in plan) (moved x steps j) ≡ (walk_shape plan).place t (k + j)
+  pub place : (j : ℕ) → j < count → place_in (places_in plan) (moved x steps j) ≡ (plain_shape plan).place t (k + j)
   pub laid : IsJoinAt row steps x.turns lanes
 
 -- so for some plan whose cells are among these
@@ -38,4 +38,4 @@ pub record StandJoined (lanes : JoinLanes) (count : ℕ) (cells : List ℕ) : Ty
   pub tile : ℕ
   pub first : ℕ
   pub from : AreJoinedFrom plan row steps instance tile first count lanes
-  pub wide : (walk_shape plan).cells ≤ length cells
+  pub wide : (plain_shape plan).cells ≤ length cells

@@ -1,6 +1,6 @@
 use Rattle.std.proofs.Common.{rules, ◌≡◌, ◌≤◌, ◌∙◌, ◌+◌, ℕ, List, ap, arith, length, subst, suc}
 use Rattle.stmt_table.specs.Joins.{IsJoinAt}
-use Rattle.tile_core.specs.Plans.{walk_shape}
+use Rattle.tile_core.specs.Plans.{plain_shape}
 use Rattle.tile_core.specs.Stretches.{moved, turns_on}
 use Rattle.tile_core.specs.steps.Acts.{after_instances, after_place}
 use Rattle.tile_core.proofs.Joins.{all_within}
@@ -11,7 +11,7 @@ do_join-requires c =
     let r = c.requires in
     let j = c.loop.counter in
     let whole = r.wide in
-    let wide : (walk_shape r.plan).cells ≤ length c.loop.cells = search rules in
+    let wide : (plain_shape r.plan).cells ≤ length c.loop.cells = search rules in
     all_within r.plan r.row r.steps (moved r.instance r.steps j) c.loop.lanes (record {
       tells = r.from.tells j c.loop-test.true;
       laid = (c.loop.invariant r.plan r.row r.steps r.instance r.tile r.first r.from).1;
@@ -25,9 +25,9 @@ loop-preserved c plan row steps x t k from =
     let next : suc j ≡ j + 1 = omega arith in (
       c.do_join.ensures.cells plan row steps (moved x steps j)
           (record { tells = from.tells j c.loop-test.true; laid = inv.1 })
-          ∙ (ap (λ (p : ℕ). after_place (walk_shape plan) p cells) (from.place j c.loop-test.true)
-          ∙ (ap (λ (ys : List ℕ). after_place (walk_shape plan) ((walk_shape plan).place t (k + j)) ys) inv.0
-          ∙ ap (λ (n : ℕ). after_instances (walk_shape plan) t k n c.args.cells.now) next)),
+          ∙ (ap (λ (p : ℕ). after_place (plain_shape plan) p cells) (from.place j c.loop-test.true)
+          ∙ (ap (λ (ys : List ℕ). after_place (plain_shape plan) ((plain_shape plan).place t (k + j)) ys) inv.0
+          ∙ ap (λ (n : ℕ). after_instances (plain_shape plan) t k n c.args.cells.now) next)),
       subst (λ (n : ℕ). IsJoinAt row steps (turns_on x.turns steps n) c.do_join.new.lanes) next
           (c.do_join.ensures.lanes row steps _ inv.1),
     )
@@ -38,4 +38,4 @@ returns c plan row steps x t k from =
     let within = c.loop.auto.counter-end in
     let all : c.loop.counter ≡ c.args.count = omega (arith, over, within) in
     (c.loop.invariant plan row steps x t k from).0
-    ∙ ap (λ (n : ℕ). after_instances (walk_shape plan) t k n c.args.cells.now) all
+    ∙ ap (λ (n : ℕ). after_instances (plain_shape plan) t k n c.args.cells.now) all

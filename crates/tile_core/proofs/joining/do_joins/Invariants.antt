@@ -2,7 +2,7 @@ use Rattle.std.proofs.Common.{◌≡◌, ℕ, ℤ, List}
 use Rattle.scop_syntax.specs.Walk.{Instance}
 use Rattle.stmt_table.specs.Joins.{IsJoinAt}
 use Rattle.stmt_table.specs.declared.table.Row.{Row}
-use Rattle.tile_core.specs.Plans.{walk_shape}
+use Rattle.tile_core.specs.Plans.{plain_shape}
 use Rattle.tile_core.specs.Stretches.{turns_on}
 use Rattle.tile_core.specs.declared.plan.Plan.{Plan}
 use Rattle.tile_core.specs.steps.Acts.{after_instances}
@@ -13,5 +13,5 @@ abbrev pub invariant-loop : goal.invariant-loop
 invariant-loop l =
     (plan : Plan) (row : Row) (steps : List ℤ) (x : Instance) (t k : ℕ)
     → AreJoinedFrom plan row steps x t k l.count l.fn.lanes
-    → (l.cells ≡ after_instances (walk_shape plan) t k l.counter l.fn.cells)
+    → (l.cells ≡ after_instances (plain_shape plan) t k l.counter l.fn.cells)
     × IsJoinAt row steps (turns_on x.turns steps l.counter) l.lanes

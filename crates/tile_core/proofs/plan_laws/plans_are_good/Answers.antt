@@ -4,6 +4,10 @@ use Rattle.tile_core.proofs.plan_laws.plans_are_good.Goals as goal
 pub returns : goal.returns
 returns c =
     let laws : GateLaws = record {
+      numbers = record {
+        below = c.cells_have_numbers_of_their_own.ensures.below;
+        apart = c.cells_have_numbers_of_their_own.ensures.apart;
+      };
       held = c.walks_are_dealt.ensures.held;
       dealt = c.walks_are_dealt.ensures.dealt;
       good = c.walks_are_dealt.ensures.good;

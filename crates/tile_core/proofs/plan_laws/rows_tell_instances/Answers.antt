@@ -1,6 +1,5 @@
-use Rattle.std.proofs.Common.{[]}
 use Rattle.stmt_table.proofs.Visits.{WalkLaws}
-use Rattle.tile_core.specs.Plans.{program_in}
+use Rattle.tile_core.specs.Plans.{extents_in, program_in}
 use Rattle.tile_core.proofs.Rows.{row_tells, row_within}
 use Rattle.tile_core.proofs.plan_laws.rows_tell_instances.Goals as goal
 use Rattle.tile_core.proofs.plan_laws.rows_tell_instances.Goals.{After-cells_lie_within_22_bits}
@@ -20,4 +19,5 @@ pub returns-clause-tells : goal.returns-clause-tells
 returns-clause-tells c plan x row is walked told =
     row_tells (laws (goal.at.returns-clause-tells c).After-cells_lie_within_22_bits) plan x is
     c.cells_lie_within_22_bits.ensures.numbers (c.walks_are_in_order.ensures.once (program_in plan) plan.params.now)
-    c.statements_are_numbered.ensures.placed (c.walks_are_dealt.ensures.dealt plan [] is) walked row told
+    c.statements_are_numbered.ensures.placed (c.cells_have_numbers_of_their_own.ensures.below (extents_in plan)) walked row
+    told

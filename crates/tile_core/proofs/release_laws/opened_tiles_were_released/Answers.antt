@@ -1,10 +1,14 @@
-use Rattle.tile_core.proofs.Waiting.{WaitLaws, conflicts_done, gate_filled, later, releases_tell}
+use Rattle.tile_core.proofs.Waiting.{WaitLaws, conflicts_done, gate_filled, later, releases_tell, sources_done}
 use Rattle.tile_core.proofs.release_laws.opened_tiles_were_released.Goals as goal
 use Rattle.tile_core.proofs.release_laws.opened_tiles_were_released.Goals.{After-opened_tiles_have_waited}
 
 laws : After-opened_tiles_have_waited → WaitLaws
 laws c = record {
   gate = record {
+    numbers = record {
+      below = c.cells_have_numbers_of_their_own.ensures.below;
+      apart = c.cells_have_numbers_of_their_own.ensures.apart;
+    };
     held = c.walks_are_dealt.ensures.held;
     dealt = c.walks_are_dealt.ensures.dealt;
     good = c.walks_are_dealt.ensures.good;
@@ -24,9 +28,14 @@ returns-clause-released c plan e cells s is some sound =
     releases_tell (laws (goal.at.returns-clause-released c).After-opened_tiles_have_waited) plan e is some cells s sound
 
 pub returns-clause-conflicts : goal.returns-clause-conflicts
-returns-clause-conflicts c plan e cells s i j is some sound conflict begun =
+returns-clause-conflicts c plan e cells s i j is unexpanded some sound conflict begun =
     conflicts_done (laws (goal.at.returns-clause-conflicts c).After-opened_tiles_have_waited) plan e is some cells s sound
-    i j conflict begun
+    i j unexpanded conflict begun
+
+pub returns-clause-sources : goal.returns-clause-sources
+returns-clause-sources c plan e cells s i j r is expanded some sound last begun =
+    sources_done (laws (goal.at.returns-clause-sources c).After-opened_tiles_have_waited) plan e is some cells s sound
+    i j r expanded last begun
 
 pub returns-clause-rise : goal.returns-clause-rise
 returns-clause-rise c plan e t u is some leads =

@@ -3,7 +3,7 @@ use Rattle.scop_syntax.specs.View.{instance_of}
 use Rattle.stmt_table.specs.Desks.{IsLaid}
 use Rattle.stmt_table.proofs.Desks.{room_stays, same_room_chain}
 use Rattle.stmt_table.specs.Joins.{IsJoinAt}
-use Rattle.tile_core.specs.Plans.{walk_shape}
+use Rattle.tile_core.specs.Plans.{plain_shape}
 use Rattle.tile_core.specs.Stretches.{moved, turns_on}
 use Rattle.tile_core.specs.declared.worker.Worker.{Worker}
 use Rattle.tile_core.specs.steps.Acts.{after_instances, after_place}
@@ -35,7 +35,7 @@ pub do_laid-requires : goal.do_laid-requires
 do_laid-requires c =
     let i = c.in-Some.first in
     let steps = take i.loops c.args.worker.now.spot.stretch.steps in
-    let wide : (walk_shape c.args.plan.now).cells ≤ length c.loop.cells = search rules in record {
+    let wide : (plain_shape c.args.plan.now).cells ≤ length c.loop.cells = search rules in record {
       plan = c.args.plan.now;
       steps = steps;
       instance = moved (instance_of i) steps c.loop.counter;
@@ -54,11 +54,11 @@ loop-preserved c =
     let next : suc j ≡ j + 1 = omega arith in record {
       cells = λ t k works.
           c.do_laid.ensures.cells plan steps (moved (instance_of i) steps j) (there (goal.at.loop-preserved c).In-loop)
-          ∙ (ap (λ p. after_place (walk_shape plan) p c.loop.cells)
+          ∙ (ap (λ p. after_place (plain_shape plan) p c.loop.cells)
           (place_ahead plan w.stage w.next w.spot.stretch c.args.count i c.requires.ahead c.in-Some.is t k j works
           c.loop-test.true)
-          ∙ (ap (λ (ys : List ℕ). after_place (walk_shape plan) ((walk_shape plan).place t (k + j)) ys) (inv.cells t k works)
-          ∙ ap (λ n. after_instances (walk_shape plan) t k n c.args.cells.now) next));
+          ∙ (ap (λ (ys : List ℕ). after_place (plain_shape plan) ((plain_shape plan).place t (k + j)) ys) (inv.cells t k works)
+          ∙ ap (λ n. after_instances (plain_shape plan) t k n c.args.cells.now) next));
       laid = λ v is.
           subst (λ n. IsLaid c.row-row.result.now (take v.loops w.spot.stretch.steps)
           (turns_on (instance_of v).turns (take v.loops w.spot.stretch.steps) n) c.do_laid.new.desk) next

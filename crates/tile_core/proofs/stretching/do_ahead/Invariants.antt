@@ -2,7 +2,7 @@ use Rattle.std.proofs.Common.{◌≡◌, ℕ, Some, take}
 use Rattle.scop_syntax.specs.View.{instance_of}
 use Rattle.scop_syntax.specs.declared.instance.Instance.{Instance}
 use Rattle.stmt_table.specs.Desks.{HasSameRoom, IsLaid}
-use Rattle.tile_core.specs.Plans.{walk_shape}
+use Rattle.tile_core.specs.Plans.{plain_shape}
 use Rattle.tile_core.specs.Stretches.{turns_on}
 use Rattle.tile_core.specs.declared.worker.Stage.TheVariants.{Working}
 use Rattle.tile_core.specs.steps.Acts.{after_instances}
@@ -11,7 +11,7 @@ use Rattle.tile_core.proofs.stretching.do_ahead.Given as goal
 abbrev pub invariant-loop : goal.invariant-loop
 invariant-loop l = record {
   cells : (t k : ℕ) → l.fn.worker.stage ≡ Working t k
-      → l.cells ≡ after_instances (walk_shape l.plan) t k l.counter l.fn.cells;
+      → l.cells ≡ after_instances (plain_shape l.plan) t k l.counter l.fn.cells;
   laid : (i : Instance) → l.fn.worker.next ≡ Some i
       → IsLaid l.row (take i.loops l.fn.worker.spot.stretch.steps)
       (turns_on (instance_of i).turns (take i.loops l.fn.worker.spot.stretch.steps) l.counter) l.worker.desk;

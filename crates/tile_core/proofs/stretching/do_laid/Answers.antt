@@ -1,6 +1,6 @@
 use Rattle.std.proofs.Common.{rules, ◌∙◌, ◌<◌, Bool, ℕ, ap, ap₂, arith, get_or, length, set}
 use Rattle.tile_events.specs.Plan.{updated}
-use Rattle.tile_core.specs.Plans.{places_in, walk_shape}
+use Rattle.tile_core.specs.Plans.{places_in, plain_shape}
 use Rattle.tile_core.specs.Ranks.{place_in}
 use Rattle.tile_core.specs.steps.Acts.{values_at}
 use Rattle.tile_core.specs.steps.Desks.{StaysLaid}
@@ -39,7 +39,7 @@ pub returns-clause-cells : goal.returns-clause-cells
 returns-clause-cells c plan steps x at =
     let row = c.args.row.now in
     let cells = c.args.cells.now in
-    let p = walk_shape plan in
+    let p = plain_shape plan in
     let j = place_in (places_in plan) x in
     let read = stays_at plan row steps x c.args.desk.now c.read_all.new.desk at c.read_all.ensures.stays in
     let cell = written_cell plan row steps x c.value-value.new.desk c.cell-at.result

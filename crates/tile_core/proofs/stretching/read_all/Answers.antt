@@ -1,6 +1,6 @@
 use Rattle.std.proofs.Common.{rules, ◌≡◌, ◌∙◌, ◌+◌, ◌<◌, ℕ, List, ap, arith, get_or, length, sym, take}
 use Rattle.std.proofs.lemmas.List.{take_all, take_more_set}
-use Rattle.tile_core.specs.Plans.{places_in, walk_shape}
+use Rattle.tile_core.specs.Plans.{places_in, plain_shape}
 use Rattle.tile_core.specs.Ranks.{place_in}
 use Rattle.tile_core.specs.steps.Acts.{values_at}
 use Rattle.tile_core.proofs.Acts.{values_more}
@@ -31,7 +31,7 @@ loop-read-preserved c =
     let i = c.loop-read.invariant in
     let less = c.loop-read-test.true in record {
       reads = λ plan steps x at.
-          let rs = (walk_shape plan).read (place_in (places_in plan) x) in
+          let rs = (plain_shape plan).read (place_in (places_in plan) x) in
           let count = at.tells.reads in
           let here = stays_at plan c.args.row.now steps x c.args.desk.now c.loop-read.desk at i.stays in
           let room = here.room.slots in
@@ -47,7 +47,7 @@ loop-read-preserved c =
 
 pub returns-clause-reads : goal.returns-clause-reads
 returns-clause-reads c plan steps x at =
-    let rs = (walk_shape plan).read (place_in (places_in plan) x) in
+    let rs = (plain_shape plan).read (place_in (places_in plan) x) in
     let n = c.args.row.now.code.reads in
     let end = c.loop-read-test.false in
     let most = c.loop-read.auto.read-end in

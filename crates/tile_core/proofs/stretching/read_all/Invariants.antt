@@ -1,6 +1,6 @@
 use Rattle.std.proofs.Common.{◌≡◌, ℤ, List, take}
 use Rattle.scop_syntax.specs.Walk.{Instance}
-use Rattle.tile_core.specs.Plans.{places_in, walk_shape}
+use Rattle.tile_core.specs.Plans.{places_in, plain_shape}
 use Rattle.tile_core.specs.Ranks.{place_in}
 use Rattle.tile_core.specs.declared.plan.Plan.{Plan}
 use Rattle.tile_core.specs.steps.Acts.{values_at}
@@ -11,6 +11,6 @@ abbrev pub invariant-loop-read : goal.invariant-loop-read
 invariant-loop-read l = record {
   reads : (plan : Plan) (steps : List ℤ) (x : Instance) → IsDeskAt plan l.row steps x l.fn.desk
       → take l.read l.desk.slots.items
-      ≡ values_at l.cells (take l.read ((walk_shape plan).read (place_in (places_in plan) x)));
+      ≡ values_at l.cells (take l.read ((plain_shape plan).read (place_in (places_in plan) x)));
   stays : StaysLaid l.row l.fn.desk l.desk;
 }

@@ -1,7 +1,7 @@
 use Rattle.std.proofs.Common.{rules, ◌≡◌, ◌≤◌, ◌∙◌, ◌+◌, ◌<◌, ℕ, List, ap, arith, get_or, length, suc, take}
 use Rattle.std.specs.Vec.{with_item}
 use Rattle.stmt_table.proofs.Desks.{room_stays_for_all}
-use Rattle.tile_core.specs.Plans.{walk_shape}
+use Rattle.tile_core.specs.Plans.{plain_shape}
 use Rattle.tile_core.specs.Stretches.{in_round}
 use Rattle.tile_core.specs.declared.worker.Worker.{Worker}
 use Rattle.tile_core.specs.steps.Acts.{after_instances, after_place}
@@ -35,7 +35,7 @@ do_laid-requires c =
     let row = c.row.result.now in
     let desk = c.index_mut.result.now in
     let is : desk ≡ get_or w.desks.items at desk = search rules in
-    let wide : (walk_shape plan).cells ≤ length c.loop-at.cells = search rules in record {
+    let wide : (plain_shape plan).cells ≤ length c.loop-at.cells = search rules in record {
       plan = plan;
       steps = take strand.before.loops strand.steps;
       instance = in_round strand stands.round;
@@ -50,7 +50,7 @@ do_laid-requires c =
 pub loop-at-preserved : goal.loop-at-preserved
 loop-at-preserved c =
     let plan = c.args.plan.now in
-    let p = walk_shape plan in
+    let p = plain_shape plan in
     let table = plan.table.now in
     let a = c.args.worker.now in
     let w = c.loop-at.worker in

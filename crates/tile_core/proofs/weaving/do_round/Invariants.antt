@@ -1,5 +1,5 @@
 use Rattle.std.proofs.Common.{◌≡◌, ℕ, suc}
-use Rattle.tile_core.specs.Plans.{walk_shape}
+use Rattle.tile_core.specs.Plans.{plain_shape}
 use Rattle.tile_core.specs.Strands.{AreLaid, IsRound}
 use Rattle.tile_core.specs.Workers.{IsWorker}
 use Rattle.tile_core.specs.steps.Acts.{after_instances}
@@ -8,7 +8,7 @@ use Rattle.tile_core.proofs.weaving.do_round.Given as goal
 abbrev pub invariant-loop-at : goal.invariant-loop-at
 invariant-loop-at l = record {
   cells : (round t k : ℕ) → IsRound l.plan l.fn.worker.spot.braid round t k l.fn.worker.desks.items
-      → l.cells ≡ after_instances (walk_shape l.plan) t k l.at l.fn.cells;
+      → l.cells ≡ after_instances (plain_shape l.plan) t k l.at l.fn.cells;
   laid : (round : ℕ)
       → AreLaid l.plan.table.now l.fn.worker.spot.braid 0 l.fn.worker.spot.braid.count round l.fn.worker.desks.items
       → AreLaid l.plan.table.now l.fn.worker.spot.braid 0 l.at (suc round) l.worker.desks.items

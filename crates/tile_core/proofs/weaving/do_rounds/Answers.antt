@@ -1,5 +1,5 @@
 use Rattle.std.proofs.Common.{arith, ◌≡◌, ◌∙◌, ◌+◌, ◌*◌, ℕ, List, ap, suc, subst, sym}
-use Rattle.tile_core.specs.Plans.{walk_shape}
+use Rattle.tile_core.specs.Plans.{plain_shape}
 use Rattle.tile_core.specs.Strands.{AreLaid, IsRound, StandsInRound}
 use Rattle.tile_core.specs.declared.worker.Worker.{Worker}
 use Rattle.tile_core.specs.steps.Acts.{after_instances}
@@ -35,7 +35,7 @@ do_round-requires-clause-stands c =
 pub loop-preserved : goal.loop-preserved
 loop-preserved c =
     let plan = c.args.plan.now in
-    let p = walk_shape plan in
+    let p = plain_shape plan in
     let table = plan.table.now in
     let a = c.args.worker.now in
     let w = c.loop.worker in

@@ -1,5 +1,5 @@
 use Rattle.std.proofs.Common.{◌≡◌, ◌*◌, ℕ, suc}
-use Rattle.tile_core.specs.Plans.{walk_shape}
+use Rattle.tile_core.specs.Plans.{plain_shape}
 use Rattle.tile_core.specs.Strands.{AreLaid}
 use Rattle.tile_core.specs.Workers.{IsWorker}
 use Rattle.tile_core.specs.declared.worker.Stage.TheVariants.{Working}
@@ -10,7 +10,7 @@ abbrev pub invariant-loop : goal.invariant-loop
 invariant-loop l = record {
   cells : (t k : ℕ) → l.fn.worker.stage ≡ Working t k
       → l.cells
-      ≡ after_instances (walk_shape l.plan) t (suc k) (l.counter * l.fn.worker.spot.braid.count) l.fn.cells;
+      ≡ after_instances (plain_shape l.plan) t (suc k) (l.counter * l.fn.worker.spot.braid.count) l.fn.cells;
   laid : AreLaid l.plan.table.now l.fn.worker.spot.braid 0 l.fn.worker.spot.braid.count l.counter
       l.worker.desks.items;
   same : l.worker ≡ record l.fn.worker { desks = l.worker.desks };

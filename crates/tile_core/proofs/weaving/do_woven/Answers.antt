@@ -1,5 +1,5 @@
 use Rattle.std.proofs.Common.{arith, ◌≡◌, ◌∙◌, ◌+◌, ◌*◌, ℕ, List, ap, suc}
-use Rattle.tile_core.specs.Plans.{walk_shape}
+use Rattle.tile_core.specs.Plans.{plain_shape}
 use Rattle.tile_core.specs.declared.worker.Stage.TheVariants.{Working}
 use Rattle.tile_core.specs.declared.worker.Worker.{Worker}
 use Rattle.tile_core.specs.steps.Acts.{after_instances}
@@ -8,7 +8,7 @@ use Rattle.tile_core.proofs.weaving.do_woven.Goals as goal
 
 pub returns-clause-cells : goal.returns-clause-cells
 returns-clause-cells c t k works =
-    let p = walk_shape c.args.plan.now in
+    let p = plain_shape c.args.plan.now in
     let w = c.do_ahead.new.worker in
     let v = c.do_rounds.new.worker in
     let cells = c.args.cells.now in

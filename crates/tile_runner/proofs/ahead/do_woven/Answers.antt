@@ -5,7 +5,6 @@ use Rattle.tile_core.specs.Views.{done_at, tile_at}
 use Rattle.tile_core.specs.declared.worker.Stage.TheVariants.{Working}
 use Rattle.tile_core.specs.declared.worker.Worker.{Worker}
 use Rattle.tile_runner.proofs.ahead.do_woven.Goals as goal
-use Rattle.tile_runner.proofs.ahead.do_woven.Goals.{After-pass_rounds}
 
 pub do_along-requires-clause-ahead : goal.do_along-requires-clause-ahead
 do_along-requires-clause-ahead c = c.requires.woven.first

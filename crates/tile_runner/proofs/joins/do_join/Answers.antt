@@ -15,7 +15,8 @@ load_at-first-requires-clause-next c =
     let lanes = c.args.lanes.now in
     reads_next w seat.me.0.stage [] seat c.requires.seat lanes.first.at
     (lane_read w.plan seat.me.0.stage lanes c.requires.laid c.rows_tell_instances.ensures.tells
-    c.requires.seat.of.planned w.table.shared.key.cells.items [] 0 lanes.first refl (omega arith) refl)
+    c.requires.seat.of.planned (λ cells. c.walks_are_dealt.ensures.plain w.plan cells c.requires.plain)
+    w.table.shared.key.cells.items [] 0 lanes.first refl (omega arith) refl)
 
 pub load_at-second-requires-clause-next : goal.load_at-second-requires-clause-next
 load_at-second-requires-clause-next c =
@@ -27,7 +28,8 @@ load_at-second-requires-clause-next c =
     let one = seat_read w s [] seat c.requires.seat c.load_at-first.new.seat x c.load_at-first.ensures.seat in
     reads_next w s (x ∷ []) c.load_at-first.new.seat one lanes.second.at
     (lane_read w.plan s lanes c.requires.laid c.rows_tell_instances.ensures.tells c.requires.seat.of.planned
-    w.table.shared.key.cells.items (x ∷ []) 1 lanes.second refl (omega arith) refl)
+    (λ cells. c.walks_are_dealt.ensures.plain w.plan cells c.requires.plain) w.table.shared.key.cells.items (x ∷ []) 1
+    lanes.second refl (omega arith) refl)
 
 pub load_at-third-requires-clause-next : goal.load_at-third-requires-clause-next
 load_at-third-requires-clause-next c =
@@ -42,7 +44,8 @@ load_at-third-requires-clause-next c =
     c.load_at-second.ensures.seat in
     reads_next w s (x ∷ y ∷ []) c.load_at-second.new.seat two lanes.third.at
     (lane_read w.plan s lanes c.requires.laid c.rows_tell_instances.ensures.tells c.requires.seat.of.planned
-    w.table.shared.key.cells.items (x ∷ y ∷ []) 2 lanes.third refl (omega arith) refl)
+    (λ cells. c.walks_are_dealt.ensures.plain w.plan cells c.requires.plain) w.table.shared.key.cells.items (x ∷ y ∷ [])
+    2 lanes.third refl (omega arith) refl)
 
 pub store_at-requires-clause-next : goal.store_at-requires-clause-next
 store_at-requires-clause-next c =
@@ -61,7 +64,7 @@ store_at-requires-clause-next c =
     stores_next w s (x ∷ y ∷ z ∷ []) c.load_at-third.new.seat three lanes.place.at c.of-value.result
     (subst (IsNextStore (walk_in w) s (x ∷ y ∷ z ∷ []) lanes.place.at) (sym c.of-value.ensures)
     (lane_store w.plan s lanes c.requires.laid c.rows_tell_instances.ensures.tells c.requires.seat.of.planned
-    w.table.shared.key.cells.items x y z))
+    (λ cells. c.walks_are_dealt.ensures.plain w.plan cells c.requires.plain) w.table.shared.key.cells.items x y z))
 
 pub returns-clause-seat : goal.returns-clause-seat
 returns-clause-seat c =

@@ -1,36 +1,44 @@
--- The cells at the end of a plan's own execution are those of the walk's, which is the program's execution.
-use Rattle.std.proofs.Common.{◌∙◌, ◌<◌, arith, subst}
+-- The cells at the end are those of a sound state where all tiles are done, which plans speak of.
 use Rattle.std.proofs.lemmas.Result.{IfOk-weaker}
-use Rattle.array_words.specs.Closing.{IsClosed}
-use Rattle.scop_syntax.specs.Execution.{cell_number}
-use Rattle.tile_core.specs.Plans.{extents_in, plan_of, walk_in, walk_plan}
+use Rattle.tile_core.specs.Plans.{plan_of}
 use Rattle.tile_events.specs.Flat.{flat}
-use Rattle.tile_events.specs.Plan.{Plan}
-use Rattle.tile_core.proofs.GatedPlans.{gated_end}
-use Rattle.tile_core.proofs.Gates.{shape_extends}
-use Rattle.tile_core.proofs.Plans.{walk_over}
+use Rattle.tile_runner.proofs.Ends.{end_of, quiet_end, sound_end}
 use Rattle.tile_runner.proofs.running.run_plan.Goals as goal
 
 pub returns-clause-arrays : goal.returns-clause-arrays
 returns-clause-arrays g c = IfOk-weaker c.run_passes.result _ _
-    (λ closed is contents shaped holds d cell.
+    (λ done is contents plain shaped holds d cell.
     let plan = c.args.plan in
-    let extents = extents_in plan in
-    let cells = flat contents in
-    let number = cell_number extents d in
-    let below = c.cells_have_numbers_of_their_own.ensures.below extents d cell in
-    let more = (shape_extends plan).cells in
-    let inside : number < (plan_of plan cells).cells = omega (arith, below, more) in
-    let over = subst (λ (p : Plan). IsClosed p c.args.cells.now.items c.run_passes.new.cells.items)
-    (c.plans_execute_the_kernel.ensures.row plan contents c.args.cells.now.items holds) is in
-    let walk = walk_over plan contents
-    (λ e within. c.plans_execute_the_walk.ensures.row extents contents e shaped within) in
-    over.cells number inside
-    ∙ (gated_end record {
-      reads = c.pairs_make_plans.ensures.reads;
-      end = c.pairs_make_plans.ensures.end;
-      words = c.pairs_make_plans.ensures.words;
-    } plan c.requires.plan cells (c.walks_are_dealt.ensures.dealt plan cells c.requires.plan) number below
-    ∙ c.plans_execute_the_walk.ensures.end extents contents plan.marked.now (walk_in plan) (walk_plan plan cells) walk
-    c.requires.plan.marks shaped c.requires.plan.inside d cell))
+    let p = plan_of plan (flat contents) in
+    let cells = c.run_passes.new.cells.items in
+    c.plans_execute_the_kernel.ensures.end plan contents (end_of p cells) c.requires.plan plain shaped
+    (sound_end plan contents c.args.cells.now.items cells
+    (c.plans_execute_the_kernel.ensures.row plan contents c.args.cells.now.items holds)
+    (c.plans_are_good.ensures.dealt plan (flat contents) c.requires.plan) c.requires.cells is)
+    (quiet_end p cells) d cell)
+    c.run_passes.ensures.cells
+
+pub returns-clause-kept : goal.returns-clause-kept
+returns-clause-kept g c = IfOk-weaker c.run_passes.result _ _
+    (λ done is contents copied shaped holds d cell.
+    let plan = c.args.plan in
+    let p = plan_of plan (flat contents) in
+    let cells = c.run_passes.new.cells.items in
+    c.plans_execute_the_kernel.ensures.kept plan contents (end_of p cells) c.requires.plan copied shaped
+    (sound_end plan contents c.args.cells.now.items cells
+    (c.plans_execute_the_kernel.ensures.row plan contents c.args.cells.now.items holds)
+    (c.plans_are_good.ensures.dealt plan (flat contents) c.requires.plan) c.requires.cells is) d cell)
+    c.run_passes.ensures.cells
+
+pub returns-clause-copies : goal.returns-clause-copies
+returns-clause-copies g c = IfOk-weaker c.run_passes.result _ _
+    (λ done is contents j copied shaped holds less.
+    let plan = c.args.plan in
+    let p = plan_of plan (flat contents) in
+    let cells = c.run_passes.new.cells.items in
+    c.plans_execute_the_kernel.ensures.copies plan contents (end_of p cells) j c.requires.plan copied shaped
+    (sound_end plan contents c.args.cells.now.items cells
+    (c.plans_execute_the_kernel.ensures.row plan contents c.args.cells.now.items holds)
+    (c.plans_are_good.ensures.dealt plan (flat contents) c.requires.plan) c.requires.cells is)
+    (quiet_end p cells) less)
     c.run_passes.ensures.cells

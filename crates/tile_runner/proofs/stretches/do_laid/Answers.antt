@@ -31,7 +31,8 @@ load_at-value-requires-clause-next c =
     let less = c.loop-read-test.true in
     subst (λ (u : Stage). IsNextRead (walk_in w) u xs c.cell.result) (sym is.seat.stage)
     (next_read w.plan s c.args.row.now (IsOnDesk c.args.row.now c.args.desk.now) a w.table.shared.key.cells.items xs
-    c.loop-read.read c.cell.result tells is.count (omega (arith, end, less))
+    c.loop-read.read c.cell.result
+    (c.walks_are_dealt.ensures.plain w.plan w.table.shared.key.cells.items c.requires.plain) tells is.count (omega (arith, end, less))
     (λ form e. c.cell.ensures a.steps a.first.turns form (is.laid a.steps a.first.turns a.laid.1) e))
 
 pub value-value-requires-clause-made : goal.value-value-requires-clause-made
@@ -68,6 +69,7 @@ give_at-requires-clause-next c =
     ap (λ (n : ℕ). take n c.loop-read.desk.slots.items) (sym all) ∙ is.slots in
     subst (λ (u : Stage). IsNextLast row.adds (walk_in w) u xs c.cell-2.result c.value-value.result) (sym is.seat.stage)
     (next_last w.plan s row (IsOnDesk row c.args.desk.now) a w.table.shared.key.cells.items xs c.cell-2.result
-    c.value-value.result tells (is.count ∙ all)
+    c.value-value.result (c.walks_are_dealt.ensures.plain w.plan w.table.shared.key.cells.items c.requires.plain) tells
+    (is.count ∙ all)
     (λ form e. c.cell-2.ensures a.steps turns form (c.value-value.ensures.laid a.steps turns laid) e)
     (c.value-value.ensures.value a.steps turns laid ∙ ap (value_by row.code turns) values))

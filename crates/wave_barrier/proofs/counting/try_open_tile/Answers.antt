@@ -1,4 +1,4 @@
-use Rattle.std.proofs.Common.{◌≡◌, ◌∙◌, ℕ, sym, subst}
+use Rattle.std.proofs.Common.{◌∙◌, sym}
 use Rattle.wave_barrier.proofs.Counters.{tile_word}
 use Rattle.wave_barrier.proofs.Openings.{held_tile}
 use Rattle.wave_barrier.proofs.counting.try_open_tile.Goals as goal

@@ -1,12 +1,14 @@
-use Rattle.std.proofs.Common.{ap, rules, subst, ◌∙◌, ◌<◌}
+use Rattle.std.proofs.Common.{ap, rules, subst, ◌≡◌, ◌∙◌, ◌<◌}
 use Rattle.std.specs.Vec.{with_item}
 use Rattle.std.specs.Prelude.{Ok}
 use Rattle.tile_core.specs.Boards.{seen_of}
 use Rattle.tile_core.specs.Plans.{place_of, walk_shape}
+use Rattle.tile_core.specs.declared.worker.Stage.TheVariants.{Working}
 use Rattle.tile_core.specs.declared.worker.Worker.{Worker}
-use Rattle.tile_core.proofs.Boards.{at_board, does_last, is_other, one_at, reads_left, refuses_last, workers_kept}
+use Rattle.tile_core.proofs.Boards.{at_board, does_last, due_at, is_other, one_at, reads_left, refuses_last}
+use Rattle.tile_core.proofs.Boards.{worker_there, workers_kept}
 use Rattle.tile_core.proofs.board.Board.last_act.Goals as goal
-use Rattle.tile_core.proofs.board.Board.last_act.Goals.{After-cell_written-at}
+use Rattle.tile_core.proofs.board.Board.last_act.Goals.{After-at-tile, After-cell_written-at}
 
 pub returns-in_default : goal.returns-in_default
 returns-in_default c = record {
@@ -22,6 +24,27 @@ returns-then-len-reads c = record {
       c.args.adds (search rules);
   workers = c.requires.board.workers;
 }
+
+-- where the instance stands
+spot : (c : After-at-tile) → (c.index-worker.result.now.stage ≡ Working c.at-tile.result.0 c.at-tile.result.1)
+    × (c.at-tile.result.0 < (walk_shape c.args.plan.now).tiles)
+    × (c.at-tile.result.1 < (walk_shape c.args.plan.now).size c.at-tile.result.0)
+    × (place_of c.args.plan.now c.in-Some.due.now ≡ (walk_shape c.args.plan.now).place c.at-tile.result.0 c.at-tile.result.1)
+spot c =
+    let plan = c.args.plan.now in
+    let w = c.index-worker.result.now in
+    due_at plan w c.in-Some.due.now c.at-tile.result
+    (worker_there plan c.args.self.now c.args.id w c.requires.board c.requires.id (search rules)) c.in-Some.ensures.due
+    c.at-tile.ensures
+
+pub cell_written-at-requires-clause-tile : goal.cell_written-at-requires-clause-tile
+cell_written-at-requires-clause-tile c = (spot (goal.at.cell_written-at-requires-clause-tile c).After-at-tile).1
+
+pub cell_written-at-requires-clause-left : goal.cell_written-at-requires-clause-left
+cell_written-at-requires-clause-left c = (spot (goal.at.cell_written-at-requires-clause-left c).After-at-tile).2
+
+pub cell_written-at-requires-clause-place : goal.cell_written-at-requires-clause-place
+cell_written-at-requires-clause-place c = (spot (goal.at.cell_written-at-requires-clause-place c).After-at-tile).3
 
 inside : (c : After-cell_written-at) → (walk_shape c.args.plan.now).written (place_of c.args.plan.now c.in-Some.due.now)
     < (walk_shape c.args.plan.now).cells

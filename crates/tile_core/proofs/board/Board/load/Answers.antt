@@ -1,7 +1,10 @@
-use Rattle.std.proofs.Common.{ap, rules, ◌∙◌, ◌++◌, ◌∷◌, []}
+use Rattle.std.proofs.Common.{ap, rules, ◌≡◌, ◌<◌, ◌∙◌, ◌++◌, ◌∷◌, []}
+use Rattle.tile_core.specs.Plans.{place_of, walk_shape}
+use Rattle.tile_core.specs.declared.worker.Stage.TheVariants.{Working}
 use Rattle.tile_core.specs.declared.worker.Worker.{Worker}
-use Rattle.tile_core.proofs.Boards.{all_read, at_board, loads, one_at, refuses_load, worker_there, workers_kept}
+use Rattle.tile_core.proofs.Boards.{all_read, at_board, due_at, loads, one_at, refuses_load, worker_there, workers_kept}
 use Rattle.tile_core.proofs.board.Board.load.Goals as goal
+use Rattle.tile_core.proofs.board.Board.load.Goals.{After-at-tile}
 
 pub returns-in_default : goal.returns-in_default
 returns-in_default c = record {
@@ -17,6 +20,27 @@ returns-then-read-reads c = record {
       (search rules);
   workers = c.requires.board.workers;
 }
+
+-- where the instance stands
+spot : (c : After-at-tile) → (c.index-worker.result.now.stage ≡ Working c.at-tile.result.0 c.at-tile.result.1)
+    × (c.at-tile.result.0 < (walk_shape c.args.plan.now).tiles)
+    × (c.at-tile.result.1 < (walk_shape c.args.plan.now).size c.at-tile.result.0)
+    × (place_of c.args.plan.now c.in-Some.instance.now ≡ (walk_shape c.args.plan.now).place c.at-tile.result.0 c.at-tile.result.1)
+spot c =
+    let plan = c.args.plan.now in
+    let w = c.index-worker.result.now in
+    due_at plan w c.in-Some.instance.now c.at-tile.result
+    (worker_there plan c.args.self.now c.args.id w c.requires.board c.requires.id (search rules)) c.in-Some.ensures.due
+    c.at-tile.ensures
+
+pub cell_read-requires-clause-tile : goal.cell_read-requires-clause-tile
+cell_read-requires-clause-tile c = (spot (goal.at.cell_read-requires-clause-tile c).After-at-tile).1
+
+pub cell_read-requires-clause-left : goal.cell_read-requires-clause-left
+cell_read-requires-clause-left c = (spot (goal.at.cell_read-requires-clause-left c).After-at-tile).2
+
+pub cell_read-requires-clause-place : goal.cell_read-requires-clause-place
+cell_read-requires-clause-place c = (spot (goal.at.cell_read-requires-clause-place c).After-at-tile).3
 
 pub returns : goal.returns
 returns c =

@@ -1,7 +1,16 @@
-use Rattle.std.proofs.Common.{◌∙◌, sym}
+use Rattle.std.proofs.Common.{◌∙◌, ◌≡◌, length, sym}
 use Rattle.scop_syntax.specs.View.{instance_of}
 use Rattle.scop_syntax.proofs.Members.{there_is}
+use Rattle.tile_core.specs.Plans.{place_of, plain_shape}
+use Rattle.tile_core.proofs.CopiedCells.{as_many_reads}
 use Rattle.tile_core.proofs.plan.Plan.value.Goals as goal
+use Rattle.tile_core.proofs.plan.Plan.value.Goals.{After-rows_tell_instances}
+
+many : (c : After-rows_tell_instances) → length c.args.reads.now
+    ≡ length ((plain_shape c.args.self.now).read (place_of c.args.self.now c.args.instance.now))
+many c =
+    c.requires.reads
+    ∙ sym (as_many_reads c.args.self.now c.requires.plan (place_of c.args.self.now c.args.instance.now))
 
 pub value-requires-clause-statement : goal.value-requires-clause-statement
 value-requires-clause-statement c =
@@ -12,7 +21,7 @@ pub value-requires-clause-code : goal.value-requires-clause-code
 value-requires-clause-code c = λ row at.
     let tells = c.rows_tell_instances.ensures.tells c.args.self.now (instance_of c.args.instance.now) row
     c.requires.plan c.requires.walked at in
-    (tells.made, c.requires.reads ∙ sym tells.reads)
+    (tells.made, many (goal.at.value-requires-clause-code c).After-rows_tell_instances ∙ sym tells.reads)
 
 pub returns-clause-value : goal.returns-clause-value
 returns-clause-value c =
@@ -22,4 +31,6 @@ returns-clause-value c =
     let found = there_is plan.table.now.rows.items i.statement
     (c.rows_tell_instances.ensures.there plan x c.requires.plan c.requires.walked) in
     let tells = c.rows_tell_instances.ensures.tells plan x found.0 c.requires.plan c.requires.walked found.1 in
-    c.value.ensures.value found.0 found.1 ∙ tells.value c.args.reads.now (c.requires.reads ∙ sym tells.reads)
+    c.value.ensures.value found.0 found.1
+    ∙ tells.value c.args.reads.now
+    (many (goal.at.returns-clause-value c).After-rows_tell_instances ∙ sym tells.reads)
