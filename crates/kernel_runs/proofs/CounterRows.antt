@@ -1,19 +1,25 @@
--- A row with the counters of tiles behind the cells of all arrays.
+-- A row with zeros behind the cells of all arrays, for copies and counters.
 use Rattle.std.proofs.Common.{◌≡◌, ◌∙◌, ◌+◌, ◌≤◌, ℕ, zero, suc, List, [], ◌∷◌, ◌++◌, ap, arith, get_or, length}
 use Rattle.std.proofs.Common.{append_assoc, length-append, refl, replicate, sym}
 use Rattle.std.proofs.lemmas.List.{length-replicate, replicate-append-replicate}
 use Rattle.std.proofs.Math.ListN.{get_or-append}
 use Rattle.scop_syntax.proofs.Members.{nat_cases}
-use Rattle.tile_core.specs.Plans.{HasRest, HoldsContents, walk_shape}
+use Rattle.tile_core.specs.Plans.{HasRest, HoldsContents, plain_shape}
 use Rattle.tile_core.specs.declared.plan.Plan.{Plan}
 use Rattle.tile_events.specs.Flat.{flat}
+use Rattle.kernel_runs.specs.steps.Rows.{Begins}
 
--- one zero more
-pub zero_more : (old row new : List ℕ) (k : ℕ) → row ≡ old ++ replicate k 0 → new ≡ row ++ 0 ∷ []
-    → new ≡ old ++ replicate (k + 1) 0
-zero_more old row new k is more =
-    more ∙ (ap (λ xs. xs ++ 0 ∷ []) is ∙ (append_assoc old (replicate k 0) (0 ∷ [])
-    ∙ ap (λ xs. old ++ xs) (replicate-append-replicate k 1 0)))
+-- a row that begins with one that begins with another
+pub begins_then : (old row new : List ℕ) → Begins old row → Begins row new → Begins old new
+begins_then old row new f g =
+    (f.0 ++ g.0, g.1 ∙ (ap (λ xs. xs ++ g.0) f.1 ∙ append_assoc old f.0 g.0))
+
+-- zeros behind zeros
+pub zeros_then : (old row new : List ℕ) (n k : ℕ) → row ≡ old ++ replicate n 0 → new ≡ row ++ replicate k 0
+    → new ≡ old ++ replicate (n + k) 0
+zeros_then old row new n k is more =
+    more ∙ (ap (λ xs. xs ++ replicate k 0) is ∙ (append_assoc old (replicate n 0) (replicate k 0)
+    ∙ ap (λ xs. old ++ xs) (replicate-append-replicate n k 0)))
 
 -- behind a row's end there is 0, and so in zeros
 zeros_behind : (xs : List ℕ) (n c : ℕ) → length xs ≤ c → get_or (xs ++ replicate n 0) c 0 ≡ 0
@@ -32,7 +38,7 @@ module _ (old row : List ℕ) (n : ℕ) (is : row ≡ old ++ replicate n 0) wher
   pub more_cells : length row ≡ length old + n
   more_cells = ap length is ∙ (length-append old (replicate n 0) ∙ ap (λ m. length old + m) (length-replicate n 0))
 
-  pub has_rest : (plan : Plan) → length old ≡ (walk_shape plan).cells → HasRest plan row
+  pub has_rest : (plan : Plan) → length old ≡ (plain_shape plan).cells → HasRest plan row
   has_rest plan long = λ c less. ap (λ xs. get_or xs c 0) is ∙ zeros_behind old n c (omega (arith, less, long))
 
   pub holds_contents : (contents : List (List ℕ)) → old ≡ flat contents → HoldsContents contents row

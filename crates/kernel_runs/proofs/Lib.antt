@@ -6,3 +6,6 @@ pub mod FinalCells
 pub mod FirstArray
 pub mod CounterRows
 pub mod LentPairs
+pub mod PlannedTrees
+pub mod CountedCells
+pub mod SettledCells

@@ -1,5 +1,5 @@
 //! The pairs of a run's tiles of which the second waits for the first, where tiles are to be released one by one.
-ghost use Rattle.std.specs.Prelude.{◌≡◌, ⊤, true, [], IfOk, MatchOption, Some, length};
+ghost use Rattle.std.specs.Prelude.{◌≡◌, ℕ, ⊤, true, IfOk, List, MatchOption, Some, length};
 ghost use Rattle.std.specs.Option.{option_map};
 ghost use Rattle.scop_syntax.specs.Execution.{IsInside};
 ghost use Rattle.scop_syntax.specs.Limits.{WithinLimits};
@@ -49,7 +49,7 @@ pub(crate) fn pairs_in(pairs: &Option<TileEdges>) -> Option<u64>
 }
 
 /// The pairs of tiles of which the second waits for the first, where tiles are to be released one by one and there are
-/// not too many of them.
+/// not too many of them: where `flow` alone counts, by what their instances read.
 ///
 /// # Errors
 /// `AllocError` alone.
@@ -62,19 +62,20 @@ pub(crate) fn edges_of(
     tiling: &Tiling,
     list: &TileList,
     release: bool,
+    flow: bool,
 ) -> Result<Option<TileEdges>, AllocError>
     requires limits { WithinLimits (program_of kernel.now) case.now.params.items }
     requires inside { IsInside (program_of kernel.now) case.now.params.items }
-    requires trees { release ≡ true
-        → AreTreesOf (program_of kernel.now) [] (tiling_of tiling.now) (trees_in tree.now) }
+    requires trees { (marked : List ℕ)
+        × AreTreesOf (program_of kernel.now) marked (tiling_of tiling.now) (trees_in tree.now) }
     requires fits { CanTile (tiling_of tiling.now) (visits (trees_in tree.now) case.now.params.items) }
     requires table { release ≡ true → IsTableOf (program_of kernel.now) case.now.params.items table.now }
     requires tiles { IsTileListOf (trees_in tree.now) case.now.params.items (tiling_of tiling.now) list.now }
     ensures edges { IfOk result (λ o. MatchOption o ⊤
-        (AreEdgesOf (program_of kernel.now) case.now.params.items (tiling_of tiling.now) list.now)) }
+        (AreEdgesOf flow (program_of kernel.now) case.now.params.items (tiling_of tiling.now) list.now)) }
     ensures room { IfOk result (λ o. MatchOption o ⊤ (HaveRoom list.now)) }
     ensures released { IfOk result (λ o. MatchOption o ⊤ (λ e. release ≡ true)) }
-    ensures count { IfOk result (λ o. IsReleaseOf release (tiling_of tiling.now)
+    ensures count { IfOk result (λ o. IsReleaseOf release flow (tiling_of tiling.now)
         (walk_of (program_of kernel.now) case.now.params.items) (option_map (λ e. length e.targets.items) o)) }
 {
     trees_of_plans_can_be_walked();
@@ -82,7 +83,7 @@ pub(crate) fn edges_of(
     if !release {
         return Ok(None);
     }
-    match edges(alloc, kernel, &case.params, table, tree, tiling, list) {
+    match edges(alloc, kernel, &case.params, table, tree, tiling, list, flow) {
         Ok(pairs) => counted(list, pairs),
         Err(EdgesStop::TooMany) => Ok(None),
         Err(EdgesStop::NoMemory) => Err(AllocError),

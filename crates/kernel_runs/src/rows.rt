@@ -1,6 +1,6 @@
 //! The cells of all arrays in one row, one array behind another. The row has the memory of the first array.
 ghost use Rattle.std.specs.Prelude.{◌≡◌, ◌<◌, ◌++◌, ℕ, List, [], IfErr, OnOk, length, map, slice_index_or, slice_set};
-ghost use Rattle.std.specs.Prelude.{◌≤◌, drop, replicate, take};
+ghost use Rattle.std.specs.Prelude.{◌≤◌, ◌^◌, drop, replicate, take};
 ghost use Rattle.tile_events.specs.Flat.{flat};
 ghost use Rattle.kernel_runs.specs.steps.Rows.{Begins};
 
@@ -9,12 +9,21 @@ use std::alloc::{AllocError, Global};
 use std::mem;
 
 /// How many cells the arrays have, where that is below 2^64.
-fn cells_in(arrays: &Arrays) -> usize {
+fn cells_in(arrays: &Arrays) -> usize
+    ensures { length (flat arrays.now) < 2 ^ 64 → result ≡ length (flat arrays.now) }
+{
     let mut count: usize = 0;
     for array in 0..arrays.count() {
         count = count.saturating_add(arrays.array(array).len());
     }
     count
+}
+
+/// How many cells the row and these arrays have together, where that is below 2^64.
+pub(crate) fn cells_with(row: &Vec<u64>, arrays: &Arrays) -> usize
+    ensures { length (row.now.items ++ flat arrays.now) < 2 ^ 64 → result ≡ length (row.now.items ++ flat arrays.now) }
+{
+    row.len().saturating_add(cells_in(arrays))
 }
 
 /// Puts an array's cells behind others.

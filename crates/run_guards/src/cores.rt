@@ -1,5 +1,6 @@
 //! Callers of the core over a kernel's plan: the opening state, events, the cells, and what plans execute.
-ghost use Rattle.std.specs.Prelude.{◌≡◌, ℕ, ◌<◌, ◌≤◌, IfOk, List, MatchOption, Some, length, slice_get, slice_index_or};
+ghost use Rattle.std.specs.Prelude.{◌≡◌, ℕ, ◌<◌, ◌≤◌, IfOk, List, MatchOption, Some, false, length, slice_get};
+ghost use Rattle.std.specs.Prelude.{slice_index_or};
 ghost use mathlib.Core.Option.{some};
 ghost use lib.ListN.{get_elem?};
 ghost use Rattle.scop_syntax.specs.Cells.{Cell};
@@ -16,7 +17,7 @@ ghost use Rattle.tile_core.specs.Boards.{IsRun, event_of, opening_state};
 ghost use Rattle.tile_core.specs.Cores.{IsCore, ReadsExecuted, plan_in, state_in};
 ghost use Rattle.tile_core.specs.Passes.{HasNoneNext, IsNextIn, IsPass};
 ghost use Rattle.tile_core.specs.Plans.{HasRest, HoldsContents, IsPlan, deal_of, extents_in, plan_of, program_in, scan_in};
-ghost use Rattle.tile_core.specs.Plans.{shape_of, walk_in, walk_shape};
+ghost use Rattle.tile_core.specs.Plans.{is_expanded, shape_of, walk_in, walk_shape};
 ghost use Rattle.tile_core.specs.declared.plan.Plan.{Plan as AnyPlan};
 
 use scop_syntax::instance::Instance;
@@ -105,7 +106,7 @@ pub fn values_of_plans()
         → IsShaped (extents_in plan) contents → slice_get (walk_in plan) 0 ≡ Some v
         → values_read (plan_of plan (flat contents)) 0
         ≡ values_loaded_by plan.marked.now (extents_in plan) contents v.body v.point }
-    ensures end { (plan : AnyPlan) (contents : List (List ℕ)) (s : State) → IsPlan plan
+    ensures end { (plan : AnyPlan) (contents : List (List ℕ)) (s : State) → IsPlan plan → is_expanded plan ≡ false
         → IsShaped (extents_in plan) contents → Sound (plan_of plan (flat contents)) s
         → IsQuiet (plan_of plan (flat contents)) s → (c : Cell) → IsCell (extents_in plan) c
         → slice_index_or s.cells (cell_number (extents_in plan) c) 0

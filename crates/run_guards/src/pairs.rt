@@ -1,5 +1,6 @@
-//! Callers of the laws of pairs of tiles, at tiles of size 1 of visits without parameters, and in the source's order.
-ghost use Rattle.std.specs.Prelude.{◌≡◌, [], List, Option, Some, length, true, ℕ};
+//! Callers of the laws of pairs of tiles, at tiles of size 1 of visits without parameters, and in the source's order:
+//! of pairs by all conflicts, and by flow alone.
+ghost use Rattle.std.specs.Prelude.{◌≡◌, [], Bool, List, Option, Some, length, true, ℕ};
 ghost use Rattle.scop_syntax.specs.Tree.{Program};
 ghost use Rattle.scop_syntax.specs.Walk.{walk_of};
 ghost use Rattle.loop_tree.specs.Plans.{AreInOrder};
@@ -17,20 +18,21 @@ use tile_edges::laws;
 /// The pairs of tiles of size 1 are as many as there are of these, by `edges` of `edges_are_counted`, and where there are
 /// too many in numbers, so there are of these, by `more`.
 pub fn pairs_of_tiles_of_size_1()
-    ensures edges { (program : Program) (ts : Trees) (statements : List Items) (list : TileList) (e : TileEdges)
-        → IsTileListOf ts [] (tiled 1 statements) list → AreInOrder program [] (tiled 1 statements) (visits ts [])
-        → AreEdgesOf program [] (tiled 1 statements) list e
-        → HasEdges (tiled 1 statements) (walk_of program []) (length e.targets.items) }
-    ensures more { (program : Program) (ts : Trees) (statements : List Items) (list : TileList)
-        → IsTileListOf ts [] (tiled 1 statements) list → AreTooMany program [] (tiled 1 statements) list
-        → HasMoreEdges (tiled 1 statements) (walk_of program []) }
+    ensures edges { (flow : Bool) (program : Program) (ts : Trees) (statements : List Items) (list : TileList)
+        (e : TileEdges) → IsTileListOf ts [] (tiled 1 statements) list
+        → AreInOrder program [] (tiled 1 statements) (visits ts [])
+        → AreEdgesOf flow program [] (tiled 1 statements) list e
+        → HasEdges flow (tiled 1 statements) (walk_of program []) (length e.targets.items) }
+    ensures more { (flow : Bool) (program : Program) (ts : Trees) (statements : List Items) (list : TileList)
+        → IsTileListOf ts [] (tiled 1 statements) list → AreTooMany flow program [] (tiled 1 statements) list
+        → HasMoreEdges flow (tiled 1 statements) (walk_of program []) }
 {
     laws::edges_are_counted();
 }
 
 /// The source's order of a program without parameters has no pair of tiles, by the clause of `kept_orders_have_no_edges`.
 pub fn no_pairs_in_the_source_s_order()
-    ensures { (program : Program) (told : Option ℕ) → IsReleaseOf true kept (walk_of program []) told
+    ensures { (flow : Bool) (program : Program) (told : Option ℕ) → IsReleaseOf true flow kept (walk_of program []) told
         → told ≡ Some 0 }
 {
     laws::kept_orders_have_no_edges();

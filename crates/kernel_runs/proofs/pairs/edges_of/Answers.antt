@@ -38,18 +38,16 @@ edges-requires-clause-table c =
 pub edges-requires-clause-walk : goal.edges-requires-clause-walk
 edges-requires-clause-walk c =
     let ts = trees_in c.args.tree.now in
-    let yes : c.args.release ≡ true = search rules in
     subst (λ (ps : List ℤ). CanWalk ts ps []) (sym c.deref.ensures.value)
     (c.trees_of_plans_can_be_walked.ensures (program_of c.args.kernel.now) c.args.case.now.params.items
-    [] (tiling_of c.args.tiling.now) ts (c.requires.trees yes) (has_parameters c.requires.limits))
+    c.requires.trees.0 (tiling_of c.args.tiling.now) ts c.requires.trees.1 (has_parameters c.requires.limits))
 
 pub edges-requires-clause-order : goal.edges-requires-clause-order
 edges-requires-clause-order c =
     let ts = trees_in c.args.tree.now in
-    let yes : c.args.release ≡ true = search rules in
     subst (λ (ps : List ℤ). AreInOrder (program_of c.args.kernel.now) ps (tiling_of c.args.tiling.now) (visits ts ps))
     (sym c.deref.ensures.value)
-    ((c.requires.trees yes).carry_out c.args.case.now.params.items (has_parameters c.requires.limits)).exact
+    (c.requires.trees.1.carry_out c.args.case.now.params.items (has_parameters c.requires.limits)).exact
 
 pub edges-requires-clause-fits : goal.edges-requires-clause-fits
 edges-requires-clause-fits c =
@@ -68,14 +66,14 @@ returns-in-Ok-clause-count c =
     let tiling = tiling_of c.args.tiling.now in
     let pairs = c.in-Ok.pairs in
     let yes : c.args.release ≡ true = search rules in
-    let are = subst (λ (ps : List ℤ). AreEdgesOf program ps tiling c.args.list.now pairs) c.deref.ensures.value
+    let are = subst (λ (ps : List ℤ). AreEdgesOf c.args.flow program ps tiling c.args.list.now pairs) c.deref.ensures.value
     c.in-Ok.ensures.edges in
-    let has = c.edges_are_counted.ensures.edges program params (trees_in c.args.tree.now) tiling c.args.list.now pairs
-    c.requires.tiles ((c.requires.trees yes).carry_out params (has_parameters c.requires.limits)).exact are in
+    let has = c.edges_are_counted.ensures.edges c.args.flow program params (trees_in c.args.tree.now) tiling c.args.list.now
+    pairs c.requires.tiles (c.requires.trees.1.carry_out params (has_parameters c.requires.limits)).exact are in
     IfOk-weaker c.counted.result _ _
-    (λ o is. subst (λ (m : Option TileEdges). IsReleaseOf c.args.release tiling (walk_of program params)
+    (λ o is. subst (λ (m : Option TileEdges). IsReleaseOf c.args.release c.args.flow tiling (walk_of program params)
     (option_map (λ e. length e.targets.items) m)) (sym is)
-    (told_pairs c.args.release tiling (walk_of program params) (length pairs.targets.items) yes has
+    (told_pairs c.args.release c.args.flow tiling (walk_of program params) (length pairs.targets.items) yes has
     c.in-Ok.ensures.few))
     c.counted.ensures.same
 
@@ -92,8 +90,8 @@ returns-in-Err-TooMany-clause-count c =
     let params = c.args.case.now.params.items in
     let tiling = tiling_of c.args.tiling.now in
     let yes : c.args.release ≡ true = search rules in
-    let many = subst (λ (ps : List ℤ). AreTooMany program ps tiling c.args.list.now) c.deref.ensures.value
+    let many = subst (λ (ps : List ℤ). AreTooMany c.args.flow program ps tiling c.args.list.now) c.deref.ensures.value
     (c.in-Err-TooMany.ensures.many c.in-Err-TooMany.field-0-is) in
-    told_many c.args.release tiling (walk_of program params) yes
-    (c.edges_are_counted.ensures.more program params (trees_in c.args.tree.now) tiling c.args.list.now c.requires.tiles
-    many)
+    told_many c.args.release c.args.flow tiling (walk_of program params) yes
+    (c.edges_are_counted.ensures.more c.args.flow program params (trees_in c.args.tree.now) tiling c.args.list.now
+    c.requires.tiles many)
