@@ -1,6 +1,6 @@
 -- What the fields of a call's promise say, written out.
 use Rattle.std.proofs.Common.{◌≡◌, ◌∙◌, inl, inr, refl, ap, subst, ℕ, List, [], ◌++◌, Option, None, Some}
-use Rattle.std.proofs.Common.{true, sym, Result, Ok, Err, length, ◌==◌}
+use Rattle.std.proofs.Common.{Bool, true, false, sym, Result, Ok, Err, length, ◌==◌, ℤ}
 use Rattle.std.specs.Prelude.{if◌then◌else◌}
 use Rattle.std.specs.Io.KnownBytes.{Appends}
 use Rattle.io_ports.specs.Bytes.{GainsFront, IsAllOf}
@@ -9,9 +9,12 @@ use Rattle.io_ports.specs.Writes.{SinkShows}
 use Rattle.scop_syntax.specs.Tree.{Program}
 use Rattle.scop_parser.specs.Spelling.{SpellsProgram}
 use Rattle.data_lines.specs.declared.refusal.DataRefusal.{DataRefusal}
+use Rattle.loop_tree.specs.Tiling.{Tiling}
+use Rattle.loop_tree.specs.Tree.{Trees}
 use Rattle.report_text.specs.StatusText.{status_text}
 use Rattle.report_text.specs.TilesText.{tiles_text}
 use Rattle.report_text.specs.declared.status.Status.{Status}
+use Rattle.report_text.specs.declared.unexpanded_line.UnexpandedLine.{UnexpandedLine}
 use Rattle.report_text.specs.declared.status.Status.TheVariants.{BadData, Rejected, WriteFault}
 use Rattle.plan_check.specs.Judged.{judged, rejected_at}
 use Rattle.plan_check.specs.declared.kinds.FaultKind.{FaultKind}
@@ -20,13 +23,51 @@ use Rattle.command_line.specs.declared.command.Command.TheVariants.{Check, Gen, 
 use Rattle.command_line.specs.Command.{command_of}
 use Rattle.command_line.specs.declared.command.RunOptions.{RunOptions}
 use Rattle.polypar.specs.Certifying.{IsGivenText}
-use Rattle.polypar.specs.Planned.{ArePlanned}
+use Rattle.polypar.specs.Planned.{AreExpanded, ArePlanned}
 use Rattle.polypar.specs.Answered.{Answered, GainsLine, GainsTo, HasLines, IsDeserved, NamesOf, PrintsArrays}
 use Rattle.polypar.specs.Answered.{PrintsCertificate}
 use Rattle.polypar.specs.Cut.{data_part, kernel_part}
 use Rattle.polypar.specs.Deserves.{DeservesFor}
-use Rattle.command_guards.specs.Shown.{GainsCertificate, GainsFault, GainsReport, IsGiven, TellsData}
-use Rattle.polypar.specs.Runs.{edges_line, marks_by, release_line}
+use Rattle.polypar.specs.Expanding.{GoesBy, GoesIf, IsSetAside, marks_by}
+use Rattle.polypar.specs.Runs.{edges_line, release_line, unexpanded_line}
+use Rattle.command_guards.specs.Shown.{GainsCertificate, GainsFault, GainsReport, HasNone, IsGiven, IsRunBy, TellsData}
+
+-- how a run is planned
+run_by : (options : RunOptions) (program : Program) (params : List ℤ) (told : Option UnexpandedLine) (expanded : Bool)
+    (plan : Tiling) (front : List ℕ) (trees : Trees) → options.report ≡ true
+    → GoesBy options program params told expanded plan front trees
+    → IsRunBy options program params (marks_by options program) told expanded plan front trees
+run_by options program params told expanded plan front trees asked = go options.expand told refl
+  where
+    as_is : ArePlanned options.tile options.budget options.report (marks_by options program) program plan front trees
+        → ArePlanned options.tile options.budget true (marks_by options program) program plan front trees
+    as_is = subst
+        (λ (report : Bool). ArePlanned options.tile options.budget report (marks_by options program) program plan front
+        trees) asked
+
+    aside : (why : UnexpandedLine) → IsSetAside options program params why
+        → HasNone options program params (marks_by options program) why
+    aside why (inl marked) = inl marked
+    aside why (inr (none, inl stops)) = inr (none, inl (stops.sources, stops.why, stops.run, stops.first, stops.line))
+    aside why (inr (none, inr (all, many, is))) =
+        inr (none, inr ((all.0, all.1.run, all.1.resolved), many, is))
+
+    go : (b : Bool) (line : Option UnexpandedLine) → options.expand ≡ b
+        → GoesIf b options program params line expanded plan front trees
+        → IsRunBy options program params (marks_by options program) line expanded plan front trees
+    go false line is (none, (not, planned)) = inl (inl (is, none), not, as_is planned)
+    go true (Some why) is (set, (not, planned)) = inl (inr (is, why, refl, aside why set), not, as_is planned)
+    go true None is (can, by, planned) =
+        inr (
+          is,
+          refl,
+          can.unmarked,
+          (can.told.0, can.told.1.run, can.told.1.resolved),
+          can.few,
+          by,
+          subst (λ (report : Bool). AreExpanded options.tile options.budget report program plan front trees) asked
+              planned,
+        )
 
 -- the lines of a run whose report is asked for
 pub reported : (options : RunOptions) (left : Option (List ℕ)) (out out_after err err_after : SinkShows)
@@ -43,21 +84,22 @@ reported options left out out_after err err_after asked prints =
       plan.plan,
       plan.trees,
       plan.front,
+      plan.unexpanded,
+      plan.expanded,
       prints.4.0,
       prints.4.1,
       prints.3,
       refl,
-      subst
-          (λ report. ArePlanned options.tile options.budget report marked prints.1.program plan.plan plan.front
-          plan.trees)
-          asked plan.planned,
+      run_by options prints.1.program prints.1.params plan.unexpanded plan.expanded plan.plan plan.front plan.trees
+          asked plan.goes,
       plan.has_tiles,
       plan.has_waves,
       plan.edges,
       plan.has_edges,
       subst (λ lines. Appends err.taken err_after.taken lines)
           (plan.told
-          ∙ ap (λ more. release_line options.sync (length marked == 0) plan.edges ++ (plan.front ++ more)) is)
+          ∙ ap (λ more. unexpanded_line plan.unexpanded ++ (release_line options.sync (length marked == 0) plan.edges
+          ++ (plan.front ++ more))) is)
           prints.6,
     )
 

@@ -1,9 +1,10 @@
 //! A caller of the top call: each of its clauses follows from one field of `Answered`, with what that field speaks of
 //! written out. So one of these fields that is emptied fails here, and so does a definition under it, but for those
 //! that are named here: which input is accepted or spells a kernel, what is asked for, what a generated kernel leaves,
-//! which arrays a kernel only adds to (`marks`), what the search finds or stops at (`IsSearched`, `IsCauseOf`), what a
+//! which arrays a kernel only adds to (`marks`), which read is the first whose source is not told, and by which line
+//! (`first_unresolved`, `line_of_stop`), what the search finds or stops at (`IsSearched`, `IsCauseOf`), what a
 //! certificate is (`certificate_of`) and whether it is accepted (`judged`), and what the trees of a plan are
-//! (`ArePlanned`), of which it is written out alone which loops of a tiled plan are marked parallel.
+//! (`ArePlanned`, `AreExpanded`), of which it is written out alone which loops of a tiled plan are marked parallel.
 
 ghost use Rattle.std.specs.Prelude.{◌≡◌, ◌≢◌, ◌⊎◌, ◌<◌, ◌++◌, ℕ, ℤ, true, false, List, [], Option, map};
 ghost use Rattle.std.specs.Prelude.{Err, codes, length, string_bytes};
@@ -18,6 +19,7 @@ ghost use Rattle.scop_parser.specs.Spelling.{SpellsProgram};
 ghost use Rattle.data_lines.specs.declared.refusal.DataRefusal.{DataRefusal};
 ghost use Rattle.data_text.specs.ArrayText.{array_text};
 ghost use Rattle.iteration_domains.specs.Model.{model_of};
+ghost use Rattle.dataflow.specs.Covering.{covers_of};
 ghost use Rattle.dataflow.specs.ReadSources.{AreSources, NameLastWriters, reads_of};
 ghost use Rattle.dataflow.specs.Way.TheVariants.{Later};
 ghost use Rattle.dataflow.specs.Told.{AreTold};
@@ -80,9 +82,12 @@ pub fn answered_call<S: Source, O: Sink, E: Sink>(
         → GainsReport options (S.shows source.old).left (E.shows err.old) (E.shows err.new) }
     ensures schedule { (budget : ℕ) → IsScheduleCommand budget (map string_bytes words.now) → result ≡ Done
         → (input : List ℕ) × (kernel : Spelled input) × (text : List ℕ) × IsAllOf (S.shows source.old).left input
-        × (((blocks : List Block) × IsSearched budget [] (model_of kernel.program) blocks
+        × (((blocks : List Block)
+        × IsSearched budget (covers_of budget [] (model_of kernel.program)) (model_of kernel.program) blocks
         × (text ≡ schedule_text blocks))
-        ⊎ ((why : KeptLine) × IsCauseOf budget [] (model_of kernel.program) why × (text ≡ kept_text why)))
+        ⊎ ((why : KeptLine)
+        × IsCauseOf budget (covers_of budget [] (model_of kernel.program)) (model_of kernel.program) why
+        × (text ≡ kept_text why)))
         × Appends (O.shows out.old).taken (O.shows out.new).taken text }
     ensures sources { (budget : ℕ) → IsDepsCommand budget (map string_bytes words.now) → result ≡ Done
         → (input : List ℕ) × (kernel : Spelled input) × (sources : List ReadSource)

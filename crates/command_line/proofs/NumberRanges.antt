@@ -131,7 +131,7 @@ module _ (name : Text) (low high : ℕ) where
 -- what the stated command asks of its numbers
 workers_asked : ShapesAsk (codes "workers") 1 most_workers (built tool).subs
 workers_asked = (
-  ((refl, refl), (tt, (tt, (tt, (tt, (tt, (tt, tt))))))),
+  ((refl, refl), (tt, (tt, (tt, (tt, (tt, (tt, (tt, tt)))))))),
   (
     (tt, (tt, tt)),
     (
@@ -155,7 +155,7 @@ workers_asked = (
 
 tile_asked : ShapesAsk (codes "tile") 1 most_tile (built tool).subs
 tile_asked = (
-  (tt, ((refl, refl), (tt, (tt, (tt, (tt, (tt, tt))))))),
+  (tt, ((refl, refl), (tt, (tt, (tt, (tt, (tt, (tt, tt)))))))),
   (
     (tt, (tt, tt)),
     (
@@ -179,7 +179,7 @@ tile_asked = (
 
 budget_asked : ShapesAsk (codes "budget") 1 most_moves (built tool).subs
 budget_asked = (
-  (tt, (tt, ((refl, refl), (tt, (tt, (tt, (tt, tt))))))),
+  (tt, (tt, ((refl, refl), (tt, (tt, (tt, (tt, (tt, tt)))))))),
   (
     ((refl, refl), (tt, tt)),
     (
@@ -203,7 +203,7 @@ budget_asked = (
 
 size_asked : ShapesAsk (codes "size") 1 most_size (built tool).subs
 size_asked = (
-  (tt, (tt, (tt, (tt, (tt, (tt, (tt, tt))))))),
+  (tt, (tt, (tt, (tt, (tt, (tt, (tt, (tt, tt)))))))),
   (
     (tt, (tt, tt)),
     (

@@ -39,13 +39,15 @@ number_in name usual rows = option_map_or (number_of usual) (one_of name rows) u
 abbrev pub flag_in : Text → List Row → Bool
 flag_in name rows = option_map_or (λ text. bytes_eq text (codes "true")) (one_of name rows) false
 
--- the options of a run whose tiles begin so; a command without `--report` and `--reduce` has no rows of these names
+-- the options of a run whose tiles begin so; a command without `--report`, `--expand` and `--reduce` has no rows of
+-- these names
 abbrev pub run_options_in : Sync → List Row → RunOptions
 run_options_in sync rows = record {
   workers = number_in (codes "workers") usual_workers rows;
   tile = number_in (codes "tile") usual_tile rows;
   budget = number_in (codes "budget") most_moves rows;
   report = flag_in (codes "report") rows;
+  expand = flag_in (codes "expand") rows;
   sync = sync;
   reduce = flag_in (codes "reduce") rows;
 }

@@ -52,11 +52,13 @@ with_run_options a =
     (with_rule (with_rule a (number_option (codes "workers") most_workers)) (number_option (codes "tile") most_tile))
     (number_option (codes "budget") most_moves)
 
--- `run [--workers K] [--tile T] [--budget B] [--report] [--sync TEXT] [--reduce]`
+-- `run [--workers K] [--tile T] [--budget B] [--report] [--expand] [--sync TEXT] [--reduce]`
 abbrev pub run_tool : App
 run_tool =
     with_rule
-    (with_rule (with_rule (with_run_options (new_app (codes "run"))) (flag (codes "report"))) sync_option)
+    (with_rule
+    (with_rule (with_rule (with_run_options (new_app (codes "run"))) (flag (codes "report"))) (flag (codes "expand")))
+    sync_option)
     (flag (codes "reduce"))
 
 -- `gen KIND SEED SIZE`; of its kind, the stated command takes any text

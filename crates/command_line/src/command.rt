@@ -11,8 +11,8 @@ pub enum Sync {
     Tiles,
 }
 
-/// By how many workers a plan is run, its size of tiles, the budget of its questions, whether it is told, when its tiles
-/// begin, and whether sums may be made in any order.
+/// By how many workers a plan is run, its size of tiles, the budget of its questions, whether it is told, whether it is
+/// expanded, when its tiles begin, and whether sums may be made in any order.
 #[derive(Clone, Copy)]
 pub struct RunOptions {
     /// How many workers, from 1 to 64.
@@ -23,6 +23,8 @@ pub struct RunOptions {
     pub budget: u64,
     /// Whether the lines of the plan are to be told.
     pub report: bool,
+    /// Whether each instance is to have a copy of its own cell.
+    pub expand: bool,
     /// When a tile may begin.
     pub sync: Sync,
     /// Whether arrays that are only added to may be added to in any order.

@@ -47,6 +47,7 @@ fn run_options_in(matches: &ArgMatches, sync: Sync) -> RunOptions
         tile: number_in(matches, "tile", USUAL_TILE),
         budget: number_in(matches, "budget", MOST_MOVES),
         report: flag_in(matches, "report"),
+        expand: flag_in(matches, "expand"),
         sync,
         reduce: flag_in(matches, "reduce"),
     }

@@ -112,7 +112,8 @@ fn run_command<'a>(alloc: Global) -> Result<clap::Command<'a>, AllocError>
 {
     let run = with_run_options(alloc, Ok(clap::Command::new(alloc, "run")));
     let with_report = with_argument(run, flag(alloc, "report"));
-    let with_sync = with_argument(with_report, sync_option(alloc));
+    let with_expand = with_argument(with_report, flag(alloc, "expand"));
+    let with_sync = with_argument(with_expand, sync_option(alloc));
     with_argument(with_sync, flag(alloc, "reduce"))
 }
 

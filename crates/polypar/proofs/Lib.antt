@@ -1,5 +1,6 @@
 pub mod AnswerLemmas
 pub mod CheckLemmas
+pub mod CourseLemmas
 pub mod CutLemmas
 pub mod EndLemmas
 pub mod KernelLemmas

@@ -1,9 +1,11 @@
 -- A run with marked arrays: what it asks of its plan and of its marks, and what is told of it.
-use Rattle.std.proofs.Common.{◌≡◌, ◌∙◌, sym, ap, subst, refl, arith, ℕ, suc, ℤ, Bool, true, false, List, [], ◌∷◌, ◌++◌, ◌==◌, Option, length}
+use Rattle.std.proofs.Common.{◌≡◌, ◌∙◌, sym, ap, subst, arith, ℕ, suc, ℤ, Bool, true, false, List, [], ◌∷◌, ◌++◌}
+use Rattle.std.proofs.Common.{◌==◌, Option, length}
 use Rattle.std.specs.Prelude.{if◌then◌else◌}
 use Rattle.scop_syntax.specs.Reductions.{AreMarked, marks}
 use Rattle.scop_syntax.specs.Tree.{Program}
 use Rattle.scop_syntax.specs.Walk.{Visit, walk_of}
+use Rattle.scop_syntax.proofs.ReducedArrays.{none_marked}
 use Rattle.loop_tree.specs.Plans.{walked}
 use Rattle.loop_tree.specs.Tiling.{Tiling, kept, tiled}
 use Rattle.loop_tree.specs.Tree.{Trees}
@@ -11,14 +13,12 @@ use Rattle.command_line.specs.declared.command.RunOptions.{RunOptions}
 use Rattle.command_line.specs.declared.command.Sync.{Sync}
 use Rattle.command_line.specs.declared.command.Sync.TheVariants.{Tiles, Waves}
 use Rattle.kernel_plans.specs.Counting.{HasTiles, HasWaves}
-use Rattle.kernel_plans.specs.Planned.{ArePlanned, added_in}
+use Rattle.kernel_plans.specs.UnexpandedLine.{UnexpandedLine}
+use Rattle.kernel_plans.specs.Planned.{added_in}
 use Rattle.kernel_plans.specs.TilesText.{tiles_text}
 use Rattle.kernel_runs.specs.Counting.{IsReleaseOf}
-use Rattle.polypar.specs.Runs.{IsPlanTold, are_released, edges_line, is_unmarked, marks_by, release_line}
-
--- no array is marked
-none_marked : (visits : List Visit) → AreMarked [] visits
-none_marked visits = record { sums = λ v i e. absurd cc; others = λ v a i h. refl }
+use Rattle.polypar.specs.Expanding.{GoesBy, is_unmarked, marks_by}
+use Rattle.polypar.specs.Runs.{IsPlanTold, are_released, edges_line, release_line, unexpanded_line}
 
 -- those that a run adds to are only added to, where all that are marked are
 added_marked : (plan : Tiling) (marked : List ℕ) (visits : List Visit) → AreMarked marked visits
@@ -58,33 +58,33 @@ pub none_added : (sync : Sync) (unmarked released : Bool) (plan : Tiling) (marke
 none_added sync unmarked released plan marked added empty asked same due =
     none_by sync plan marked added same (ap (are_released sync) (sym empty) ∙ (sym asked ∙ due))
 
--- what is told of a plan, by its marks
+-- what is told of a run, by its marks
 pub told_by : (options : RunOptions) (program : Program) (params : List ℤ) (marked : List ℕ)
-    (unmarked released : Bool) (plan : Tiling) (trees : Trees) (front : List ℕ) (tiles waves : ℕ) (edges : Option ℕ)
-    (lines : List ℕ) → marked ≡ marks_by options program → unmarked ≡ (length marked == 0)
-    → released ≡ are_released options.sync unmarked
-    → ArePlanned options.tile options.budget options.report marked program plan front trees
+    (unmarked released : Bool) (unexpanded : Option UnexpandedLine) (expanded : Bool) (plan : Tiling) (trees : Trees)
+    (front : List ℕ) (tiles waves : ℕ) (edges : Option ℕ) (lines : List ℕ) → marked ≡ marks_by options program
+    → unmarked ≡ (length marked == 0) → released ≡ are_released options.sync unmarked
+    → GoesBy options program params unexpanded expanded plan front trees
     → HasTiles plan (walked program params) tiles → HasWaves plan (walked program params) waves
-    → IsReleaseOf released plan (walk_of program params) edges
-    → lines ≡ release_line options.sync unmarked edges
-    ++ (front ++ (if options.report then tiles_text tiles waves options.workers ++ edges_line edges else []))
+    → IsReleaseOf released expanded plan (walk_of program params) edges
+    → lines ≡ unexpanded_line unexpanded ++ (release_line options.sync unmarked edges
+    ++ (front ++ (if options.report then tiles_text tiles waves options.workers ++ edges_line edges else [])))
     → IsPlanTold options program params tiles waves lines
-told_by options program params marked unmarked released plan trees front tiles waves edges lines is empty asked planned
-    has_tiles has_waves has_edges told =
+told_by options program params marked unmarked released unexpanded expanded plan trees front tiles waves edges lines is
+    empty asked goes has_tiles has_waves has_edges told =
     let bare : unmarked ≡ is_unmarked options program = empty ∙ ap (λ (ms : List ℕ). length ms == 0) is in
     record {
       plan = plan;
       trees = trees;
       front = front;
-      planned = subst
-          (λ (ms : List ℕ). ArePlanned options.tile options.budget options.report ms program plan front trees)
-          is planned;
+      unexpanded = unexpanded;
+      expanded = expanded;
+      goes = goes;
       has_tiles = has_tiles;
       has_waves = has_waves;
       edges = edges;
-      has_edges = subst (λ (b : Bool). IsReleaseOf b plan (walk_of program params) edges)
+      has_edges = subst (λ (b : Bool). IsReleaseOf b expanded plan (walk_of program params) edges)
           (asked ∙ ap (are_released options.sync) bare) has_edges;
-      told = told ∙ ap (λ (b : Bool). release_line options.sync b edges
-          ++ (front ++ (if options.report then tiles_text tiles waves options.workers ++ edges_line edges else [])))
+      told = told ∙ ap (λ (b : Bool). unexpanded_line unexpanded ++ (release_line options.sync b edges
+          ++ (front ++ (if options.report then tiles_text tiles waves options.workers ++ edges_line edges else []))))
           bare;
     }

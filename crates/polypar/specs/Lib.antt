@@ -5,12 +5,14 @@ pub mod Checking
 pub mod Cut
 pub mod Deserves
 pub mod Emitting
+pub mod Expanding
 pub mod InMemory
 pub mod KernelText
 pub mod Running
 pub mod Runs
 pub mod Sources
 pub mod Told
+pub mod steps
 -- Passed on: what this crate's contracts are told in.
 pub use Rattle.conflict_orders.specs.Orders
 pub use Rattle.kernel_plans.specs.Certifying

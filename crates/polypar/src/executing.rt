@@ -2,18 +2,19 @@
 
 ghost use Rattle.std.specs.Prelude.{◌≡◌, ◌++◌, [], IfOk, if◌then◌else◌};
 ghost use Rattle.scop_syntax.specs.Execution.{IsInside, IsShaped, exec, layout};
-ghost use Rattle.scop_syntax.specs.Kernel.{IsKernel};
 ghost use Rattle.scop_syntax.specs.Limits.{WithinLimits};
 ghost use Rattle.scop_syntax.specs.View.{program_of};
 ghost use Rattle.command_line.specs.Command.{AreSized};
-ghost use Rattle.kernel_plans.specs.Planned.{IsPlanned};
 ghost use Rattle.kernel_plans.specs.TilesText.{tiles_text};
-ghost use Rattle.polypar.specs.Runs.{IsPlanTold, are_released, edges_line, marks_by, release_line};
+ghost use Rattle.polypar.specs.Expanding.{marks_by};
+ghost use Rattle.polypar.specs.Runs.{IsPlanTold, are_released, edges_line, release_line, unexpanded_line};
 
+use crate::expanding::{Course, course_of};
 use command_line::{RunOptions, Sync};
 use data_text::Case;
-use iteration_domains::Model;
-use kernel_plans::{Planned, edges_text, planned, tiles_text, waves_edges_text, waves_reduce_text};
+use kernel_plans::{
+    UnexpandedLine, edges_text, tiles_text, unexpanded_text, waves_edges_text, waves_reduce_text,
+};
 use kernel_runs::{Counts, Workers, run_case};
 use scop_syntax::reduction_laws::marks_are_the_reduced_arrays;
 use scop_syntax::tree::Kernel;
@@ -37,29 +38,6 @@ fn marks_by(alloc: Global, kernel: &Kernel, options: RunOptions) -> Result<Vec<u
     Ok(Vec::new(alloc))
 }
 
-/// The plan of a kernel by these options, with its lines, where some arrays are marked.
-fn plan_by(
-    alloc: Global,
-    kernel: &Kernel,
-    marked: &[usize],
-    options: RunOptions,
-) -> Result<Planned, AllocError>
-    requires kernel { IsKernel (program_of kernel.now) }
-    requires options { AreSized options }
-    ensures { IfOk result (IsPlanned options.tile options.budget options.report marked.now (program_of kernel.now)) }
-{
-    let model = Model::of(alloc, kernel)?;
-    planned(
-        alloc,
-        kernel,
-        &model,
-        marked,
-        options.tile,
-        options.budget,
-        options.report,
-    )
-}
-
 /// Whether tiles begin when those that they wait for have released them: where it is asked for, and no array is marked.
 fn are_released(sync: Sync, unmarked: bool) -> bool
     ensures { result ≡ are_released sync unmarked }
@@ -70,7 +48,17 @@ fn are_released(sync: Sync, unmarked: bool) -> bool
     }
 }
 
-/// The first line: that tiles begin by waves, where it was asked for otherwise.
+/// The first line: why no instance has a copy of its own, where that was asked for.
+fn unexpanded_line(alloc: Global, line: Option<UnexpandedLine>) -> Result<Vec<u8>, AllocError>
+    ensures { IfOk result (λ text. text.items ≡ unexpanded_line line) }
+{
+    match line {
+        Some(line) => unexpanded_text(alloc, line),
+        None => Ok(Vec::new(alloc)),
+    }
+}
+
+/// The next line: that tiles begin by waves, where it was asked for otherwise.
 fn release_line(
     alloc: Global,
     sync: Sync,
@@ -107,27 +95,47 @@ fn counts_lines(alloc: Global, counts: Counts, workers: u64) -> Result<Vec<u8>, 
     Ok(text)
 }
 
-/// What is told of a run: first that tiles begin by waves, where it was asked for otherwise, then the lines of its plan,
-/// and behind them the numbers of a report, where one is asked for.
-fn with_counts(
+/// What is told of a run behind the line that tells why it has no copies: first that tiles begin by waves, where it was
+/// asked for otherwise, then the lines of its plan, and behind them the numbers of a report, where one is asked for.
+fn plan_lines(
     alloc: Global,
+    lines: &[u8],
+    counts: Counts,
+    unmarked: bool,
+    options: RunOptions,
+) -> Result<Vec<u8>, AllocError>
+    ensures { IfOk result (λ text. text.items ≡ release_line options.sync unmarked counts.edges
+        ++ (lines.now ++ (if options.report
+        then tiles_text counts.tiles counts.waves options.workers ++ edges_line counts.edges
+        else []))) }
+{
+    let mut told = release_line(alloc, options.sync, unmarked, counts.edges)?;
+    told.extend_from_slice(lines)?;
+    if options.report {
+        let last = counts_lines(alloc, counts, options.workers)?;
+        told.extend_from_slice(&last)?;
+    }
+    Ok(told)
+}
+
+/// What is told of a run: why it has no copies, where they were asked for, and then the lines of its plan.
+fn run_lines(
+    alloc: Global,
+    unexpanded: Option<UnexpandedLine>,
     lines: Vec<u8>,
     counts: Counts,
     unmarked: bool,
     options: RunOptions,
 ) -> Result<Ran, AllocError>
-    ensures lines { IfOk result (λ ran. ran.lines.items ≡ release_line options.sync unmarked counts.edges
-        ++ (lines.items ++ (if options.report
+    ensures lines { IfOk result (λ ran. ran.lines.items ≡ unexpanded_line unexpanded
+        ++ (release_line options.sync unmarked counts.edges ++ (lines.items ++ (if options.report
         then tiles_text counts.tiles counts.waves options.workers ++ edges_line counts.edges
-        else []))) }
+        else [])))) }
     ensures counts { IfOk result (λ ran. ran.counts ≡ counts) }
 {
-    let mut told = release_line(alloc, options.sync, unmarked, counts.edges)?;
-    told.extend_from_slice(&lines)?;
-    if options.report {
-        let last = counts_lines(alloc, counts, options.workers)?;
-        told.extend_from_slice(&last)?;
-    }
+    let mut told = unexpanded_line(alloc, unexpanded)?;
+    let behind = plan_lines(alloc, &lines, counts, unmarked, options)?;
+    told.extend_from_slice(&behind)?;
     Ok(Ran {
         lines: told,
         counts,
@@ -162,7 +170,11 @@ pub(crate) fn run_planned<W: Workers>(
     let marks = marks_by(alloc, kernel, options)?;
     let marked = marks.as_slice();
     let unmarked = marked.is_empty();
-    let plan = plan_by(alloc, kernel, marked, options)?;
+    let Course {
+        plan,
+        sources,
+        unexpanded,
+    } = course_of(alloc, kernel, case, marked, options)?;
     match run_case(
         by,
         alloc,
@@ -171,10 +183,11 @@ pub(crate) fn run_planned<W: Workers>(
         &plan.tree,
         &plan.tiling,
         plan.added(marked),
+        sources,
         are_released(options.sync, unmarked),
         options.workers,
     ) {
-        Ok(counts) => Ok(with_counts(alloc, plan.lines, counts, unmarked, options)?),
+        Ok(counts) => Ok(run_lines(alloc, unexpanded, plan.lines, counts, unmarked, options)?),
         Err(_) => Err(AllocError),
     }
 }

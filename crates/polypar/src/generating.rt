@@ -19,7 +19,8 @@ use kernel_plans::Status;
 use kernel_runs::Workers;
 use std::alloc::{AllocError, Global};
 
-/// Runs a generated kernel by waves: what that leaves to tell, without a report, how many cells its arrays have, and their sum.
+/// Runs a generated kernel by waves and without copies: what that leaves to tell, without a report, how many cells its
+/// arrays have, and their sum.
 fn run_generated<W: Workers>(
     by: &W,
     alloc: Global,
@@ -29,9 +30,9 @@ fn run_generated<W: Workers>(
     requires ready { W.ready by.now }
     requires size { (1 ≤ kernel.size) × (kernel.size ≤ 512) }
     requires options { AreSized options }
-    ensures told { IfOk result (λ left. IsPlanTold (record options { report = false; sync = Waves; reduce = false })
-        (program kernel.kind kernel.seed) (params kernel.kind kernel.size) left.0.counts.tiles left.0.counts.waves
-        left.0.lines.items) }
+    ensures told { IfOk result (λ left. IsPlanTold (record options
+        { report = false; expand = false; sync = Waves; reduce = false }) (program kernel.kind kernel.seed)
+        (params kernel.kind kernel.size) left.0.counts.tiles left.0.counts.waves left.0.lines.items) }
     ensures cells { IfOk result (λ left. left.1 ≡ cells_in (left_by kernel)) }
     ensures sum { IfOk result (λ left. left.2 ≡ sum_of (left_by kernel)) }
 {
@@ -39,6 +40,7 @@ fn run_generated<W: Workers>(
     let (made, mut case) = generated(alloc, kind, seed, size)?;
     let quiet = RunOptions {
         report: false,
+        expand: false,
         sync: Sync::Waves,
         reduce: false,
         ..options

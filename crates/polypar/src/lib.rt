@@ -13,6 +13,7 @@ mod certifying;
 mod checking;
 mod cut;
 mod executing;
+mod expanding;
 mod generating;
 mod in_memory;
 mod index_check;

@@ -9,5 +9,6 @@ pub mod ScheduleLines
 pub mod ScheduleText
 pub mod StatusText
 pub mod UncertifiedText
+pub mod UnexpandedText
 -- Passed on: what this crate's contracts are told in.
 pub use Rattle.schedule_rows.specs.Items

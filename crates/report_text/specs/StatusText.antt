@@ -130,7 +130,7 @@ rejection_text kind line = numbered (fault_text kind) line (codes "\n")
 -- the commands and options, as the usage line gives them
 abbrev pub usage_text : List ℕ
 usage_text =
-    codes "usage: polypar run|schedule|deps|emit|gen|certify|check [--workers 1..64] [--tile 1..1024] [--budget 1..20000] [--report] [--sync waves|tiles] [--reduce]\n"
+    codes "usage: polypar run|schedule|deps|emit|gen|certify|check [--workers 1..64] [--tile 1..1024] [--budget 1..20000] [--report] [--expand] [--sync waves|tiles] [--reduce]\n"
 
 -- what the error stream gains as the last act of a call; nothing where it is Done
 abbrev pub status_text : Option Program → Status → List ℕ

@@ -1,6 +1,7 @@
 //! The statuses that a call can end with, the exit status that each has, and the line on the error stream that tells
-//! it; the text of a schedule, and the lines that tell why a kernel's order is kept, how many tiles and waves a plan has,
-//! how its tiles were released and which goal has no derivation; the text of the sources of reads.
+//! it; the text of a schedule, and the lines that tell why a kernel's order is kept, why a run is not expanded, how
+//! many tiles and waves a plan has, how its tiles were released and which goal has no derivation; the text of the
+//! sources of reads.
 #![tactic(auto)]
 
 mod data_line;
@@ -17,6 +18,7 @@ mod pieces;
 mod status;
 mod tiles_line;
 mod uncertified_line;
+mod unexpanded_line;
 
 pub use data_text::DataRefusal;
 pub use deps_laws::{
@@ -33,3 +35,4 @@ pub use scop_parser::refusal::{Refusal, RefusalKind};
 pub use status::Status;
 pub use tiles_line::tiles_text;
 pub use uncertified_line::uncertified_text;
+pub use unexpanded_line::{UnexpandedLine, unexpanded_text};

@@ -68,7 +68,7 @@ fn put_status<K: Sink>(
 
 /// The commands and options of the whole program.
 const USAGE: &[u8] =
-    b"usage: polypar run|schedule|deps|emit|gen|certify|check [--workers 1..64] [--tile 1..1024] [--budget 1..20000] [--report] [--sync waves|tiles] [--reduce]\n";
+    b"usage: polypar run|schedule|deps|emit|gen|certify|check [--workers 1..64] [--tile 1..1024] [--budget 1..20000] [--report] [--expand] [--sync waves|tiles] [--reduce]\n";
 
 /// Puts `refused: KIND LINE:COLUMN` and a line feed.
 fn put_refusal<K: Sink>(pieces: &mut Pieces, sink: &mut K, refusal: Refusal) -> Result<(), Failed>

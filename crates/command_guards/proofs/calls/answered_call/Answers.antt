@@ -1,9 +1,11 @@
 use Rattle.command_guards.proofs.CallLemmas.{certificate_line, data_line, faulted, rejected_by, reported}
-use Rattle.std.proofs.Common.{◌∙◌, append-nil, false, map, subst, sym}
+use Rattle.std.proofs.Common.{◌∙◌, ◌++◌, [], ap, append-nil, false, map, subst, sym, Option}
 use Rattle.std.specs.Prelude.{string_bytes}
 use Rattle.std.specs.Io.KnownBytes.{Appends}
 use Rattle.loop_tree.specs.Plans.{AreMarked}
+use Rattle.report_text.specs.declared.unexpanded_line.UnexpandedLine.{UnexpandedLine}
 use Rattle.polypar.specs.Answered.{HasLines, IsDeserved}
+use Rattle.polypar.specs.Runs.{unexpanded_line}
 use Rattle.polypar.proofs.ReadingLemmas.{planned_carried}
 use Rattle.command_guards.proofs.calls.answered_call.Goals as goal
 
@@ -68,11 +70,14 @@ returns-clause-summary g c = λ kernel options is done.
       plan.front,
       prints.1.tiles,
       prints.1.waves,
-      plan.planned,
+      plan.goes.1.1,
       plan.has_tiles,
       plan.has_waves,
       subst (λ text. Appends old new text) prints.1.text prints.2,
-      subst (λ lines. Appends err_old err_new lines) (plan.told ∙ append-nil plan.front) prints.3,
+      subst (λ lines. Appends err_old err_new lines)
+          (plan.told ∙ (ap (λ (told : Option UnexpandedLine). unexpanded_line told ++ (plan.front ++ [])) plan.goes.0
+          ∙ append-nil plan.front))
+          prints.3,
     )
 
 pub returns-clause-checked : goal.returns-clause-checked

@@ -11,5 +11,8 @@ returns c =
     let reported : App = with_rule run (flag (codes "report")) in
     let with_report = c.with_argument-with_report.ensures run (flag (codes "report"))
     (c.with_run_options-run.ensures bare made) c.flag.ensures in
-    let with_sync = c.with_argument-with_sync.ensures reported sync_option with_report c.sync_option.ensures in
-    c.with_argument.ensures (with_rule reported sync_option) (flag (codes "reduce")) with_sync c.flag-2.ensures
+    let expanded : App = with_rule reported (flag (codes "expand")) in
+    let with_expand = c.with_argument-with_expand.ensures reported (flag (codes "expand")) with_report
+    c.flag-2.ensures in
+    let with_sync = c.with_argument-with_sync.ensures expanded sync_option with_expand c.sync_option.ensures in
+    c.with_argument.ensures (with_rule expanded sync_option) (flag (codes "reduce")) with_sync c.flag-3.ensures

@@ -1,0 +1,2 @@
+-- What only private contracts need.
+pub mod Courses
