@@ -1,9 +1,9 @@
 #!/bin/sh
-# Runs each kernel of examples/, by waves and with tiles released one by one, and compares what it prints with the arrays
-# beside it, and its schedule, the sources of its reads, its certificate and its emitted text with those beside it; the
-# certificate is checked, the text compiled and run where there is a compiler; looks that the stored calls of
-# crates/test_cases have each of these files, byte for byte; and that a process ends with each exit status that its streams
-# can be brought to give, and tells that tiles go by waves where too many would wait for one another.
+# Runs each kernel of examples/, by waves, with tiles released one by one, with sums in any order and with copies, and
+# compares what it prints with the arrays beside it, and its schedule, the sources of its reads, its certificate and its
+# emitted text with those beside it; the certificate is checked, the text compiled and run where there is a compiler; looks
+# that the stored calls of crates/test_cases have each of these files, byte for byte; and that a process ends with each exit
+# status that its streams can be brought to give, and tells why tiles go by waves, or why no instance has a copy.
 set -u
 root=$(CDPATH= cd -- "$(dirname -- "$0")/.." && pwd)
 failed=0
@@ -38,6 +38,7 @@ for kernel in "$@"; do
     compare run "$kernel" "${kernel%.c}.out"
     compare 'run --sync tiles --tile 1 --workers 2' "$kernel" "${kernel%.c}.out"
     compare 'run --reduce --tile 1 --workers 2' "$kernel" "${kernel%.c}.out"
+    compare 'run --expand --tile 1 --workers 2' "$kernel" "${kernel%.c}.out"
     compare schedule "$kernel" "${kernel%.c}.schedule"
     compare deps "$kernel" "${kernel%.c}.deps"
     compare emit "$kernel" "${kernel%.c}.emit.c"
@@ -88,6 +89,9 @@ many="$many"'A[i+8] + A[i+9] + A[i+10] + A[i+11] + A[i+12] + A[i+13] + A[i+14] +
 expect 0 'waves: edges' "$many" run --tile 1 --sync tiles
 sum='void s(int64_t N, uint64_t A[N], uint64_t X[1]) { for (int64_t i = 0; i < N; i++) X[0] += A[i]; }\n%%\nN = 4\n'
 expect 0 'waves: reduce' "$sum" run --reduce --sync tiles
+expect 0 'unexpanded: reduce' "$sum" run --reduce --expand
+long='void l(int64_t N, int64_t M, uint64_t A[N]) { for (int64_t i = 0; i < N; i++) for (int64_t j = 0; j < M; j++) A[i] = j; }\n'
+expect 0 'unexpanded: copies' "$long%%\\nN = 65\\nM = 65536\\n" run --expand
 if [ -c /dev/full ]; then
     "$root/polypar" run <"$root/examples/copy.c" 2>/dev/null >/dev/full
     if [ $? -eq 6 ]; then passed=$((passed + 1)); else failed=$((failed + 1)) && echo "a full device is no write fault"; fi

@@ -11,7 +11,7 @@ const COPY: &str =
     "void copy(int64_t N, uint64_t A[N], uint64_t B[N]) { for (int64_t i = 0; i < N; i++) B[i] = A[i]; }\n";
 
 const USAGE: &str =
-    "usage: polypar run|schedule|deps|emit|gen|certify|check [--workers 1..64] [--tile 1..1024] [--budget 1..20000] [--report] [--sync waves|tiles] [--reduce]\n";
+    "usage: polypar run|schedule|deps|emit|gen|certify|check [--workers 1..64] [--tile 1..1024] [--budget 1..20000] [--report] [--expand] [--sync waves|tiles] [--reduce]\n";
 
 /// How a call ended, and what its sinks took.
 #[derive(Drop)]

@@ -20,6 +20,9 @@ const WORKERS: &[&str] = &["1", "2", "64"];
 /// How many run each whose sums may be made in any order.
 const SUM_WORKERS: &[&str] = &["1", "4"];
 
+/// How many run each in which every instance is to have a copy of its own.
+const COPY_WORKERS: &[&str] = &["1", "3"];
+
 const PREFIX: &str = "void pre(int64_t N, uint64_t A[N]) {
     for (int64_t i = 1; i < N; i++) A[i] += A[i-1]; }
 %%
@@ -71,6 +74,21 @@ N = 3
 A = 1 2 3
 ";
 
+const THROUGH_ONE_CELL: &str = "void t(int64_t N, uint64_t A[N], uint64_t X[1])
+{ for (int64_t i = 0; i < N; i++) { X[0] = A[i] * 2; A[i] = X[0] + 1; } }
+%%
+N = 3
+A = 1 2 3
+";
+
+const EVEN: &str = "void even(int64_t N, uint64_t A[2*N], uint64_t B[2*N]) {
+    for (int64_t j = 0; j < N; j++) A[2*j] = 7;
+    for (int64_t i = 0; i < 2*N; i++) B[i] = A[i]; }
+%%
+N = 2
+A = 1 2 3 4
+";
+
 const SUMS: &str = "void s(int64_t N, uint64_t A[1], uint64_t X[1])
 { for (int64_t i = 0; i < N; i++) X[0] += A[0] + i; }
 %%
@@ -115,6 +133,12 @@ scalar 2: S1 1, S2 0
 const PRODUCT_ROWS: &str = "row 1 band 1 parallel u (0) w 0: S1 (1 0 0) + 0
 row 2 band 1 parallel u (0) w 0: S1 (0 1 0) + 0
 row 3 band 1 parallel u (0) w 0: S1 (0 0 1) + 0
+";
+
+const SIDE_BY_SIDE_ROW: &str = "row 1 band 1 parallel u (0) w 0: S1 (1) + 0, S2 (1) + 0\n";
+
+const IN_TURN_ROWS: &str = "row 1 band 1 parallel u (0) w 0: S1 (1) + 0, S2 (1) + 0
+scalar 2: S1 0, S2 1
 ";
 
 const TWO_SUMS_ROWS: &str = "row 1 band 1 carries u (0) w 1: S1 (1) + 0, S2 (1) + 0
@@ -290,6 +314,52 @@ const REDUCED: &[Reduced] = &[
     },
 ];
 
+/// A run in which every instance is to have a copy of its own, and what it prints.
+struct Expanded {
+    kernel: &'static str,
+    budget: &'static str,
+    arrays: &'static str,
+    /// Why none has, and the order is kept; or the schedule.
+    plan: &'static str,
+    counts: &'static str,
+    edges: &'static str,
+}
+
+const EXPANDED: &[Expanded] = &[
+    Expanded {
+        kernel: THROUGH_ONE_CELL,
+        budget: "20000",
+        arrays: "A = 3 5 7\nX = 6\n",
+        plan: IN_TURN_ROWS,
+        counts: "tiles 3 waves 1",
+        edges: "edges 0\n",
+    },
+    Expanded {
+        kernel: TWO,
+        budget: "20000",
+        arrays: "A = 2 3 4 4\nB = 2 3 4\n",
+        plan: SIDE_BY_SIDE_ROW,
+        counts: "tiles 3 waves 1",
+        edges: "edges 0\n",
+    },
+    Expanded {
+        kernel: EVEN,
+        budget: "1",
+        arrays: "A = 7 2 7 4\nB = 7 2 7 4\n",
+        plan: "unexpanded: spent 1\nkept: spent 1\n",
+        counts: "tiles 1 waves 1",
+        edges: "edges 0\n",
+    },
+    Expanded {
+        kernel: SWEEP,
+        budget: "20000",
+        arrays: "A = 1 9 21 29 1\n",
+        plan: SWEEP_ROWS,
+        counts: "tiles 6 waves 5",
+        edges: "edges 9\n",
+    },
+];
+
 /// Calls `polypar` with these words on an input, with this gate.
 fn call_on<R: Threads + Wait + Sync, G: Gate>(
     rt: &R,
@@ -421,6 +491,47 @@ fn sums_in_any_order_leave_the_same_arrays(rt: HostRuntime) -> Result<(), Fail> 
         for workers in SUM_WORKERS {
             assert!(rt; is_reduced(&rt, rt.alloc(), run, workers, "waves")?);
             assert!(rt; is_reduced(&rt, rt.alloc(), run, workers, "tiles")?);
+        }
+    }
+    Ok(())
+}
+
+/// Whether a run with copies by so many workers, whose tiles begin so, prints what is told of it.
+fn is_expanded<R: Threads + Wait + Sync>(
+    rt: &R,
+    alloc: Global,
+    run: &Expanded,
+    workers: &'static str,
+    sync: &'static str,
+) -> Result<bool, AllocError> {
+    let words = [
+        "polypar",
+        "run",
+        "--report",
+        "--tile",
+        "1",
+        "--budget",
+        run.budget,
+        "--workers",
+        workers,
+        "--sync",
+        sync,
+        "--expand",
+    ];
+    let answer = call_on(rt, alloc, &words, run.kernel.as_bytes(), &OpenGate)?;
+    let mut report = report_of(alloc, run.plan, run.counts, workers)?;
+    if sync == "tiles" {
+        report.push_str(run.edges)?;
+    }
+    Ok(is_answer(answer, run.arrays.as_bytes(), report.as_bytes()))
+}
+
+#[test]
+fn copies_leave_the_same_arrays(rt: HostRuntime) -> Result<(), Fail> {
+    for run in EXPANDED {
+        for workers in COPY_WORKERS {
+            assert!(rt; is_expanded(&rt, rt.alloc(), run, workers, "waves")?);
+            assert!(rt; is_expanded(&rt, rt.alloc(), run, workers, "tiles")?);
         }
     }
     Ok(())

@@ -1,18 +1,24 @@
-use Rattle.std.proofs.Common.{◌∙◌, []}
+use Rattle.std.proofs.Common.{List, [], subst, sym}
 use Rattle.std.proofs.lemmas.Result.{IfOk-weaker}
+use Rattle.scop_syntax.specs.Members.{In}
 use Rattle.scop_syntax.specs.View.{program_of}
+use Rattle.iteration_domains.specs.Dependence.{Dependence}
+use Rattle.iteration_domains.specs.Held.{HoldCovers}
 use Rattle.polypar.specs.Trees.{IsScheduleFor}
 use Rattle.test_calls.proofs.loop_trees.planned.Goals.{In-Ok}
 use Rattle.test_calls.proofs.loop_trees.planned.Goals as goal
 
-pub schedule_of-requires-clause-covers : goal.schedule_of-requires-clause-covers
-schedule_of-requires-clause-covers c = ([], c.deref.ensures.value ∙ c.in_ok-deps.ensures)
+pub schedule_of-requires : goal.schedule_of-requires
+schedule_of-requires c = λ d i.
+    c.in_ok-deps.ensures.between d (subst (λ (ds : List Dependence). In d ds) c.deref.ensures.value i)
 
 -- what is found is a schedule for the kernel
 found : (c : In-Ok) → IsScheduleFor (program_of c.args.kernel.now) [] c.in-Ok.schedule
 found c =
-    (c.in-Ok.ensures.found [] (c.deref.ensures.value ∙ c.in_ok-deps.ensures)).own (program_of c.args.kernel.now)
-    c.requires.kernel c.in_ok-model.ensures
+    let program = program_of c.args.kernel.now in
+    c.in-Ok.ensures.found.own program [] c.requires.kernel c.in_ok-model.ensures
+    (λ params has. subst (HoldCovers program params []) (sym c.deref.ensures.value)
+    (c.in_ok-deps.ensures.held program c.in_ok-model.ensures params has))
 
 pub scanned-requires-clause-schedule : goal.scanned-requires-clause-schedule
 scanned-requires-clause-schedule c =

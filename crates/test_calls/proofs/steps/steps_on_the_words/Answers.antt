@@ -1,5 +1,4 @@
 -- Both passes are of the words, and idle.
-use Rattle.std.proofs.Common.{List}
 use Rattle.array_words.proofs.Members.{front_of, last_of}
 use Rattle.array_words.specs.Seats.{IsIdlePass}
 use Rattle.tile_core.specs.Passes.{IsPass}
