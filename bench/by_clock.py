@@ -47,3 +47,24 @@ def input_of(kernel, values):
     """A kernel with the data of these parameters, and each array by the seed 0."""
     lines = [f"{name} = {value}" for name, value in values.items()] + [f"{name} = seed 0" for name, _ in arrays_of(kernel)]
     return (kernel + "\n%%\n" + "\n".join(lines) + "\n").encode()
+
+
+def runs_in(program, text, start, ways, workers):
+    """The runs of a text in each of the named ways by so many workers each, named with `start` in front."""
+    return {
+        f"{start}{name}, {k} workers": ([program, "run", "--workers", str(k)] + words, text)
+        for k in workers
+        for name, words in ways
+    }
+
+
+def compare_ways(kind, program, texts, ways, workers, rounds):
+    """Times the runs of a text in two named ways, less those of a tiny one; prints the times, and the first to the second."""
+    text, tiny = texts
+    net = net_times(kind, runs_in(program, text, "", ways, workers), runs_in(program, tiny, START, ways, workers), rounds)
+    for name, seconds in net.items():
+        print(f"  {name}: {seconds:.3f} s")
+    first, second = (name for name, _ in ways)
+    for k in workers:
+        ratio = net[f"{first}, {k} workers"] / net[f"{second}, {k} workers"]
+        print(f"  {first} to {second}, {k} workers: {ratio:.2f}")

@@ -3,10 +3,11 @@
 import subprocess
 import sys
 
-from by_clock import START, input_of, kernel_in, net_times
+from by_clock import compare_ways, input_of
 from timing import rounds_of
 
 WORKERS = (1, 2, 4)
+WAYS = (("in place", []), ("copies", ["--expand"]))
 TINY = 4
 ONE_CELL = """#include <stdint.h>
 void through(int64_t N, uint64_t A[N][N], uint64_t X[1]) {
@@ -45,15 +46,6 @@ CASES = {
 }
 
 
-def commands_of(program, text, start):
-    """The commands for a text, named with `start` in front."""
-    return {
-        f"{start}{name}, {workers} workers": ([program, "run", "--workers", str(workers)] + words, text)
-        for workers in WORKERS
-        for name, words in (("in place", []), ("copies", ["--expand"]))
-    }
-
-
 def counts_of(program, text, words):
     """The last line of a report: tiles, waves and workers."""
     done = subprocess.run([program, "run", "--report"] + words, input=text, capture_output=True, check=True)
@@ -61,20 +53,14 @@ def counts_of(program, text, words):
 
 
 def main():
-    program, root = sys.argv[1:3]
-    rounds = rounds_of(sys.argv[3:], 5)
-    for kind, (text, values, tiny) in CASES.items():
-        kernel = kernel_in(root, text)
+    program = sys.argv[1]
+    rounds = rounds_of(sys.argv[2:], 5)
+    for kind, (kernel, values, tiny) in CASES.items():
         whole = input_of(kernel, values)
-        net = net_times(kind, commands_of(program, whole, ""), commands_of(program, input_of(kernel, tiny), START), rounds)
         print(kind)
-        for name, words in (("in place", []), ("copies", ["--expand"])):
+        for name, words in WAYS:
             print(f"  {name}: {counts_of(program, whole, words)}")
-        for name, seconds in net.items():
-            print(f"  {name}: {seconds:.3f} s")
-        for k in WORKERS:
-            ratio = net[f"in place, {k} workers"] / net[f"copies, {k} workers"]
-            print(f"  in place to copies, {k} workers: {ratio:.2f}")
+        compare_ways(kind, program, (whole, input_of(kernel, tiny)), WAYS, WORKERS, rounds)
 
 
 main()

@@ -7,4 +7,4 @@
 set -eu
 root=$(CDPATH= cd -- "$(dirname -- "$0")/.." && pwd)
 "$root/polypar" run <"$root/examples/copy.c" >/dev/null
-python3 -B "$root/bench/expand.py" "$root/crates/polypar_main/out/polypar_main" "$root" "$@"
+python3 -B "$root/bench/expand.py" "$root/crates/polypar_main/out/polypar_main" "$@"

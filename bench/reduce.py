@@ -2,10 +2,11 @@
 
 import sys
 
-from by_clock import START, input_of, kernel_in, net_times
+from by_clock import compare_ways, input_of, kernel_in
 from timing import rounds_of
 
 WORKERS = (1, 2, 4)
+WAYS = (("in order", []), ("in any order", ["--reduce"]))
 TINY = 4
 DOT = """#include <stdint.h>
 void dot(int64_t N, uint64_t A[N][N], uint64_t B[N][N], uint64_t X[1]) {
@@ -29,32 +30,14 @@ CASES = {
 }
 
 
-def commands_of(program, text, start):
-    """The commands for a text, named with `start` in front."""
-    return {
-        f"{start}{name}, {workers} workers": ([program, "run", "--workers", str(workers)] + words, text)
-        for workers in WORKERS
-        for name, words in (("in order", []), ("in any order", ["--reduce"]))
-    }
-
-
 def main():
     program, root = sys.argv[1:3]
     rounds = rounds_of(sys.argv[3:], 5)
     for kind, (file, values, tiny) in CASES.items():
         kernel = kernel_in(root, file)
-        net = net_times(
-            kind,
-            commands_of(program, input_of(kernel, values), ""),
-            commands_of(program, input_of(kernel, tiny), START),
-            rounds,
-        )
         print(kind)
-        for name, seconds in net.items():
-            print(f"  {name}: {seconds:.3f} s")
-        for k in WORKERS:
-            ratio = net[f"in order, {k} workers"] / net[f"in any order, {k} workers"]
-            print(f"  in order to in any order, {k} workers: {ratio:.2f}")
+        texts = input_of(kernel, values), input_of(kernel, tiny)
+        compare_ways(kind, program, texts, WAYS, WORKERS, rounds)
 
 
 main()

@@ -3,10 +3,11 @@
 import subprocess
 import sys
 
-from by_clock import START, input_of, kernel_in, net_times
+from by_clock import compare_ways, input_of, kernel_in
 from timing import rounds_of
 
 WORKERS = (2, 4)
+WAYS = tuple((sync, ["--sync", sync]) for sync in ("waves", "tiles"))
 TINY = 4
 SOLVE = """#include <stdint.h>
 void solve(int64_t T, int64_t N, uint64_t L[N][N], uint64_t b[N], uint64_t x[N]) {
@@ -28,15 +29,6 @@ CASES = {
 }
 
 
-def commands_of(program, text, start):
-    """The commands for a text, named with `start` in front."""
-    return {
-        f"{start}{sync}, {workers} workers": ([program, "run", "--sync", sync, "--workers", str(workers)], text)
-        for workers in WORKERS
-        for sync in ("waves", "tiles")
-    }
-
-
 def counts_of(program, text):
     """How many tiles, waves and pairs of tiles a run has, by the last lines of its report."""
     words = [program, "run", "--sync", "tiles", "--report"]
@@ -51,12 +43,8 @@ def main():
     for kind, (file, values, tiny) in CASES.items():
         kernel = kernel_in(root, file)
         text = input_of(kernel, values)
-        net = net_times(kind, commands_of(program, text, ""), commands_of(program, input_of(kernel, tiny), START), rounds)
         print(f"{kind}: {counts_of(program, text)}")
-        for name, seconds in net.items():
-            print(f"  {name}: {seconds:.3f} s")
-        for k in WORKERS:
-            print(f"  waves to tiles, {k} workers: {net[f'waves, {k} workers'] / net[f'tiles, {k} workers']:.2f}")
+        compare_ways(kind, program, (text, input_of(kernel, tiny)), WAYS, WORKERS, rounds)
 
 
 main()
