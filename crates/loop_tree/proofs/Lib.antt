@@ -17,6 +17,7 @@ pub mod Placings
 pub mod Chains
 pub mod Weights
 pub mod WalkSteps
+pub mod FreeCounts
 pub mod Runs
 pub mod VisitPlaces
 pub mod LargerBounds
@@ -25,3 +26,4 @@ pub mod Braids
 pub mod SameSpots
 pub mod VisitRests
 pub mod LeavingMarks
+pub mod Bookmarks

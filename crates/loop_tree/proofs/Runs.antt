@@ -1,45 +1,14 @@
--- What a visitor sees of a loop's values at once: how many instances leaves show there, and whatever is shown.
-use Rattle.std.proofs.Common.{◌≡◌, ◌∙◌, ℕ, zero, suc, ◌*◌, ℤ, pos, negsuc, List, [], ◌∷◌, ◌++◌, ap, sym, refl}
-use Rattle.std.proofs.Common.{arith, length, length-append, map}
+-- What a visitor sees of a loop's values at once: so many instances, or whatever is shown.
+use Rattle.std.proofs.Common.{◌≡◌, ◌∙◌, ℕ, zero, suc, ℤ, pos, negsuc, List, [], ◌∷◌, ◌++◌, ap, sym, refl}
+use Rattle.std.proofs.Common.{arith, length, map}
 use Rattle.std.specs.Prelude.{◌+ℤ◌, ◌-ℤ◌, ◌≤ℤ◌}
 use Rattle.std.proofs.lemmas.Int.{ints}
 use Rattle.std.proofs.lemmas.List.{append_assoc, map-append}
 use Rattle.scop_syntax.specs.Walk.{Instance}
-use Rattle.loop_tree.specs.Tree.{Trees, guard, instance, loop, more, none}
-use Rattle.loop_tree.specs.View.{nodes_of}
+use Rattle.loop_tree.specs.Tree.{Trees}
 use Rattle.loop_tree.specs.Walk.{Visit, along, given, walk_all}
-use Rattle.loop_tree.specs.declared.tree.Node.{Node}
-use Rattle.loop_tree.specs.steps.Passing.{AreLeaves, shown_along}
+use Rattle.loop_tree.specs.steps.Passing.{shown_along}
 use Rattle.loop_tree.proofs.WalkSteps.{SoFar, shown_turn, turns_shown}
-
--- how many trees there are
-abbrev count_of : Trees → ℕ
-count_of none = 0
-count_of (more t ts) = suc (count_of ts)
-
-count_nodes : (nodes : List Node) → count_of (nodes_of nodes) ≡ length nodes
-count_nodes [] = refl
-count_nodes (n ∷ ns) = ap suc (count_nodes ns)
-
--- leaves show as many instances as they are
-leaves_show : (ts : Trees) (params outer : List ℤ) → AreLeaves ts
-    → length (map given (walk_all ts params outer)) ≡ count_of ts
-leaves_show none params outer are = refl
-leaves_show (more (loop flag lo up body) ts) params outer are = absurd are
-leaves_show (more (guard tests body) ts) params outer are = absurd are
-leaves_show (more (instance n forms) ts) params outer are = ap suc (leaves_show ts params outer are)
-
-leaves_along : (ts : Trees) (params outer : List ℤ) (x : ℤ) (way : ℕ) → AreLeaves ts
-    → length (shown_along ts params outer x way) ≡ count_of ts * way
-leaves_along ts params outer x zero are = omega arith
-leaves_along ts params outer x (suc way) are =
-    let vs = walk_all ts params (outer ++ x ∷ []) in
-    let us : List Visit = along (λ y. walk_all ts params (outer ++ y ∷ [])) (x +ℤ pos 1) way in
-    let all = ap (λ (is : List Instance). length is) (map-append given vs us) in
-    let both = length-append (map given vs) (map given us) in
-    let here = leaves_show ts params (outer ++ x ∷ []) are in
-    let behind = leaves_along ts params outer (x +ℤ pos 1) way are in
-    omega (arith, all, both, here, behind)
 
 -- what a loop shows at its values in front of the last, and at that
 turns_before : (body : Trees) (params outer : List ℤ) (way : ℕ) (first last : ℤ) → first +ℤ pos way ≡ last
@@ -79,16 +48,12 @@ passed_by S T body params outer first last up takes =
         part_taken T l part (turns_shown body params outer last last) (turns_shown body params outer first last)
         (turns_before body params outer way first last e) (takes l part s)
 
--- and so many instances of leaves
-pub skipped : (S T : List Instance → Type 0) (nodes : List Node) (params outer : List ℤ) (first last : ℤ)
-    (way count : ℕ) → AreLeaves (nodes_of nodes) → first +ℤ pos way ≡ last → count ≡ length nodes * way
+-- and so many instances
+pub skipped : (S T : List Instance → Type 0) (body : Trees) (params outer : List ℤ) (first last : ℤ) (way count : ℕ)
+    → first +ℤ pos way ≡ last → length (shown_along body params outer first way) ≡ count
     → ((l part : List Instance) → S l → length part ≡ count → T (l ++ part))
-    → SoFar S T (turns_shown (nodes_of nodes) params outer last last)
-    (turns_shown (nodes_of nodes) params outer first last)
-skipped S T nodes params outer first last way count are e size sees = λ l s.
-    let body = nodes_of nodes in
+    → SoFar S T (turns_shown body params outer last last) (turns_shown body params outer first last)
+skipped S T body params outer first last way count e size sees = λ l s.
     let part = shown_along body params outer first way in
-    let many : length part ≡ count =
-    leaves_along body params outer first way are ∙ (ap (λ (k : ℕ). k * way) (count_nodes nodes) ∙ sym size) in
     part_taken T l part (turns_shown body params outer last last) (turns_shown body params outer first last)
-    (turns_before body params outer way first last e) (sees l part s many)
+    (turns_before body params outer way first last e) (sees l part s size)

@@ -17,4 +17,5 @@ pub mod Plans
 pub mod Runs
 pub mod Stretches
 pub mod Braids
+pub mod Bookmarks
 pub mod steps

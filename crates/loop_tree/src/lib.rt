@@ -4,7 +4,9 @@
 //! polyhedral model is easier than you think" (PACT 2004).
 #![tactic(auto)]
 
+mod bookmark;
 mod braid;
+mod counting;
 mod ending;
 mod examples;
 mod guards;
@@ -25,6 +27,7 @@ mod tree_laws;
 mod visitor;
 mod walking;
 
+pub use bookmark::Step;
 pub use braid::Braid;
 pub use source_laws::source_trees_visit_the_walk;
 pub use spot::{Mark, Spot};

@@ -154,7 +154,7 @@ fn is_over(nodes: &[Node], marks: &[Mark]) -> bool
 
 /// Whether something is left of a stretch or a braid.
 #[inline]
-fn has_left(stretch: &Stretch, braid: &Braid) -> bool
+pub(crate) fn has_left(stretch: &Stretch, braid: &Braid) -> bool
     requires { IsBraid braid.now }
     ensures { result ≡ false → IsSpent stretch.now braid.now }
 {

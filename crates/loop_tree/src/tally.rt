@@ -72,6 +72,9 @@ impl Visitor for Tally {
 
     #[inline]
     fn skip(&mut self, count: u64) -> bool {
+        if count == 0 {
+            return true;
+        }
         *self = match count_with(self, count) {
             None => Tally::Lost,
             Some(count) => Tally::Unseen(count),

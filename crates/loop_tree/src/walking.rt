@@ -1,13 +1,12 @@
 //! The walk over a tree: it shows a visitor each instance in turn, or many at once where it need not look at them, and
 //! takes no memory.
-ghost use Rattle.std.specs.Prelude.{◌≡◌, ◌≤◌, ◌≤ℤ◌, ◌++◌, ◌∷◌, [], All, FitsSigned, IfSome, List};
-ghost use Rattle.std.specs.Prelude.{◌*◌, ◌-ℤ◌, length, map, pos, ℕ, ℤ};
+ghost use Rattle.std.specs.Prelude.{◌≡◌, ◌≤◌, ◌≤ℤ◌, ◌++◌, ◌∷◌, [], All, FitsSigned, List};
+ghost use Rattle.std.specs.Prelude.{length, map, ℤ};
 ghost use Rattle.std.specs.Int.{w64};
 ghost use Rattle.scop_syntax.specs.View.{instance_of};
 ghost use Rattle.scop_syntax.specs.Walk.{Instance as PlainInstance};
 ghost use Rattle.whole_numbers.specs.Affine.{value_of, values_of};
 ghost use Rattle.loop_tree.specs.steps.Chain.{values_at, values_in};
-ghost use Rattle.loop_tree.specs.steps.Passing.{AreLeaves};
 ghost use Rattle.loop_tree.specs.Conditions.{CanWalk, IsHeld};
 ghost use Rattle.loop_tree.specs.Fits.{FormFits, FormsFit};
 ghost use Rattle.loop_tree.specs.Spot.{shown_from};
@@ -15,11 +14,12 @@ ghost use Rattle.loop_tree.specs.Tree.{loop as loops, more, none};
 ghost use Rattle.loop_tree.specs.View.{bounds_in, nodes_of, tree_of, trees_in};
 ghost use Rattle.loop_tree.specs.Walk.{between, given, visits, walk, walk_all};
 
+use crate::counting::count_before;
 use crate::outer::{MOST_IN_ROW, Outer, Point, point_in, value_at};
-use crate::passing::{is_leaf, way_up};
+use crate::passing::is_leaf;
 use crate::ranges::{all_hold, range_at};
 use crate::tree::{Leaf, Loop, Node, Tree};
-use crate::visitor::{Visitor, passes_by, skips_one};
+use crate::visitor::{Visitor, can_skip, passes_by, skips_one};
 use arrayvec::ArrayVec;
 use scop_syntax::instance::{Instance, MAX_LOOPS};
 use scop_syntax::tree::Aff;
@@ -78,40 +78,22 @@ pub(crate) fn last_leaf(nodes: &[Node]) -> usize {
     last
 }
 
-/// How many leaves nodes are, where they are leaves alone.
-fn leaves_in(nodes: &[Node]) -> Option<u64>
-    ensures { IfSome result (λ count. AreLeaves (nodes_of nodes.now) × (count ≡ length nodes.now)) }
-{
-    for node in nodes {
-        if !is_leaf(node) {
-            return None;
-        }
-    }
-    Some(nodes.len() as u64)
-}
-
-/// How many instances a loop's body shows at its values in front of the last one, where it is leaves alone; None where
-/// it is not, where no value is in front of the last, or where a word has no room for it.
-fn count_before(body: &[Node], first: i128, last: i128) -> Option<u64>
-    ensures { IfSome result (λ count. AreLeaves (nodes_of body.now) × ((way : ℕ) × (pos way ≡ last -ℤ first)
-        × (count ≡ length body.now * way))) }
-{
-    let Some(count) = leaves_in(body) else {
-        return None;
-    };
-    match way_up(first, last) {
-        None => None,
-        Some(way) => count.checked_mul(way),
-    }
-}
-
 /// Shows the instances of a loop's body at its values in front of the last one at once, where the visitor can see them
 /// so. It tells from which value on those are that were not shown.
-fn skip_values<V: Visitor>(body: &[Node], first: i128, last: i128, visitor: &mut V) -> i128
+fn skip_values<V: Visitor>(
+    body: &[Node],
+    first: i128,
+    last: i128,
+    outer: &Outer,
+    params: &[i64],
+    visitor: &mut V,
+) -> i128
+    requires { (x : ℤ) → first ≤ℤ x → x ≤ℤ last
+        → CanWalk (nodes_of body.now) params.now (values_in outer.now ++ x ∷ []) }
     ensures up { first ≤ℤ result }
-    ensures shown { (params outer : List ℤ) (l : List PlainInstance) → V.stands visitor.old l
-        → (done : List PlainInstance) × (done ++ shown_from (nodes_of body.now) params outer result last
-        ≡ l ++ shown_from (nodes_of body.now) params outer first last) × V.stands visitor.new done }
+    ensures shown { (l : List PlainInstance) → V.stands visitor.old l → (done : List PlainInstance)
+        × (done ++ shown_from (nodes_of body.now) params.now (values_in outer.now) result last
+        ≡ l ++ shown_from (nodes_of body.now) params.now (values_in outer.now) first last) × V.stands visitor.new done }
 {
     if last <= first {
         return first;
@@ -119,7 +101,10 @@ fn skip_values<V: Visitor>(body: &[Node], first: i128, last: i128, visitor: &mut
     if visitor.pass_by() {
         return last;
     }
-    match count_before(body, first, last) {
+    if !can_skip(visitor) {
+        return first;
+    }
+    match count_before(body, first, last, outer, params) {
         None => first,
         Some(count) => {
             if visitor.skip(count) {
@@ -228,7 +213,7 @@ pub(crate) fn walk_values<V: Visitor>(
         (l ++ map given (between (λ x. walk_all (nodes_of body.now) params.now (values_in outer.now ++ x ∷ []))
         first last)) }
 {
-    let start = skip_values(body, first, last, visitor);
+    let start = skip_values(body, first, last, outer, params, visitor);
     walk_each(body, start, last, outer, params, unseen, visitor);
 }
 

@@ -12,7 +12,7 @@ use Rattle.tile_core.specs.declared.plan.Plan.{Plan}
 use Rattle.tile_core.proofs.Cuts.{IsInTile}
 use Rattle.tile_core.proofs.Plans.{PlanLaws, list_cut, once, stands_in}
 use Rattle.tile_core.proofs.Scans.{rank_there}
-use Rattle.tile_core.proofs.Workers.{first_is}
+use Rattle.tile_core.proofs.Workers.{first_instance}
 
 pub tile_held : (laws : PlanLaws) (plan : Plan) (is : IsPlan plan) (j : ℕ) (v : Visit)
     → slice_get (walk_in plan) j ≡ Some v → IsTileOf is.tiling plan.list.now ((walk_shape plan).tile j) (instance v)
@@ -30,13 +30,11 @@ tile_held laws plan is j v at =
     let to = a.1.to in
     let stands = (stands_in laws plan is [] j t x (slice_get_within (walk_in plan) j v at) a.1).0 in
     let tile = there_is tiles t a.1.tile in
-    let head = first_is laws.tiles.at plan t tile.0 tile.0.spot is tile.1
-    (record { marks = refl; stretch = refl; braid = refl }) in
     let first : IsInTile (scan_in plan) d.tiles d.start t (d.start t + 0) (instance_of tile.0.first) = record {
       tile = a.1.tile;
       from = omega arith;
       to = omega (arith, from, to);
-      there = sym head.instance;
+      there = sym (first_instance laws.tiles.at plan t tile.0 is tile.1);
     } in
     subst (λ u. IsTileOf is.tiling plan.list.now u x) (sym stands) record {
       tile = tile.0;

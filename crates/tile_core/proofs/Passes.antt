@@ -17,7 +17,7 @@ use Rattle.tile_core.specs.declared.worker.Stage.{Stage}
 use Rattle.tile_core.specs.declared.worker.Stage.TheVariants.{Holding, Working}
 use Rattle.tile_core.proofs.Cuts.{PartsStand}
 use Rattle.tile_core.proofs.Tiles.{size_is}
-use Rattle.tile_core.proofs.Workers.{first_is}
+use Rattle.tile_core.proofs.Workers.{first_instance}
 
 -- the first one of a tile that is not opened
 pub first_next : PartsStand → (plan : Plan) (stage : Stage) (t : ℕ) (tile : Tile) → IsPlan plan
@@ -28,12 +28,12 @@ first_next stand plan stage t tile is at holding =
     let some = slice_get_within (slice_index_or is.tiles.parts t []) 0 (instance_of tile.first) one.first in
     let many = one.size in
     let size = size_is plan.list.now.tiles.items t tile at in
-    let n = first_is stand plan t tile tile.spot is at (record { marks = refl; stretch = refl; braid = refl }) in
     record {
       tile = t;
       held = subst (λ s. Holds (staged s []) t) (sym holding) refl;
       left = omega (arith, e, some, many, size);
-      place = ap (rank_in (places_in plan)) n.instance ∙ ap ((walk_shape plan).place t) (sym e);
+      place = ap (rank_in (places_in plan)) (first_instance stand plan t tile is at)
+          ∙ ap ((walk_shape plan).place t) (sym e);
     }
 
 -- the one that is due comes next

@@ -11,13 +11,13 @@ use Rattle.scop_syntax.specs.View.{instance_of}
 use Rattle.scop_syntax.specs.Walk.{Instance}
 use Rattle.scop_syntax.specs.declared.instance.Instance.{Instance as CodeInstance}
 use Rattle.scop_syntax.proofs.Members.{in_from_place, there_is}
-use Rattle.loop_tree.specs.SpotView.{IsSpotOf, found_in, to_come, StandAlike}
+use Rattle.loop_tree.specs.SpotView.{IsSpotOf, found_in, to_come}
 use Rattle.loop_tree.specs.View.{trees_in}
 use Rattle.loop_tree.specs.declared.spot.Spot.{Spot}
 use Rattle.loop_tree.proofs.Visits.{listed_same}
-use Rattle.loop_tree.proofs.SameSpots.{rest_alike}
 use Rattle.stmt_table.specs.Desks.{HasRoomForAll}
 use Rattle.tile_list.specs.Tiles.{start_of}
+use Rattle.tile_list.specs.TilesView.{to_come_at}
 use Rattle.tile_list.specs.declared.list.Tile.{Tile}
 use Rattle.tile_events.specs.Deal.{IsScan}
 use Rattle.tile_events.specs.Sound.{Holds}
@@ -85,26 +85,38 @@ workers_more plan old new w n is idles all stage here = (
   subst (All (IsWorker plan)) (sym is) (All-push (IsWorker plan) old w all here),
 )
 
--- the first instance of a tile, and the place behind it
+-- the rank of the first instance of a tile
+start_is : (plan : Plan) (t : ℕ) (is : IsPlan plan) → (deal_of plan).start t + 0 ≡ start_of is.tiles.parts t + 0
+start_is plan t is =
+    let list = is.tiles in
+    let sizes = sizes_agree plan.list.now.tiles.items list.parts list.count (λ u x e. (list.tiles u x e).size) in
+    ap (λ ns. start_at ns t + 0) sizes ∙ ap (λ n. n + 0) (sum_start list.parts t)
+
+-- the first instance of a tile
+pub first_instance : PartsStand → (plan : Plan) (t : ℕ) (tile : Tile) → IsPlan plan
+    → slice_get plan.list.now.tiles.items t ≡ Some tile
+    → Some (instance_of tile.first) ≡ slice_get (scan_in plan) ((deal_of plan).start t + 0)
+first_instance stand plan t tile is at =
+    let list = is.tiles in
+    let one = list.tiles t tile at in
+    let within = slice_get_within plan.list.now.tiles.items t tile at in
+    let n = list.count in
+    let some = slice_get_within (slice_index_or list.parts t []) 0 (instance_of tile.first) one.first in
+    sym (ap (slice_get (scan_in plan)) (start_is plan t is)
+    ∙ (stand is.tiling (scan_in plan) list.parts list.cut t 0 (omega (arith, within, n)) some ∙ one.first))
+
+-- and the place behind it
 pub first_is : PartsStand → (plan : Plan) (t : ℕ) (tile : Tile) (spot : Spot) → IsPlan plan
-    → slice_get plan.list.now.tiles.items t ≡ Some tile → StandAlike spot tile.spot
+    → slice_get plan.list.now.tiles.items t ≡ Some tile
+    → to_come (trees_in plan.tree.now) plan.params.now spot
+    ≡ to_come_at (trees_in plan.tree.now) plan.params.now tile.place
     → IsNext plan ((deal_of plan).start t + 0) (Some tile.first) spot
 first_is stand plan t tile spot is at set =
     let list = is.tiles in
-    let tiles = plan.list.now.tiles.items in
-    let tiling = is.tiling in
-    let one = list.tiles t tile at in
-    let sizes = sizes_agree tiles list.parts list.count (λ u x e. (list.tiles u x e).size) in
-    let start : (deal_of plan).start t + 0 ≡ start_of list.parts t + 0 =
-    ap (λ ns. start_at ns t + 0) sizes ∙ ap (λ n. n + 0) (sum_start list.parts t) in
-    let within = slice_get_within tiles t tile at in
-    let n = list.count in
-    let some = slice_get_within (slice_index_or list.parts t []) 0 (instance_of tile.first) one.first in
+    let start = start_is plan t is in
     record {
-      instance = sym (ap (slice_get (scan_in plan)) start
-          ∙ (stand tiling (scan_in plan) list.parts list.cut t 0 (omega (arith, within, n)) some ∙ one.first));
-      behind = rest_alike (trees_in plan.tree.now) plan.params.now spot tile.spot set
-          ∙ (one.behind ∙ ap (λ n. drop n (scan_in plan))
+      instance = first_instance stand plan t tile is at;
+      behind = set ∙ ((list.tiles t tile at).behind ∙ ap (λ n. drop n (scan_in plan))
           (let q : suc (start_of list.parts t) ≡ suc ((deal_of plan).start t + 0) = omega (arith, start) in q));
     }
 

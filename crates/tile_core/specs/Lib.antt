@@ -13,3 +13,8 @@ pub mod FirstWords
 pub mod Views
 pub mod Passes
 pub mod Rows
+-- Passed on: what this crate's contracts are told in.
+pub use Rattle.loop_tree.specs.declared.braid.Braid
+pub use Rattle.loop_tree.specs.declared.spot.Spot
+pub use Rattle.loop_tree.specs.declared.stretch.Stretch
+pub use Rattle.tile_edges.specs.declared.waiting.TileEdges

@@ -19,3 +19,6 @@ pub mod view;
 mod weaving;
 pub mod words;
 pub mod worker;
+
+// Passed on: what goes with this crate's contracts.
+pub use tile_edges::TileEdges;

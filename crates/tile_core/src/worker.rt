@@ -191,7 +191,7 @@ impl Worker {
         self.stage = Stage::Working(tile, 0);
         self.reads.clear();
         self.next = Some(first.first);
-        self.spot.set(&first.spot);
+        first.place.enter(plan.tree, plan.params, &mut self.spot);
     }
 
     /// The instance that it does next; None where it is not at work, or its tile has none left.

@@ -13,24 +13,26 @@ use Rattle.scop_syntax.specs.declared.instance.Instance.{Instance as CodeInstanc
 use Rattle.loop_tree.specs.Braids.{IsBraid, left_of_braid}
 use Rattle.loop_tree.specs.Conditions.{IsHeld}
 use Rattle.loop_tree.specs.Spot.{rest_of}
-use Rattle.loop_tree.specs.SpotView.{IsSpotOf, StandAlike, marks_in, to_come}
+use Rattle.loop_tree.specs.SpotView.{IsSpotOf, marks_in, to_come}
 use Rattle.loop_tree.specs.Stretches.{left_of}
 use Rattle.loop_tree.specs.Tiling.{Tiling, kept, tiled, wave_of}
 use Rattle.loop_tree.specs.Tree.{Trees}
 use Rattle.loop_tree.specs.Walk.{visits}
 use Rattle.loop_tree.specs.declared.braid.Braid.{Braid}
 use Rattle.loop_tree.specs.declared.spot.Spot.{Spot}
-use Rattle.loop_tree.proofs.SameSpots.{rest_alike, spot_alike}
 use Rattle.loop_tree.proofs.Stretches.{nothing_left}
 use Rattle.tile_list.specs.Tiles.{AreWaves, IsNextWave, RiseByTile, TileBefore, joined}
-use Rattle.tile_list.specs.TilesView.{IsTile, firsts_of, waves_of}
+use Rattle.tile_list.specs.TilesView.{IsPlaceOf, IsTile, firsts_of, to_come_at, waves_of}
 use Rattle.tile_list.specs.steps.Cutting.{AreTilesOf, HasBegun, HasGrown, IsCut, IsCutTo, IsNewTile, IsWaveOf}
 use Rattle.tile_list.specs.steps.Cutting.{Takes}
 use Rattle.tile_list.specs.steps.Keys.{IsKeyOf}
+use Rattle.tile_list.specs.steps.Placing.{HasCome}
 use Rattle.tile_list.specs.steps.Stretching.{AllHaveKey, Passes}
 use Rattle.tile_list.specs.declared.cutting.Cut.{Cut}
 use Rattle.tile_list.specs.declared.keys.Key.{Key}
 use Rattle.tile_list.specs.declared.list.Tile.{Tile}
+use Rattle.tile_list.specs.declared.place.Front.{Front}
+use Rattle.tile_list.specs.declared.place.Place.{Place}
 use Rattle.tile_list.proofs.Stretches.{length-left}
 use Rattle.tile_list.proofs.TellingKeys.{key_tells, tells_key, tells_waves, waves_tell}
 use Rattle.tile_list.proofs.ListedTiles.{tile_more}
@@ -40,16 +42,16 @@ use Rattle.tile_list.proofs.Waves.{wave_more}
 -- a tile with so many instances more
 tile_grown : (ts : Trees) (params : List ℤ) (k : ℕ) (x : Instance) (more ys : List Instance)
     (old new : Tile) → IsTile ts params k (x ∷ more) old → new.first ≡ old.first
-    → StandAlike new.spot old.spot → new.size ≡ old.size + length ys
+    → new.place ≡ old.place → new.size ≡ old.size + length ys
     → IsTile ts params k (x ∷ (more ++ ys)) new
-tile_grown ts params k x more ys old new is first spot size =
+tile_grown ts params k x more ys old new is first place size =
     record {
       first = is.first ∙ sym (ap (λ (i : CodeInstance). Some (instance_of i)) first);
       size = let l = length-append more ys in
           let s = is.size in
           omega (arith, size, s, l);
-      spot = spot_alike ts params new.spot old.spot spot is.spot;
-      behind = rest_alike ts params new.spot old.spot spot ∙ is.behind;
+      place = subst (λ (p : Place). IsPlaceOf ts params p) (sym place) is.place;
+      behind = ap (λ (p : Place). to_come_at ts params p) place ∙ is.behind;
     }
 
 behind_all : (front : List Instance) (y : Instance) (rest : List Instance)
@@ -58,18 +60,19 @@ behind_all [] y rest = refl
 behind_all (x ∷ front) y rest = behind_all front y rest
 
 -- a new tile
-pub tile_begun : (ts : Trees) (params : List ℤ) (front : List Instance) (first : CodeInstance) (spot : Spot) (n : ℕ)
-    (tile : Tile) → IsNewTile first spot n tile → IsSpotOf ts params spot
-    → front ++ instance_of first ∷ to_come ts params spot ≡ visits ts params
-    → IsTile ts params (length front) (instance_of tile.first ∷ []) tile
-tile_begun ts params front first spot n tile new is all =
+pub tile_begun : (ts : Trees) (params : List ℤ) (passed : List Instance) (first : CodeInstance) (front : Front)
+    (spot : Spot) (n : ℕ) (tile : Tile) → IsNewTile first front spot n tile → HasCome ts params front spot
+    → passed ++ instance_of first ∷ to_come ts params spot ≡ visits ts params
+    → IsTile ts params (length passed) (instance_of tile.first ∷ []) tile
+tile_begun ts params passed first front spot n tile new come all =
+    let place = new.place_is ts params come in
     record {
       first = refl;
       size = new.size;
-      spot = spot_alike ts params tile.spot spot new.spot_is is;
-      behind = rest_alike ts params tile.spot spot new.spot_is
-          ∙ (sym (behind_all front (instance_of first) (to_come ts params spot))
-          ∙ ap (drop (suc (length front))) all);
+      place = place.0;
+      behind = place.1
+          ∙ (sym (behind_all passed (instance_of first) (to_come ts params spot))
+          ∙ ap (drop (suc (length passed))) all);
     }
 
 -- the next instances are in the current tile
@@ -90,7 +93,7 @@ takes_all tiling ys count old new all_are one has ts params rest cut =
       tiles = subst (AreTilesOf ts params cut.closed) (sym has.tiles) cut.tiles;
       last = subst (λ z. IsTile ts params (length (joined cut.closed)) (z ∷ all) new.current) (sym same)
           (tile_grown ts params (length (joined cut.closed)) x cut.more ys old.current new.current cut.last has.first
-          has.spot (has.size ∙ ap (λ (n : ℕ). old.current.size + n) all_are));
+          has.place (has.size ∙ ap (λ (n : ℕ). old.current.size + n) all_are));
       waves = subst (λ (us : List Tile). AreWaves tiling (firsts_of us ++ instance_of new.current.first ∷ [])
           (waves_of us ++ new.current.wave ∷ [])) (sym has.tiles)
           (subst (λ z. AreWaves tiling (firsts_of old.tiles.items ++ z ∷ [])
@@ -101,11 +104,11 @@ takes_all tiling ys count old new all_are one has ts params rest cut =
     }
 
 -- the next instance is in the current tile
-pub takes_same : (tiling : Tiling) (y : Instance) (spot : Spot) (old new : Cut) → IsKeyOf tiling y old.key
-    → HasGrown 1 old new → Takes tiling y spot old new
-takes_same tiling y spot old new is has =
+pub takes_same : (tiling : Tiling) (y : Instance) (front : Front) (spot : Spot) (old new : Cut)
+    → IsKeyOf tiling y old.key → HasGrown 1 old new → Takes tiling y front spot old new
+takes_same tiling y front spot old new is has =
     record {
-      cut = λ ts params rise at. takes_all tiling (y ∷ []) 1 old new refl one has ts params
+      cut = λ ts params rise come. takes_all tiling (y ∷ []) 1 old new refl one has ts params
           (to_come ts params spot);
       key = subst (IsKeyOf tiling y) (sym has.key) is;
     }
@@ -129,13 +132,13 @@ next_number (tiled size statements) x y cut n is are wave (inr less) =
     inl (less.0, wave.same (tells_waves size statements x y cut.key cut.next is are less.0))
 
 -- the next instance begins a tile
-begins_next : (tiling : Tiling) (first : CodeInstance) (spot : Spot) (old new : Cut) (next : Key)
+begins_next : (tiling : Tiling) (first : CodeInstance) (front : Front) (spot : Spot) (old new : Cut) (next : Key)
     → IsKeyOf tiling (instance_of first) next → (IsKeyOf tiling (instance_of first) old.key → ⊥)
-    → HasBegun first spot (record old { next = next }) new
-    → (ts : Trees) (params : List ℤ) → RiseByTile tiling (visits ts params) → IsSpotOf ts params spot
+    → HasBegun first front spot (record old { next = next }) new
+    → (ts : Trees) (params : List ℤ) → RiseByTile tiling (visits ts params) → HasCome ts params front spot
     → IsCutTo ts params tiling (instance_of first ∷ to_come ts params spot) old
     → IsCutTo ts params tiling (to_come ts params spot) new
-begins_next tiling first spot old new next is other has ts params rise at cut =
+begins_next tiling first front spot old new next is other has ts params rise come cut =
     let x = instance_of old.current.first in
     let y = instance_of first in
     let rest = to_come ts params spot in
@@ -156,7 +159,7 @@ begins_next tiling first spot old new next is other has ts params rise at cut =
       parts = subst (λ z. IsCut tiling (visits ts params) all z [] rest) (sym same) parts;
       tiles = subst (AreTilesOf ts params all) (sym has.tiles)
           (tile_more ts params cut.closed old.tiles.items (x ∷ cut.more) old.current cut.tiles cut.last);
-      last = tile_begun ts params (joined all) first spot has.current.0 new.current tile at parts.all;
+      last = tile_begun ts params (joined all) first front spot has.current.0 new.current tile come parts.all;
       waves = subst (λ (us : List Tile). AreWaves tiling (firsts_of us ++ instance_of new.current.first ∷ [])
           (waves_of us ++ new.current.wave ∷ [])) (sym has.tiles)
           (numbered ts params same (tile.wave_is) number cut);
@@ -186,12 +189,12 @@ begins_next tiling first spot old new next is other has ts params rise at cut =
         ((waves_of ts ++ old.current.wave ∷ []) ++ k ∷ [])) (sym wave) more)))
 
 -- so is it taken
-pub takes_next : (tiling : Tiling) (first : CodeInstance) (spot : Spot) (old new : Cut) (next : Key)
+pub takes_next : (tiling : Tiling) (first : CodeInstance) (front : Front) (spot : Spot) (old new : Cut) (next : Key)
     → IsKeyOf tiling (instance_of first) next → (IsKeyOf tiling (instance_of first) old.key → ⊥)
-    → HasBegun first spot (record old { next = next }) new → Takes tiling (instance_of first) spot old new
-takes_next tiling first spot old new next is other has =
+    → HasBegun first front spot (record old { next = next }) new → Takes tiling (instance_of first) front spot old new
+takes_next tiling first front spot old new next is other has =
     record {
-      cut = begins_next tiling first spot old new next is other has;
+      cut = begins_next tiling first front spot old new next is other has;
       key = subst (IsKeyOf tiling (instance_of first)) (sym has.key) is;
     }
 

@@ -8,7 +8,7 @@ use Rattle.scop_syntax.specs.declared.instance.Instance.{Instance as CodeInstanc
 use Rattle.scop_syntax.proofs.Members.{in_back, in_front}
 use Rattle.loop_tree.specs.Braids.{left_of_braid}
 use Rattle.loop_tree.specs.Spot.{rest_of}
-use Rattle.loop_tree.specs.SpotView.{IsSpotOf, marks_in, to_come}
+use Rattle.loop_tree.specs.SpotView.{marks_in, to_come}
 use Rattle.loop_tree.specs.Stretches.{left_of}
 use Rattle.loop_tree.specs.Tiling.{Tiling}
 use Rattle.loop_tree.specs.Tree.{Trees}
@@ -18,22 +18,24 @@ use Rattle.tile_list.specs.Tiles.{AreOffsets, AreTiles, AreWaves, CanTile, RiseB
 use Rattle.tile_list.specs.TilesView.{IsTileListOf, firsts_of, waves_of}
 use Rattle.tile_list.specs.steps.Cutting.{AreTilesOf, Begins, IsCut, IsCutTo, IsListed, IsNewTile, Takes}
 use Rattle.tile_list.specs.steps.Keys.{IsKeyOf}
+use Rattle.tile_list.specs.steps.Placing.{HasCome}
 use Rattle.tile_list.specs.steps.Stretching.{AllFit}
 use Rattle.tile_list.specs.declared.cutting.Cut.{Cut}
 use Rattle.tile_list.specs.declared.list.Tile.{Tile}
 use Rattle.tile_list.specs.declared.list.TileList.{TileList}
+use Rattle.tile_list.specs.declared.place.Front.{Front}
 use Rattle.tile_list.proofs.ListedTiles.{no_tiles, tile_more}
 use Rattle.tile_list.proofs.Offset.{offsets_are, waves_rise}
 use Rattle.tile_list.proofs.Parts.{begun, ended, none_cut}
 use Rattle.tile_list.proofs.TakenInstances.{tile_begun}
 
 -- the first instance
-begun_cut : (tiling : Tiling) (first : CodeInstance) (spot : Spot) (cut : Cut)
-    → IsKeyOf tiling (instance_of first) cut.key → IsNewTile first spot 0 cut.current → cut.tiles.items ≡ []
-    → (ts : Trees) (params : List ℤ) → IsSpotOf ts params spot
+begun_cut : (tiling : Tiling) (first : CodeInstance) (front : Front) (spot : Spot) (cut : Cut)
+    → IsKeyOf tiling (instance_of first) cut.key → IsNewTile first front spot 0 cut.current → cut.tiles.items ≡ []
+    → (ts : Trees) (params : List ℤ) → HasCome ts params front spot
     → visits ts params ≡ instance_of first ∷ to_come ts params spot
     → IsCutTo ts params tiling (to_come ts params spot) cut
-begun_cut tiling first spot cut key tile none ts params at all =
+begun_cut tiling first front spot cut key tile none ts params come all =
     let x = instance_of first in
     let rest = to_come ts params spot in
     let same : instance_of cut.current.first ≡ x = ap instance_of tile.first_is in
@@ -43,19 +45,19 @@ begun_cut tiling first spot cut key tile none ts params at all =
       parts = subst (λ z. IsCut tiling (visits ts params) [] z [] rest) (sym same)
           (subst (λ (zs : List Instance). IsCut tiling zs [] x [] rest) (sym all) (begun tiling x rest));
       tiles = subst (AreTilesOf ts params []) (sym none) (no_tiles ts params);
-      last = tile_begun ts params [] first spot 0 cut.current tile at (sym all);
+      last = tile_begun ts params [] first front spot 0 cut.current tile come (sym all);
       waves = subst (λ (us : List Tile). AreWaves tiling (firsts_of us ++ instance_of cut.current.first ∷ [])
           (waves_of us ++ cut.current.wave ∷ [])) (sym none) (tile.wave_is, tt);
       key = subst (λ z. IsKeyOf tiling z cut.key) (sym same) key;
     }
 
 -- it begins the cut
-pub begins : (tiling : Tiling) (first : CodeInstance) (spot : Spot) (cut : Cut)
-    → IsKeyOf tiling (instance_of first) cut.key → IsNewTile first spot 0 cut.current → cut.tiles.items ≡ []
-    → Begins tiling (instance_of first) spot cut
-begins tiling first spot cut key tile none =
+pub begins : (tiling : Tiling) (first : CodeInstance) (front : Front) (spot : Spot) (cut : Cut)
+    → IsKeyOf tiling (instance_of first) cut.key → IsNewTile first front spot 0 cut.current → cut.tiles.items ≡ []
+    → Begins tiling (instance_of first) front spot cut
+begins tiling first front spot cut key tile none =
     record {
-      cut_is = begun_cut tiling first spot cut key tile none;
+      cut_is = begun_cut tiling first front spot cut key tile none;
       key = key;
     }
 
@@ -73,12 +75,12 @@ taken_visited ts params tiling x all rest cut e is =
     rest_visited ts params tiling all cut is x (subst (λ (zs : List Instance). In x zs) (sym e) (inl refl))
 
 -- the next one is taken
-pub taken_next : (ts : Trees) (params : List ℤ) (tiling : Tiling) (x : Instance) (all : List Instance) (spot : Spot)
-    (old new : Cut) → all ≡ x ∷ to_come ts params spot → RiseByTile tiling (visits ts params)
-    → IsSpotOf ts params spot → Takes tiling x spot old new → IsCutTo ts params tiling all old
+pub taken_next : (ts : Trees) (params : List ℤ) (tiling : Tiling) (x : Instance) (all : List Instance) (front : Front)
+    (spot : Spot) (old new : Cut) → all ≡ x ∷ to_come ts params spot → RiseByTile tiling (visits ts params)
+    → HasCome ts params front spot → Takes tiling x front spot old new → IsCutTo ts params tiling all old
     → IsCutTo ts params tiling (to_come ts params spot) new
-taken_next ts params tiling x all spot old new e rise at takes is =
-    takes.cut ts params rise at (subst (λ (zs : List Instance). IsCutTo ts params tiling zs old) e is)
+taken_next ts params tiling x all front spot old new e rise come takes is =
+    takes.cut ts params rise come (subst (λ (zs : List Instance). IsCutTo ts params tiling zs old) e is)
 
 -- the rows fit at what is left of a stretch and a braid
 pub left_fits : (ts : Trees) (params : List ℤ) (tiling : Tiling) (spot : Spot) (cut : Cut)

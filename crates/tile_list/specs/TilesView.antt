@@ -2,6 +2,7 @@
 use Rattle.std.specs.Prelude.{◌≡◌, ℕ, suc, ℤ, List, [], length, map, slice_get, slice_index_or, Some, drop}
 use Rattle.scop_syntax.specs.Walk.{Instance}
 use Rattle.scop_syntax.specs.View.{instance_of}
+use Rattle.loop_tree.specs.Bookmarks.{IsBookmarkOf, to_come_from}
 use Rattle.loop_tree.specs.SpotView.{IsSpotOf, to_come}
 use Rattle.loop_tree.specs.Tiling.{Tiling}
 use Rattle.loop_tree.specs.Tree.{Trees}
@@ -9,14 +10,25 @@ use Rattle.loop_tree.specs.Walk.{visits}
 use Rattle.tile_list.specs.Tiles.{AreOffsets, AreTiles, AreWaves, start_of}
 use Rattle.tile_list.specs.declared.list.Tile.{Tile}
 use Rattle.tile_list.specs.declared.list.TileList.{TileList}
+use Rattle.tile_list.specs.declared.place.Place.{Place}
+use Rattle.tile_list.specs.declared.place.Place.TheVariants.{Before, Behind}
 
--- the tile of a part of the visits that begins at visit number k: its first instance, how many it has, and the place
--- behind the first one
+-- the place of a tile of trees
+abbrev pub IsPlaceOf : Trees → List ℤ → Place → Type 0
+IsPlaceOf ts params (Before steps) = IsBookmarkOf ts params steps.items
+IsPlaceOf ts params (Behind spot) = IsSpotOf ts params spot.value
+
+-- the instances that are still to come behind its first one
+abbrev pub to_come_at : Trees → List ℤ → Place → List Instance
+to_come_at ts params (Before steps) = drop 1 (to_come_from ts params steps.items)
+to_come_at ts params (Behind spot) = to_come ts params spot.value
+
+-- the tile of a part of the visits that begins at visit number k: its first instance, how many it has, and its place
 pub record IsTile (ts : Trees) (params : List ℤ) (k : ℕ) (part : List Instance) (tile : Tile) : Type 0 where
   pub first : slice_get part 0 ≡ Some (instance_of tile.first)
   pub size : tile.size ≡ length part
-  pub spot : IsSpotOf ts params tile.spot
-  pub behind : to_come ts params tile.spot ≡ drop (suc k) (visits ts params)
+  pub place : IsPlaceOf ts params tile.place
+  pub behind : to_come_at ts params tile.place ≡ drop (suc k) (visits ts params)
 
 -- the numbers of the tiles' waves
 abbrev pub waves_of : List Tile → List ℕ

@@ -2,4 +2,5 @@
 pub mod Keys
 pub mod Cutting
 pub mod Offsets
+pub mod Placing
 pub mod Stretching

@@ -15,11 +15,13 @@ ghost use Rattle.tile_list.specs.TilesView.{IsTileListOf};
 ghost use Rattle.tile_list.specs.steps.Cutting.{Begins, HasBegun, HasGrown, IsCutTo, IsListed};
 ghost use Rattle.tile_list.specs.steps.Cutting.{IsNewTile, IsWaveOf, Takes};
 ghost use Rattle.tile_list.specs.steps.Keys.{IsKeyOf};
+ghost use Rattle.tile_list.specs.steps.Placing.{HasCome};
 ghost use Rattle.tile_list.specs.steps.Stretching.{AllFit, AllRowsFit, GoesOn, HasRounds, Passes};
 
 use crate::keys::Key;
 use crate::list::{Tile, TileList};
 use crate::offsets::offsets_of;
+use crate::place::Front;
 use loop_tree::{Braid, Passed, Spot, Stretch, Tiling, Tree};
 use scop_syntax::instance::Instance;
 use std::alloc::{AllocError, Global};
@@ -111,14 +113,20 @@ fn has_left(stretch: &Stretch, braid: &Braid) -> bool
     braid.strands[braid.at].left > 0
 }
 
-/// A tile that begins with an instance, the spot behind which is given.
-fn tile_at(alloc: Global, first: Instance, spot: &Spot, wave: usize) -> Result<Tile, AllocError>
-    ensures { IfOk result (IsNewTile first spot.now wave) }
+/// A tile that begins with an instance, the front and the spot of which are given.
+fn tile_at(
+    alloc: Global,
+    first: Instance,
+    front: &Front,
+    spot: &Spot,
+    wave: usize,
+) -> Result<Tile, AllocError>
+    ensures { IfOk result (IsNewTile first front.now spot.now wave) }
 {
-    let spot = spot.copy(alloc)?;
+    let place = front.place(alloc, spot)?;
     Ok(Tile {
         first,
-        spot,
+        place,
         wave,
         size: 1,
     })
@@ -235,14 +243,20 @@ impl Scout {
 
 impl Cut {
     /// The first instance is in its tile.
-    fn of(alloc: Global, tiling: &Tiling, first: Instance, spot: &Spot) -> Result<Cut, AllocError>
+    fn of(
+        alloc: Global,
+        tiling: &Tiling,
+        first: Instance,
+        front: &Front,
+        spot: &Spot,
+    ) -> Result<Cut, AllocError>
         requires size { HasSize (tiling_of tiling.now) }
         requires fits { RowsFit (tiling_of tiling.now) (instance_of first) }
-        ensures { IfOk result (Begins (tiling_of tiling.now) (instance_of first) spot.now) }
+        ensures { IfOk result (Begins (tiling_of tiling.now) (instance_of first) front.now spot.now) }
     {
         let mut key = Key::empty(alloc);
         key.set(tiling, &first)?;
-        let current = tile_at(alloc, first, spot, 0)?;
+        let current = tile_at(alloc, first, front, spot, 0)?;
         Ok(Cut {
             tiles: Vec::new(alloc),
             current,
@@ -272,11 +286,17 @@ impl Cut {
     }
 
     /// The next tile is the current one.
-    fn begin(&mut self, alloc: Global, first: Instance, spot: &Spot) -> Result<(), AllocError>
-        ensures { OnOk result (HasBegun first spot.now self.old self.new) }
+    fn begin(
+        &mut self,
+        alloc: Global,
+        first: Instance,
+        front: &Front,
+        spot: &Spot,
+    ) -> Result<(), AllocError>
+        ensures { OnOk result (HasBegun first front.now spot.now self.old self.new) }
     {
         let wave = self.next_wave()?;
-        let tile = tile_at(alloc, first, spot, wave)?;
+        let tile = tile_at(alloc, first, front, spot, wave)?;
         self.tiles.push(mem::replace(&mut self.current, tile))?;
         mem::swap(&mut self.key, &mut self.next);
         Ok(())
@@ -289,17 +309,19 @@ impl Cut {
         alloc: Global,
         tiling: &Tiling,
         instance: Instance,
+        front: &Front,
         spot: &Spot,
     ) -> Result<(), AllocError>
         requires size { HasSize (tiling_of tiling.now) }
         requires fits { RowsFit (tiling_of tiling.now) (instance_of instance) }
-        ensures { OnOk result (Takes (tiling_of tiling.now) (instance_of instance) spot.now self.old self.new) }
+        ensures { OnOk result (Takes (tiling_of tiling.now) (instance_of instance) front.now spot.now self.old
+            self.new) }
     {
         if self.key.is_of(tiling, &instance) {
             return self.grow(1);
         }
         self.next.set(tiling, &instance)?;
-        self.begin(alloc, instance, spot)
+        self.begin(alloc, instance, front, spot)
     }
 
     /// Takes what is left of the stretch behind an instance that was taken, where it lies in the current tile.
@@ -432,23 +454,25 @@ fn cut_rest(
     tiling: &Tiling,
     params: &[i64],
     first: Instance,
+    front: &mut Front,
     spot: &mut Spot,
 ) -> Result<Cut, AllocError>
     requires walk { CanWalk (trees_in tree.now) params.now [] }
     requires rise { RiseByTile (tiling_of tiling.now) (visits (trees_in tree.now) params.now) }
     requires fits { CanTile (tiling_of tiling.now) (visits (trees_in tree.now) params.now) }
-    requires spot { IsSpotOf (trees_in tree.now) params.now spot.old }
+    requires come { HasCome (trees_in tree.now) params.now front.old spot.old }
+    requires room { length front.old.steps.items ≡ deep_all (trees_in tree.now) }
     requires first { visits (trees_in tree.now) params.now
         ≡ instance_of first ∷ to_come (trees_in tree.now) params.now spot.old }
     ensures { IfOk result (IsCutTo (trees_in tree.now) params.now (tiling_of tiling.now) []) }
 {
     let mut scout = Scout::of(alloc, spot)?;
-    let mut cut = Cut::of(alloc, tiling, first, spot)?;
+    let mut cut = Cut::of(alloc, tiling, first, front, spot)?;
     cut.take_rest(tiling, &first, false, spot)?;
     cut.leave_loops(tree, tiling, params, spot, &mut scout)?;
     let mut asked = has_left(&spot.stretch, &spot.braid);
-    while let Some(instance) = spot.next(tree, params) {
-        cut.take(alloc, tiling, instance, spot)?;
+    while let Some(instance) = front.next(tree, params, spot) {
+        cut.take(alloc, tiling, instance, front, spot)?;
         cut.take_rest(tiling, &instance, asked, spot)?;
         cut.leave_loops(tree, tiling, params, spot, &mut scout)?;
         asked = has_left(&spot.stretch, &spot.braid);
@@ -481,10 +505,11 @@ pub fn tiles(
     ensures { IfOk result (λ list. IsTileListOf (trees_in tree.now) params.now (tiling_of tiling.now) list) }
 {
     let mut spot = Spot::of(alloc, tree)?;
-    match spot.next(tree, params) {
+    let mut front = Front::of(alloc, &spot)?;
+    match front.next(tree, params, &mut spot) {
         None => listed(alloc, Vec::new(alloc)),
         Some(first) => {
-            let cut = cut_rest(alloc, tree, tiling, params, first, &mut spot)?;
+            let cut = cut_rest(alloc, tree, tiling, params, first, &mut front, &mut spot)?;
             listed(alloc, cut.end()?)
         }
     }

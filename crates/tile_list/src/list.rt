@@ -1,15 +1,14 @@
 //! The list of tiles as code holds it. Contracts say by `IsTileListOf` of specs/TilesView.antt whose tiles it has.
 ghost use Rattle.std.specs.Prelude.{◌≡◌, ◌-◌, length};
 
-use loop_tree::Spot;
+use crate::place::Place;
 use scop_syntax::instance::Instance;
 
-/// A tile: its first instance, the place in the tree's visits behind that one, the number of its wave, and how many
-/// instances it has.
+/// A tile: its first instance, its place in the tree's visits, the number of its wave, and how many instances it has.
 #[derive(Drop)]
 pub struct Tile {
     pub first: Instance,
-    pub spot: Spot,
+    pub place: Place,
     pub wave: usize,
     pub size: usize,
 }

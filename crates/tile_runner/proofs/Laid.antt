@@ -9,7 +9,6 @@ use Rattle.scop_syntax.specs.Members.{In}
 use Rattle.scop_syntax.specs.View.{instance_of}
 use Rattle.scop_syntax.specs.Walk.{Instance}
 use Rattle.scop_syntax.specs.declared.instance.Instance.{Instance as CodeInstance}
-use Rattle.loop_tree.specs.declared.stretch.Stretch.{Stretch}
 use Rattle.stmt_table.specs.Codes.{value_by}
 use Rattle.stmt_table.specs.Desks.{HasSameRoom, IsLaid}
 use Rattle.stmt_table.specs.declared.desk.Desk.{Desk}
@@ -22,6 +21,7 @@ use Rattle.tile_core.specs.Rows.{IsFormed, IsRowAt}
 use Rattle.tile_core.specs.Stretches.{IsAhead, moved}
 use Rattle.tile_core.specs.Views.{done_at, tile_at}
 use Rattle.tile_core.specs.Workers.{IsWorker}
+use Rattle.tile_core.specs.Stretch.{Stretch}
 use Rattle.tile_core.specs.declared.plan.Plan.{Plan}
 use Rattle.tile_core.specs.declared.view.View.{View}
 use Rattle.tile_core.specs.declared.words.Words.{Words}

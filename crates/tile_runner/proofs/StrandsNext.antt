@@ -3,9 +3,6 @@ use Rattle.std.proofs.Common.{◌≡◌, ◌∙◌, ◌+◌, ◌-◌, ◌*◌, �
 use Rattle.std.specs.Prelude.{Option, slice_get}
 use Rattle.scop_syntax.specs.Members.{In}
 use Rattle.scop_syntax.specs.declared.instance.Instance.{Instance}
-use Rattle.loop_tree.specs.declared.braid.Braid.{Braid}
-use Rattle.loop_tree.specs.declared.spot.Spot.{Spot}
-use Rattle.loop_tree.specs.declared.stretch.Stretch.{Stretch}
 use Rattle.stmt_table.specs.declared.desk.Desk.{Desk}
 use Rattle.stmt_table.specs.declared.table.Row.{Row}
 use Rattle.tile_core.specs.Plans.{places_in, walk_shape}
@@ -14,6 +11,9 @@ use Rattle.tile_core.specs.Strands.{AreLaid, IsRoundAt}
 use Rattle.tile_core.specs.Stretches.{IsWoven, in_round, moved}
 use Rattle.tile_core.specs.Views.{done_at, tile_at}
 use Rattle.tile_core.specs.Workers.{AreDesks}
+use Rattle.tile_core.specs.Braid.{Braid}
+use Rattle.tile_core.specs.Spot.{Spot}
+use Rattle.tile_core.specs.Stretch.{Stretch}
 use Rattle.tile_core.specs.declared.plan.Plan.{Plan}
 use Rattle.tile_core.specs.declared.worker.Stage.{Stage}
 use Rattle.tile_core.specs.declared.worker.Stage.TheVariants.{Working}

@@ -3,7 +3,6 @@
 use Rattle.std.specs.Prelude.{◌≡◌, ◌+◌, ◌<◌, ◌≤◌, ℕ, ℤ, List, slice_get, Some}
 use Rattle.scop_syntax.specs.Members.{In}
 use Rattle.scop_syntax.specs.Walk.{Instance}
-use Rattle.loop_tree.specs.declared.braid.Braid.{Braid}
 use Rattle.stmt_table.specs.Desks.{HasRoom, IsLaid}
 use Rattle.stmt_table.specs.Joins.{IsJoinAt}
 use Rattle.stmt_table.specs.declared.desk.Desk.{Desk}
@@ -13,6 +12,7 @@ use Rattle.tile_core.specs.Plans.{places_in, walk_shape}
 use Rattle.tile_core.specs.Ranks.{place_in}
 use Rattle.tile_core.specs.Strands.{IsRound}
 use Rattle.tile_core.specs.Stretches.{moved}
+use Rattle.tile_core.specs.Braid.{Braid}
 use Rattle.tile_core.specs.declared.plan.Plan.{Plan}
 use Rattle.tile_core.specs.declared.worker.Stage.{Stage}
 use Rattle.tile_core.specs.declared.worker.Stage.TheVariants.{Working}

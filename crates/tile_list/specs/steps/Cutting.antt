@@ -4,7 +4,7 @@ use Rattle.scop_syntax.specs.Members.{In, Sorted}
 use Rattle.scop_syntax.specs.View.{instance_of}
 use Rattle.scop_syntax.specs.Walk.{Instance}
 use Rattle.scop_syntax.specs.declared.instance.Instance.{Instance as CodeInstance}
-use Rattle.loop_tree.specs.SpotView.{IsSpotOf, StandAlike, to_come}
+use Rattle.loop_tree.specs.SpotView.{to_come}
 use Rattle.loop_tree.specs.declared.spot.Spot.{Spot}
 use Rattle.loop_tree.specs.Tiling.{Tiling}
 use Rattle.loop_tree.specs.Tree.{Trees}
@@ -13,9 +13,11 @@ use Rattle.tile_list.specs.Tiles.{AreWaves, InOneTile, PartBefore, RiseByTile, T
 use Rattle.tile_list.specs.TilesView.{IsTile, firsts_of, waves_of}
 use Rattle.tile_list.specs.steps.Keys.{HaveOneWave, IsKeyOf}
 use Rattle.tile_list.specs.steps.Offsets.{offsets_from}
+use Rattle.tile_list.specs.steps.Placing.{HasCome, IsPlaceBehind}
 use Rattle.tile_list.specs.declared.cutting.Cut.{Cut}
 use Rattle.tile_list.specs.declared.list.Tile.{Tile}
 use Rattle.tile_list.specs.declared.list.TileList.{TileList}
+use Rattle.tile_list.specs.declared.place.Front.{Front}
 
 -- the instances are cut into closed parts, one that begins with x and still grows, and the rest
 pub record IsCut (tiling : Tiling) (xs : List Instance) (closed : List (List Instance)) (x : Instance)
@@ -45,9 +47,9 @@ pub record IsCutTo (ts : Trees) (params : List ℤ) (tiling : Tiling) (rest : Li
   pub key : IsKeyOf tiling (instance_of cut.current.first) cut.key
 
 -- a tile of one instance
-pub record IsNewTile (first : CodeInstance) (spot : Spot) (wave : ℕ) (tile : Tile) : Type 0 where
+pub record IsNewTile (first : CodeInstance) (front : Front) (spot : Spot) (wave : ℕ) (tile : Tile) : Type 0 where
   pub first_is : tile.first ≡ first
-  pub spot_is : StandAlike tile.spot spot
+  pub place_is : IsPlaceBehind front spot tile.place
   pub wave_is : tile.wave ≡ wave
   pub size : tile.size ≡ 1
 
@@ -55,7 +57,7 @@ pub record IsNewTile (first : CodeInstance) (spot : Spot) (wave : ℕ) (tile : T
 pub record HasGrown (count : ℕ) (old new : Cut) : Type 0 where
   pub tiles : new.tiles.items ≡ old.tiles.items
   pub first : new.current.first ≡ old.current.first
-  pub spot : StandAlike new.current.spot old.current.spot
+  pub place : new.current.place ≡ old.current.place
   pub wave : new.current.wave ≡ old.current.wave
   pub size : new.current.size ≡ old.current.size + count
   pub key : new.key ≡ old.key
@@ -66,20 +68,20 @@ pub record IsWaveOf (cut : Cut) (n : ℕ) : Type 0 where
   pub other : (HaveOneWave cut.next cut.key → ⊥) → n ≡ cut.current.wave + 1
 
 -- the current tile is at its end, and the next one begins with an instance
-pub record HasBegun (first : CodeInstance) (spot : Spot) (old new : Cut) : Type 0 where
+pub record HasBegun (first : CodeInstance) (front : Front) (spot : Spot) (old new : Cut) : Type 0 where
   pub tiles : new.tiles.items ≡ old.tiles.items ++ old.current ∷ []
-  pub current : (n : ℕ) × IsWaveOf old n × IsNewTile first spot n new.current
+  pub current : (n : ℕ) × IsWaveOf old n × IsNewTile first front spot n new.current
   pub key : new.key ≡ old.next
 
 -- the first of the visits of trees is in its tile
-pub record Begins (tiling : Tiling) (x : Instance) (spot : Spot) (cut : Cut) : Type 0 where
-  pub cut_is : (ts : Trees) (params : List ℤ) → IsSpotOf ts params spot → visits ts params ≡ x ∷ to_come ts params spot
-      → IsCutTo ts params tiling (to_come ts params spot) cut
+pub record Begins (tiling : Tiling) (x : Instance) (front : Front) (spot : Spot) (cut : Cut) : Type 0 where
+  pub cut_is : (ts : Trees) (params : List ℤ) → HasCome ts params front spot
+      → visits ts params ≡ x ∷ to_come ts params spot → IsCutTo ts params tiling (to_come ts params spot) cut
   pub key : IsKeyOf tiling x cut.key
 
 -- so is the next one of the visits of trees, which rise by tile
-pub record Takes (tiling : Tiling) (x : Instance) (spot : Spot) (old new : Cut) : Type 0 where
-  pub cut : (ts : Trees) (params : List ℤ) → RiseByTile tiling (visits ts params) → IsSpotOf ts params spot
+pub record Takes (tiling : Tiling) (x : Instance) (front : Front) (spot : Spot) (old new : Cut) : Type 0 where
+  pub cut : (ts : Trees) (params : List ℤ) → RiseByTile tiling (visits ts params) → HasCome ts params front spot
       → IsCutTo ts params tiling (x ∷ to_come ts params spot) old
       → IsCutTo ts params tiling (to_come ts params spot) new
   pub key : IsKeyOf tiling x new.key

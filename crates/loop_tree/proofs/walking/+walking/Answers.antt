@@ -126,7 +126,7 @@ walk_values-returns g t c = λ l s.
     let start_is = to_z-of_z w128 start fits in
     let first_is = to_z-of_z w128 c.args.first c.ranges.first in
     let last_is = to_z-of_z w128 c.args.last c.ranges.last in
-    let r = c.skip_values-start.ensures.shown params outer l s in
+    let r = c.skip_values-start.ensures.shown l s in
     let all : r.0 ++ turns_shown body params outer (to_z w128 (of_z w128 start)) last
     ≡ l ++ turns_shown body params outer c.args.first c.args.last =
     ap (λ (z : ℤ). r.0 ++ turns_shown body params outer z last) start_is

@@ -10,6 +10,7 @@ abbrev pub invariant-loop-instance : goal.invariant-loop-instance
 invariant-loop-instance l = record {
   spot : IsSpotOf (trees_in l.tree) l.params l.spot;
   cut : IsCutTo (trees_in l.tree) l.params (tiling_of l.tiling) (to_come (trees_in l.tree) l.params l.spot) l.cut;
+  front : length l.front.steps.items ≡ deep_all (trees_in l.tree);
   room : length l.scout.spot.marks.items ≡ deep_all (trees_in l.tree);
 }
 

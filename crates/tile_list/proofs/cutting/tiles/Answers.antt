@@ -11,6 +11,9 @@ use Rattle.tile_list.proofs.cutting.tiles.Goals as goal
 pub next-requires-clause-spot : goal.next-requires-clause-spot
 next-requires-clause-spot c = c.in_ok-spot.ensures.spot c.args.params.now
 
+pub next-requires-clause-room : goal.next-requires-clause-room
+next-requires-clause-room c = c.in_ok-front.ensures ∙ (c.in_ok-spot.ensures.spot c.args.params.now).room
+
 pub returns-in-None : goal.returns-in-None
 returns-in-None c =
     let ts = trees_in c.args.tree.now in

@@ -1,0 +1,35 @@
+use Rattle.std.proofs.Common.{◌≡◌, ◌∙◌, ◌++◌, List, [], ap, ap₂, arith, map}
+use Rattle.std.specs.Vec.{with_items}
+use Rattle.std.proofs.lemmas.List.{with_items_is}
+use Rattle.scop_syntax.specs.Walk.{Instance}
+use Rattle.loop_tree.specs.Bookmarks.{kept_in, without_last}
+use Rattle.loop_tree.specs.Spot.{Mark, rest_of}
+use Rattle.loop_tree.specs.SpotView.{marks_of}
+use Rattle.loop_tree.specs.View.{trees_in}
+use Rattle.loop_tree.specs.declared.spot.Mark.{Mark as CodeMark}
+use Rattle.loop_tree.proofs.Bookmarks.{rest_without_last}
+use Rattle.loop_tree.proofs.Stretches.{nothing_left}
+use Rattle.loop_tree.proofs.spot.Spot.put.Goals as goal
+
+pub returns-clause-rest : goal.returns-clause-rest
+returns-clause-rest c =
+    let ts = trees_in c.args.tree.now in
+    let params = c.args.params.now in
+    let steps = map kept_in c.args.steps.now in
+    let laid = with_items c.args.self.now.marks c.put_marks.new.marks in
+    let new = c.put_lasts.new.marks in
+    let a = c.put_marks.ensures.room in
+    let b = c.as_mut_slice.ensures.len in
+    let d = c.put_lasts.ensures.room in
+    let e = c.as_mut_slice-2.ensures.len in
+    let laid_is : laid.items ≡ c.put_marks.new.marks =
+    with_items_is c.args.self.now.marks c.put_marks.new.marks (omega (arith, a, b)) in
+    let new_is : (with_items laid new).items ≡ new = with_items_is laid new (omega (arith, d, e)) in
+    let alike : map without_last (marks_of new) ≡ map without_last steps =
+    c.put_lasts.ensures.put.alike
+    ∙ ap (λ (ms : List Mark). map without_last ms)
+    (ap (λ (ms : List CodeMark). marks_of ms) (c.as_mut_slice-2.ensures.value ∙ laid_is) ∙ c.put_marks.ensures.kept) in
+    ap₂ (λ (is js : List Instance). is ++ (js ++ rest_of ts (marks_of (with_items laid new).items) params []))
+    (nothing_left c.empty-self.result c.empty-self.ensures) c.empty-self-2.ensures.nothing
+    ∙ (ap (λ (ms : List CodeMark). rest_of ts (marks_of ms) params []) new_is
+    ∙ rest_without_last ts (marks_of new) steps params [] alike)
