@@ -6,6 +6,7 @@ ghost use Rattle.integer_sets.specs.Points.{Satisfies};
 ghost use Rattle.fm_projection.specs.Alone.{last_alone};
 ghost use Rattle.fm_projection.specs.Condensed.{condensed};
 ghost use Rattle.fm_projection.specs.Projecting.{HoldsForSomeBetween, gone};
+ghost use Rattle.traced_projections.specs.Projections.{system_in};
 
 use fm_projection::{
     FmStop, condensed_systems_have_the_same_points, eliminations_are_exact_one_after_another,
@@ -13,6 +14,7 @@ use fm_projection::{
 };
 use integer_sets::System;
 use std::alloc::Global;
+use traced_projections::Projection;
 
 /// A dimension less, by the clause of `without`.
 pub fn without_a_dimension(
@@ -34,6 +36,15 @@ pub fn last_of(alloc: Global, system: &System) -> Result<System, FmStop>
         → left.equalities ≡ system.now.equalities) }
 {
     last_alone(alloc, system)
+}
+
+/// A whole point without its first entry is one of what is left, by `points` of `Projection::without`.
+pub fn rest_of(alloc: Global, projection: &Projection) -> Result<Projection, FmStop>
+    requires { 0 < (system_in projection.now).dimensions }
+    ensures { IfOk result (λ left. (x : ℤ) (rest : List ℤ) → Satisfies (system_in projection.now) (x ∷ rest)
+        → Satisfies (system_in left) rest) }
+{
+    projection.without(alloc, 0)
 }
 
 /// The first dimension's elimination over fractions, by `gone` of `eliminations_are_exact_one_after_another`, and the

@@ -10,9 +10,8 @@ use Rattle.whole_numbers.specs.Lists.{zeros}
 use Rattle.whole_numbers.specs.Affine.{Affine, value_of}
 use Rattle.whole_numbers.proofs.Dot.{length-zeros}
 use Rattle.fractions.specs.Elimination.{coefficient_of}
-use Rattle.fm_projection.specs.Projecting.{projected}
 use Rattle.fm_projection.specs.Alone.{place_form}
-use Rattle.fm_projection.proofs.WholePoints.{follow, projected_sized, one_more}
+use Rattle.fm_projection.proofs.WholePoints.{one_more}
 use Rattle.loop_tree.specs.Tree.{Trees, loop, more, none}
 use Rattle.plain_scan.specs.declared.set_outline.Outline.{Outline}
 use Rattle.integer_sets.specs.Scanned.{Scanned}
@@ -21,7 +20,6 @@ use Rattle.plain_scan.specs.Sets.{leaves}
 use Rattle.plain_scan.specs.Rows.{low_bounds, high_bounds, ServesOn}
 use Rattle.fm_projection.specs.Alone.{AreInRange}
 use Rattle.plain_scan.specs.Pieces.{Piece, loops_of, AreEnough}
-use Rattle.plain_scan.specs.Shadows.{IsShadow}
 use Rattle.plain_scan.specs.Sorting.{lows_in, highs_in}
 use Rattle.plain_scan.specs.Hulls.{flags, HoldsAt, IsAlike, IsHull, IsHullRow, AreHullRows, sets_in}
 use Rattle.plain_scan.specs.Hulls.{hull_piece, own_leaf}
@@ -32,24 +30,12 @@ use Rattle.plain_scan.proofs.Shape.{flat_lows, flat_highs}
 use Rattle.plain_scan.proofs.ConstraintLists.{zeros_of, of_zeros, rows_of, of_rows}
 use Rattle.plain_scan.proofs.Nodes.{length_end, tests_hold, hold_tests}
 use Rattle.plain_scan.proofs.Pieces.{dimension_serves, end_serves}
-use Rattle.plain_scan.proofs.Shadows.{whole_shadow, shadow_less}
 use Rattle.loop_tree.specs.Fits.{AreSmallForms, AreSmallTrees, IsSmall}
 use Rattle.plain_scan.specs.Giving.{TurnsOn}
 use Rattle.plain_scan.specs.Outlines.{HasSmallConstraints}
 use Rattle.plain_scan.proofs.VisitIterators.{loop_gives}
 use Rattle.plain_scan.proofs.Smallness.{high_is_number, is_small, loop_small, low_is_number}
 use Rattle.plain_scan.proofs.SortedRows.{lows_are_low, highs_are_high, lows_hold, highs_hold, lows_of, highs_of}
-
--- a set's projections are its shadows
-pub projected_shadow : (n m : ℕ) (s : Scanned) → n + m ≡ s.system.dimensions → IsShadow m s (projected n s.system)
-projected_shadow zero m s count =
-    let e : s.system.dimensions ≡ m = omega (arith, count) in subst (λ k. IsShadow k s s.system) e (whole_shadow s)
-projected_shadow (suc n) m s count =
-    let more = projected_shadow n (suc m) s (omega (arith, count)) in
-    let place : s.system.dimensions - suc n ≡ m = omega (arith, count) in
-    shadow_less m s (projected n s.system) (projected (suc n) s.system) (omega (arith, count)) more
-    (λ outer x params size h. follow (s.system.dimensions - suc n) (projected n s.system) outer x params (size
-    ∙ sym place) h)
 
 -- rows that hold at a key of one of the sets
 pub row_holds : (depth place : ℕ) (f : Affine) (o : Outline) → o.set.now.system.dimensions ≡ place + suc depth
@@ -58,12 +44,10 @@ pub row_holds : (depth place : ℕ) (f : Affine) (o : Outline) → o.set.now.sys
     → IsKeyOf params (o.set.now) (outer ++ x ∷ r)
     → pos 0 ≤ℤ value_of f (outer ++ x ∷ params)
 row_holds depth place f o dims h params outer x r range size k =
-    let s = o.set.now in
-    let shadow = projected_shadow depth (suc place) s (omega (arith, dims)) in
     let n : length (outer ++ x ∷ []) ≡ suc place = length_end outer x ∙ ap suc size in
-    let sat = shadow params (outer ++ x ∷ []) r n (subst (IsKeyOf params s) (sym (one_more outer x r)) k) in
     subst (λ (q : List ℤ). pos 0 ≤ℤ value_of f q) (one_more outer x params)
-    (h (outer ++ x ∷ []) params range (omega (arith, n, dims)) sat)
+    (h params (outer ++ x ∷ []) r range (omega (arith, n, dims))
+    (subst (IsKeyOf params o.set.now) (sym (one_more outer x r)) k))
 
 key_holds : (depth place : ℕ) (f : Affine) (os : List Outline)
     → All (λ o. o.set.now.system.dimensions ≡ place + suc depth) os → All (HoldsAt depth f) os
@@ -177,12 +161,8 @@ pub alike_of : (depth place p n : ℕ) (o : Outline) → o.set.now.system.dimens
     → depth < n
     → place ≡ n - 1 - depth → IsAlike depth (place + 1 + p) o
 alike_of depth place p n o dims params less at =
-    let few : depth ≤ o.set.now.system.dimensions = omega (arith, dims, less) in
-    let s = projected_sized depth o.set.now.system few o.are.sized in
-    let d = s.0 in
-    let q = s.1 in
     let count = o.are.count in
-    record { inside = omega (arith, count, dims, less); count = omega (arith, d, q, dims, params, less, at) }
+    record { inside = omega (arith, count, dims, less); count = omega (arith, dims, params, less, at) }
 
 pub next_serves : (depth place n p : ℕ) (os : List Outline) (fs rows : List Affine)
     (h : IsHull depth place (place + 1 + p) os fs) → rows ≡ fs → depth < n

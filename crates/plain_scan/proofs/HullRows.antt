@@ -8,20 +8,19 @@ use Rattle.whole_numbers.proofs.Dot.{length-zeros}
 use Rattle.affine_forms.specs.Parts.{variables_of}
 use Rattle.std.proofs.Math.Seq.{get_or-append_seam}
 use Rattle.whole_numbers.proofs.Ring.{mul_one_left, mul_neg_left}
-use Rattle.fm_projection.proofs.WholePoints.{projected_sized, one_more}
-use Rattle.fm_projection.proofs.Ranges.{last_value, place_value}
+use Rattle.fm_projection.proofs.WholePoints.{one_more}
+use Rattle.fm_projection.proofs.Ranges.{place_value}
 use Rattle.fm_projection.specs.Alone.{AreInRange}
 use Rattle.std.proofs.lemmas.Int.{ints}
 use Rattle.std.proofs.lemmas.List.Elements.{All-append, All-cons, All-nil}
 use Rattle.whole_numbers.specs.Affine.{Affine, value_of, form_of}
-use Rattle.integer_sets.specs.Constraints.{Constraints}
-use Rattle.integer_sets.specs.Points.{Satisfies}
-use Rattle.fm_projection.specs.Projecting.{projected}
+use Rattle.integer_sets.specs.Scanned.{Scanned}
 use Rattle.fm_projection.specs.Alone.{place_form}
 use Rattle.plain_scan.specs.Between.{HasSmallNumbers}
 use Rattle.plain_scan.specs.declared.outline.Shadow.{Shadow}
 use Rattle.plain_scan.specs.declared.set_outline.Outline.{Outline}
-use Rattle.plain_scan.specs.Outlines.{AreRows, IsShadowOf}
+use Rattle.plain_scan.specs.Sets.{IsKeyOf}
+use Rattle.plain_scan.specs.Outlines.{IsRowBefore, IsShadowOf}
 use Rattle.plain_scan.specs.Hulls.{Hold, HoldsAt, IsAlike, IsHullRow, AreHullRows, IsHull}
 use Rattle.plain_scan.proofs.Rows.{weaker_row}
 use Rattle.plain_scan.proofs.Smallness.{place_has_small}
@@ -29,8 +28,8 @@ use Rattle.std.specs.Prelude.{◌≤◌, ◌^◌, unsigned_abs}
 
 pub weaker : (depth : ℕ) (cs : List ℤ) (c d : ℤ) (o : Outline) → c ≤ℤ d → HoldsAt depth (form_of cs c) o
     → HoldsAt depth (form_of cs d) o
-weaker depth cs c d o less h = λ front params range size s. weaker_row cs c d (front ++ params) less
-    (h front params range size s)
+weaker depth cs c d o less h = λ params outer r range size key. weaker_row cs c d (outer ++ params) less
+    (h params outer r range size key)
 
 -- one element more
 pub next_at : (Q : Outline → Type 0) (xs : List Outline) (i : ℕ) (o : Outline) → o ≡ get_or xs i o → i < length xs
@@ -43,15 +42,17 @@ next_at Q (x ∷ xs) (suc i) o is inside all one (suc k) d less =
     next_at Q xs i o is (omega (arith, inside)) (λ j e l. all (suc j) e (omega (arith, l))) one k d
     (omega (arith, less))
 
--- the rows of a shadow hold at each point of the projection
-pub rows_at : (t : Constraints) (fs : List Affine) (point : List ℤ) → AreRows t fs → Satisfies t point → Hold fs point
-rows_at t fs point rows h = λ k d inside. (rows k d inside).holds point h
+-- the rows of a shadow hold at each key of the set
+pub rows_at : (n : ℕ) (s : Scanned) (fs : List Affine) (params outer r : List ℤ) → All (IsRowBefore n s) fs
+    → AreInRange params → length outer + n ≡ s.system.dimensions → IsKeyOf params s (outer ++ r)
+    → Hold fs (outer ++ params)
+rows_at n s fs params outer r rows range size key = λ k d inside. (rows k d inside).holds params outer r range size key
 
 pub own_row : (depth : ℕ) (cs : List ℤ) (c : ℤ) (o : Outline) (fs : List Affine)
-    → AreRows (projected depth o.set.now.system) fs
+    → All (IsRowBefore depth o.set.now) fs
     → ((point : List ℤ) → Hold fs point → pos 0 ≤ℤ value_of (form_of cs c) point) → HoldsAt depth (form_of cs c) o
-own_row depth cs c o fs rows h = λ front params range size s. h (front ++ params)
-    (rows_at (projected depth o.set.now.system) fs (front ++ params) rows s)
+own_row depth cs c o fs rows h = λ params outer r range size key. h (outer ++ params)
+    (rows_at depth o.set.now fs params outer r rows range size key)
 
 -- the last value in front of the parameters
 last_of : (front : List ℤ) (m : ℕ) → length front ≡ suc m → (outer : List ℤ) × (x : ℤ) × (front ≡ outer ++ x ∷ [])
@@ -72,20 +73,6 @@ any_of (x ∷ xs) k inside = x
 any_shadow : (o : Outline) (k : ℕ) → k < length o.shadows.items → Shadow
 any_shadow o k inside = any_of o.shadows.items k inside
 
--- the numbers of a shadow hold at the projection's points
-pub between_at : (depth place : ℕ) (o : Outline) (d : Shadow) → depth < length o.shadows.items
-    → o.set.now.system.dimensions ≡ place + suc depth
-    → (outer : List ℤ) (x : ℤ) (params : List ℤ) → AreInRange params → length outer ≡ place
-    → Satisfies (projected depth o.set.now.system) (outer ++ x ∷ params)
-    → ((get_or o.shadows.items depth d).low ≤ℤ x) × (x ≤ℤ (get_or o.shadows.items depth d).high)
-between_at depth place o d inside dims outer x params range size s =
-    let sys = o.set.now.system in
-    let t = projected depth sys in
-    let p = projected_sized depth sys (omega (arith, dims)) o.are.sized in
-    let td = p.0 in
-    let alone = last_value t outer x params p.2 (omega (arith, size, td, dims)) range s in
-    (o.are.each depth d inside).between x alone
-
 number_value : (n place : ℕ) (k c : ℤ) (outer : List ℤ) (x : ℤ) (params : List ℤ) → place < n → length outer ≡ place
     → value_of (place_form n place k c) ((outer ++ x ∷ []) ++ params) ≡ (k *ℤ x) +ℤ c
 number_value n place k c outer x params inside size =
@@ -96,37 +83,45 @@ number_value n place k c outer x params inside size =
     subst (λ (z : ℤ). value_of (place_form n place k c) ((outer ++ x ∷ []) ++ params) ≡ (k *ℤ z) +ℤ c) g
     (ap (λ (q : List ℤ). value_of (place_form n place k c) q) e ∙ v)
 
+-- the numbers of a shadow hold at each key
+between_at : (depth place : ℕ) (o : Outline) (d : Shadow) → depth < length o.shadows.items
+    → o.set.now.system.dimensions ≡ place + suc depth
+    → (params outer : List ℤ) (x : ℤ) (r : List ℤ) → AreInRange params → length outer ≡ place
+    → IsKeyOf params o.set.now ((outer ++ x ∷ []) ++ r)
+    → ((get_or o.shadows.items depth d).low ≤ℤ x) × (x ≤ℤ (get_or o.shadows.items depth d).high)
+between_at depth place o d inside dims params outer x r range size key =
+    (o.are.each depth d inside).between params outer x r range (omega (arith, size, dims))
+    (subst (IsKeyOf params o.set.now) (one_more outer x r) key)
+
 pub low_holds : (depth place n : ℕ) (low number : ℤ) (o : Outline) → place < n
     → o.set.now.system.dimensions ≡ place + suc depth → depth < length o.shadows.items
     → number ≡ neg_ℤ low → ((d : Shadow) → low ≤ℤ (get_or o.shadows.items depth d).low)
     → HoldsAt depth (place_form n place (pos 1) number) o
-low_holds depth place n low number o inside dims here is least front params range size s =
-    let r = last_of front place (omega (arith, size, dims)) in
-    let t = projected depth o.set.now.system in
-    let s2 = subst (λ (q : List ℤ). Satisfies t (q ++ params)) r.2 s in
-    let s3 = subst (Satisfies t) (one_more r.0 r.1 params) s2 in
-    let b = (between_at depth place o (any_shadow o depth here) here dims r.0 r.1 params range r.3 s3).0 in
-    let l = least (any_shadow o depth here) in
-    let v = number_value n place (pos 1) number r.0 r.1 params inside r.3 in
-    let one = mul_one_left r.1 in
-    subst (λ (q : List ℤ). pos 0 ≤ℤ value_of (place_form n place (pos 1) number) (q ++ params)) (sym r.2)
+low_holds depth place n low number o inside dims here is least params front r range size key =
+    let q = last_of front place (omega (arith, size, dims)) in
+    let key2 = subst (λ (zs : List ℤ). IsKeyOf params o.set.now (zs ++ r)) q.2 key in
+    let d = any_shadow o depth here in
+    let b = (between_at depth place o d here dims params q.0 q.1 r range q.3 key2).0 in
+    let l = least d in
+    let v = number_value n place (pos 1) number q.0 q.1 params inside q.3 in
+    let one = mul_one_left q.1 in
+    subst (λ (zs : List ℤ). pos 0 ≤ℤ value_of (place_form n place (pos 1) number) (zs ++ params)) (sym q.2)
     (omega (arith, ints, v, one, b, l, is))
 
 pub high_holds : (depth place n : ℕ) (high : ℤ) (o : Outline) → place < n
     → o.set.now.system.dimensions ≡ place + suc depth → depth < length o.shadows.items
     → ((d : Shadow) → (get_or o.shadows.items depth d).high ≤ℤ high)
     → HoldsAt depth (place_form n place (negsuc 0) high) o
-high_holds depth place n high o inside dims here most front params range size s =
-    let r = last_of front place (omega (arith, size, dims)) in
-    let t = projected depth o.set.now.system in
-    let s2 = subst (λ (q : List ℤ). Satisfies t (q ++ params)) r.2 s in
-    let s3 = subst (Satisfies t) (one_more r.0 r.1 params) s2 in
-    let b = (between_at depth place o (any_shadow o depth here) here dims r.0 r.1 params range r.3 s3).1 in
-    let l = most (any_shadow o depth here) in
-    let v = number_value n place (negsuc 0) high r.0 r.1 params inside r.3 in
-    let one = mul_neg_left (pos 1) r.1 in
-    let two = mul_one_left r.1 in
-    subst (λ (q : List ℤ). pos 0 ≤ℤ value_of (place_form n place (negsuc 0) high) (q ++ params)) (sym r.2)
+high_holds depth place n high o inside dims here most params front r range size key =
+    let q = last_of front place (omega (arith, size, dims)) in
+    let key2 = subst (λ (zs : List ℤ). IsKeyOf params o.set.now (zs ++ r)) q.2 key in
+    let d = any_shadow o depth here in
+    let b = (between_at depth place o d here dims params q.0 q.1 r range q.3 key2).1 in
+    let l = most d in
+    let v = number_value n place (negsuc 0) high q.0 q.1 params inside q.3 in
+    let one = mul_neg_left (pos 1) q.1 in
+    let two = mul_one_left q.1 in
+    subst (λ (zs : List ℤ). pos 0 ≤ℤ value_of (place_form n place (negsuc 0) high) (zs ++ params)) (sym q.2)
     (omega (arith, ints, v, one, two, b, l))
 
 pub no_greater : (a b c : ℤ) → a ≤ℤ b → b ≤ℤ c → a ≤ℤ c
@@ -209,11 +204,13 @@ pub first_row : (depth place n : ℕ) (outlines : List Outline) (o : Outline) (h
 first_row depth place n outlines o h fs k f alike inside some at is here one =
     let first = get_or outlines 0 o in
     let same : IsAlike depth n first = alike 0 o some in
-    let t = projected depth first.set.now.system in
-    let shadow = subst (IsShadowOf t) (sym at) (first.are.each depth h same.inside) in
-    let rows = subst (AreRows t) (sym is) shadow.rows in
+    let shadow = subst (IsShadowOf depth first.set.now) (sym at) (first.are.each depth h same.inside) in
+    let rows = subst (All (IsRowBefore depth first.set.now)) (sym is) shadow.rows in
     let row = rows k f here in
-    let size : variables_of f ≡ n = ap variables_of one ∙ row.sized ∙ same.count in
+    let own = ap variables_of one in
+    let wide = row.sized in
+    let count = same.count in
+    let size : variables_of f ≡ n = omega (arith, own, wide, count) in
     record {
       inside = omega (arith, size, inside);
       alike = subst (λ m. All (IsAlike depth m) outlines) (sym size) alike;

@@ -311,7 +311,7 @@ open_has_none s bounded o params values range size h =
     t : Constraints
     t = last_alone (projected o.before s)
 
-    by_side : (x : ℤ) → Satisfies t (x ∷ []) → IsOpen (projected o.before s) → ⊥
+    by_side : (x : ℤ) → Satisfies t (x ∷ []) → IsOpen t → ⊥
     by_side x k (inl below) =
         let y = negsuc (unsigned_abs x + 2 ^ 64) in
         let l = abs_low x in

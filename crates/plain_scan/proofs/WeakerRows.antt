@@ -2,7 +2,7 @@
 -- dimensions.
 use Rattle.std.proofs.Common.{◌≡◌, ◌∙◌, ℕ, zero, suc, ◌+◌, ◌<◌, ℤ, pos, List, [], ◌∷◌, ◌++◌, length, get_or, take, drop}
 use Rattle.std.proofs.Common.{ap, refl, subst, sym, arith}
-use Rattle.std.specs.Prelude.{◌*ℤ◌, ◌≤ℤ◌, ⊤}
+use Rattle.std.specs.Prelude.{◌*ℤ◌, ◌≤ℤ◌, ⊤, All}
 use Rattle.std.proofs.lemmas.Int.{ints}
 use Rattle.std.proofs.lemmas.List.Elements.{All-tail}
 use Rattle.whole_numbers.specs.Lists.{dot}
@@ -15,13 +15,12 @@ use Rattle.whole_numbers.proofs.Order.{mul_le, mul_not_negative}
 use Rattle.whole_numbers.proofs.Values.{value_of-multiple}
 use Rattle.affine_forms.specs.Parts.{variables_of}
 use Rattle.fm_projection.specs.Alone.{AreInRange}
-use Rattle.fm_projection.specs.Projecting.{projected}
 use Rattle.fm_projection.proofs.Exact.{lowest_sized}
 use Rattle.loop_tree.specs.Walk.{max_z}
 use Rattle.loop_tree.proofs.Extremes.{below_max, max_below}
 use Rattle.plain_scan.specs.declared.set_outline.Outline.{Outline}
 use Rattle.plain_scan.specs.Between.{HasSmallNumbers}
-use Rattle.plain_scan.specs.Outlines.{AreRows}
+use Rattle.plain_scan.specs.Outlines.{IsRowBefore}
 use Rattle.plain_scan.specs.Hulls.{HoldsAt}
 use Rattle.plain_scan.specs.Weaker.{IsWeaker, Follows, IsAbove, greater_numbers, greater_form}
 use Rattle.plain_scan.proofs.HullRows.{rows_at}
@@ -160,13 +159,13 @@ multiples_above m a b g h left right f first second left_is right_is above = rec
 -- a weaker row holds at a set, too
 pub weaker_holds : (depth place : ℕ) (o : Outline) (g f : Affine) → o.set.now.system.dimensions ≡ place + suc depth
     → IsWeaker (suc place) g f → HoldsAt depth g o → HoldsAt depth f o
-weaker_holds depth place o g f dims weaker holds front params range size s =
-    weaker front params (omega (arith, size, dims)) range (holds front params range size s)
+weaker_holds depth place o g f dims weaker holds params outer r range size key =
+    weaker outer params (omega (arith, size, dims)) range (holds params outer r range size key)
 
 -- so does one that follows from rows of the set
 pub following_holds : (depth place : ℕ) (o : Outline) (gs : List Affine) (f : Affine)
-    → o.set.now.system.dimensions ≡ place + suc depth → AreRows (projected depth o.set.now.system) gs
+    → o.set.now.system.dimensions ≡ place + suc depth → All (IsRowBefore depth o.set.now) gs
     → Follows (suc place) gs f → HoldsAt depth f o
-following_holds depth place o gs f dims rows follows front params range size s =
-    follows front params (omega (arith, size, dims)) range
-    (rows_at (projected depth o.set.now.system) gs (front ++ params) rows s)
+following_holds depth place o gs f dims rows follows params outer r range size key =
+    follows outer params (omega (arith, size, dims)) range
+    (rows_at depth o.set.now gs params outer r rows range size key)

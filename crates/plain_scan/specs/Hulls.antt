@@ -1,15 +1,14 @@
 -- Rows that hold at each point of each of several sets.
 use Rattle.std.specs.Option.{option_eq}
-use Rattle.std.specs.Prelude.{◌≡◌, ℕ, zero, suc, eqb, Option, Some, Bool, ◌<◌, ◌+◌, ◌++◌, ℤ, pos, negsuc, ◌≤ℤ◌, List}
+use Rattle.std.specs.Prelude.{◌≡◌, ℕ, zero, suc, eqb, Option, Some, Bool, ◌<◌, ◌+◌, ℤ, pos, negsuc, ◌≤ℤ◌, List}
 use Rattle.std.specs.Prelude.{[], ◌∷◌, length, All}
 use Rattle.whole_numbers.specs.Affine.{Affine, value_of}
 use Rattle.affine_forms.specs.Parts.{variables_of}
 use Rattle.integer_sets.specs.Constraints.{variables_in}
-use Rattle.integer_sets.specs.Points.{Satisfies}
 use Rattle.integer_sets.specs.Scanned.{Scanned}
-use Rattle.fm_projection.specs.Projecting.{projected}
-use Rattle.fm_projection.specs.Alone.{AreInRange, place_form}
+use Rattle.fm_projection.specs.Alone.{place_form}
 use Rattle.plain_scan.specs.Between.{HasSmallNumbers}
+use Rattle.plain_scan.specs.Outlines.{HoldsBefore}
 use Rattle.loop_tree.specs.Tree.{Tree, Trees, instance}
 use Rattle.plain_scan.specs.declared.set_outline.Outline.{Outline}
 use Rattle.plain_scan.specs.Sets.{Leaf, tests_of, turn_forms, under}
@@ -20,15 +19,14 @@ use Rattle.plain_scan.specs.Sorting.{lows_in, highs_in}
 abbrev pub Hold : List Affine → List ℤ → Type 0
 Hold fs point = All (λ f. pos 0 ≤ℤ value_of f point) fs
 
--- the set's projection without so many dimensions has at least one, and speaks of n variables
+-- the set has more dimensions than so many, and n variables without these
 pub record IsAlike (depth n : ℕ) (o : Outline) : Type 0 where
   pub inside : depth < length o.shadows.items
-  pub count : variables_in (projected depth o.set.now.system) ≡ n
+  pub count : variables_in o.set.now.system ≡ n + depth
 
--- the row is at least 0 at each whole point of the projection, for parameters in range
+-- the row is at least 0 at each key of the set, for parameters in range
 abbrev pub HoldsAt : ℕ → Affine → Outline → Type 0
-HoldsAt depth f o = (front params : List ℤ) → AreInRange params → length front + depth ≡ o.set.now.system.dimensions
-    → Satisfies (projected depth o.set.now.system) (front ++ params) → pos 0 ≤ℤ value_of f (front ++ params)
+HoldsAt depth f o = HoldsBefore depth o.set.now f
 
 -- a row over n variables that holds at each of the sets' projections
 pub record IsHullRow (depth n : ℕ) (outlines : List Outline) (f : Affine) : Type 0 where

@@ -1,22 +1,23 @@
 //! The projections of a set, dimension by dimension: rows that hold there, and numbers between which the dimension
-//! lies.
+//! lies. They are those that trace their rows; where a bound is missing there, the exact ones.
 
 ghost use Rattle.std.specs.Prelude.{◌≡◌, ◌<◌, ◌^◌, IfErr};
 ghost use Rattle.std.specs.Prelude.{IfOk, MatchOption, None, OnOk, IfSome, Ok, Err};
-ghost use Rattle.integer_sets.specs.Constraints.{Constraints, variables_in};
-ghost use Rattle.plain_scan.specs.Between.{HasSmallNumbers};
-ghost use Rattle.fm_projection.specs.Alone.{last_alone};
+ghost use Rattle.integer_sets.specs.Constraints.{Constraints, IsSized, variables_in};
 ghost use Rattle.fm_projection.specs.declared.stop.FmStop.TheVariants.{Large};
-ghost use Rattle.plain_scan.specs.Between.{AreNumbersOf, IsLargeOf};
+ghost use Rattle.traced_projections.specs.declared.projections.Projection.TheVariants as projection;
+ghost use Rattle.traced_projections.specs.Projections.{LastFollows, PassesAlone, alone_of, system_in};
+ghost use Rattle.plain_scan.specs.Between.{HasSmallNumbers, IsLargeOf};
 ghost use Rattle.plain_scan.specs.Outlines.{AreRows, AreShadows, HasSmallConstraints};
-ghost use Rattle.plain_scan.specs.Outlines.{IsEquality, IsNext, IsOpen, IsOpenSomewhere};
-ghost use Rattle.plain_scan.specs.Outlines.{IsRow, IsShadowOf, PassAlone, StopsSet, StopsShadow};
+ghost use Rattle.plain_scan.specs.Outlines.{IsEquality, IsNext, IsOpen, IsOpenFrom, IsOpenSomewhere};
+ghost use Rattle.plain_scan.specs.Outlines.{IsRow, IsShadowIn, StopsBy, StopsNumbers, StopsSet, StopsShadow};
 
-use crate::numbers::{Numbers, has_small_numbers, large_among, numbers_alone};
+use crate::numbers::{has_small_numbers, large_among, numbers_alone};
 use affine_forms::{Form, FormStop, push_copy};
-use fm_projection::{FmStop, last_alone, without};
+use fm_projection::FmStop;
 use integer_sets::{ScanSet, System};
 use std::alloc::{AllocError, Global};
+use traced_projections::{Projection, Traced};
 
 /// Rows of small numbers of a projection, and two numbers between which its last dimension lies.
 #[derive(Drop)]
@@ -117,6 +118,7 @@ fn rows_of(alloc: Global, system: &System) -> Result<Vec<Form>, AllocError>
 /// A number of a system's constraints that is beyond 2^40.
 fn large_of(system: &System) -> Option<i128>
     ensures none { result ≡ None → HasSmallConstraints system.now }
+    ensures sized { result ≡ None → IsSized (variables_in system.now) system.now.equalities system.now.rows }
     ensures some { IfSome result (IsLargeOf system.now) }
 {
     match large_among(system.equalities()) {
@@ -135,17 +137,18 @@ fn without_shadow(large: Option<i128>) -> Result<Option<Shadow>, FmStop>
     }
 }
 
-/// The shadow of a projection whose last dimension lies between these numbers.
+/// The shadow of a projection of which this is left of its last dimension alone.
 fn shadow_between(
     alloc: Global,
     projection: &System,
-    numbers: Numbers,
+    alone: &System,
 ) -> Result<Option<Shadow>, FmStop>
-    requires numbers { AreNumbersOf (last_alone projection.now) numbers }
-    requires passed { PassAlone projection.now }
-    ensures found { IfOk result (λ found. MatchOption found (IsOpen projection.now) (IsShadowOf projection.now)) }
-    ensures stops { IfErr result (StopsShadow projection.now) }
+    requires dimensions { alone.now.dimensions ≡ 1 }
+    requires parameters { alone.now.parameters ≡ 0 }
+    ensures found { IfOk result (λ found. MatchOption found (IsOpen alone.now) (IsShadowIn projection.now alone.now)) }
+    ensures stops { IfErr result (StopsNumbers alone.now) }
 {
+    let numbers = numbers_alone(alone);
     match numbers.low {
         None => without_shadow(numbers.large),
         Some(low) => match numbers.high {
@@ -159,54 +162,50 @@ fn shadow_between(
 }
 
 /// The shadow of a projection; None where its last dimension has no bound from one side.
-fn shadow_of(alloc: Global, projection: &System) -> Result<Option<Shadow>, FmStop>
-    requires some { 0 < projection.now.dimensions }
-    requires few { variables_in projection.now < 2 ^ 32 }
-    ensures passed { IfOk result (λ found. PassAlone projection.now) }
-    ensures found { IfOk result (λ found. MatchOption found (IsOpen projection.now) (IsShadowOf projection.now)) }
+fn shadow_of(alloc: Global, projection: &Projection) -> Result<Option<Shadow>, FmStop>
+    requires some { 0 < (system_in projection.now).dimensions }
+    requires few { variables_in (system_in projection.now) < 2 ^ 32 }
+    ensures passed { IfOk result (λ found. PassesAlone projection.now) }
+    ensures follows { IfOk result (λ found. LastFollows (system_in projection.now) (alone_of projection.now)) }
+    ensures found { IfOk result (λ found. MatchOption found (IsOpen (alone_of projection.now))
+        (IsShadowIn (system_in projection.now) (alone_of projection.now))) }
     ensures stops { IfErr result (StopsShadow projection.now) }
 {
-    match last_alone(alloc, projection) {
+    match projection.alone(alloc) {
         Err(stop) => Err(stop),
-        Ok(alone) => shadow_between(alloc, projection, numbers_alone(&alone)),
+        Ok(alone) => match projection.system(alloc) {
+            Err(_) => Err(FmStop::NoMemory),
+            Ok(system) => shadow_between(alloc, &system, &alone),
+        },
     }
 }
 
-/// The projection of a set that comes behind so many others: without the last dimension of the one before it, or the set
-/// itself as the first.
-fn next_projection(alloc: Global, last: System, count: usize) -> Result<System, FmStop>
-    requires { 0 < last.dimensions }
+/// The projection that comes behind so many others: without the last dimension of the one before it, or the first
+/// itself.
+fn next_projection(alloc: Global, last: Projection, count: usize) -> Result<Projection, FmStop>
+    requires { 0 < (system_in last).dimensions }
     ensures { IsNext count last result }
 {
     if count == 0 {
         return Ok(last);
     }
-    without(alloc, &last, last.dimensions() - 1)
+    last.without(alloc, last.dimensions() - 1)
 }
 
-/// The shadows of a set's projections, that on all dimensions first; None where a dimension has no bound from one side.
-///
-/// # Errors
-/// `Wide` or `Crowded` as the first elimination that stops: of a projection's others and of the parameters, for its
-/// last dimension alone, or then of that dimension, if it is not the first; `Large` with a number beyond 2^40 of what is
-/// left of a last dimension alone, or of a constraint of the set; `NoMemory`.
-pub fn outline_of(alloc: Global, set: &ScanSet) -> Result<Option<Vec<Shadow>>, FmStop>
+/// The shadows of a set's projections of one kind, that on all dimensions first; None where a dimension has no bound
+/// from one side.
+fn outline_by(
+    alloc: Global,
+    set: &ScanSet,
+    start: Projection,
+) -> Result<Option<Vec<Shadow>>, FmStop>
     requires few { variables_in set.now.system < 2 ^ 32 }
-    ensures found { IfOk result (λ found. MatchOption found (IsOpenSomewhere set.now.system)
-        (λ v. AreShadows set.now.system v.items)) }
-    ensures stops { IfErr result (StopsSet set.now.system) }
+    requires start { system_in start ≡ set.now.system }
+    ensures found { IfOk result (λ found. MatchOption found (IsOpenFrom start) (λ v. AreShadows set.now v.items)) }
+    ensures stops { IfErr result (StopsBy set.now.system start) }
 {
     let system = set.system();
-    let mut left = match System::of(
-        alloc,
-        system.dimensions(),
-        system.parameters(),
-        system.equalities(),
-        system.rows(),
-    ) {
-        Err(_) => return Err(FmStop::NoMemory),
-        Ok(copy) => copy,
-    };
+    let mut left = start;
     let mut shadows = Vec::new(alloc);
     for count in 0..system.dimensions() {
         match next_projection(alloc, left, count) {
@@ -225,5 +224,48 @@ pub fn outline_of(alloc: Global, set: &ScanSet) -> Result<Option<Vec<Shadow>>, F
     match large_of(system) {
         Some(number) => Err(FmStop::Large { number }),
         None => Ok(Some(shadows)),
+    }
+}
+
+/// The shadows of a set's exact projections.
+fn exact_outline(alloc: Global, set: &ScanSet) -> Result<Option<Vec<Shadow>>, FmStop>
+    requires few { variables_in set.now.system < 2 ^ 32 }
+    ensures found { IfOk result (λ found. MatchOption found (IsOpenSomewhere set.now.system)
+        (λ v. AreShadows set.now v.items)) }
+    ensures stops { IfErr result (StopsBy set.now.system (projection.Exact set.now.system)) }
+{
+    let system = set.system();
+    match System::of(
+        alloc,
+        system.dimensions(),
+        system.parameters(),
+        system.equalities(),
+        system.rows(),
+    ) {
+        Err(_) => Err(FmStop::NoMemory),
+        Ok(copy) => outline_by(alloc, set, Projection::Exact(copy)),
+    }
+}
+
+/// The shadows of a set's projections, that on all dimensions first; None where a dimension has no bound from one side.
+///
+/// # Errors
+/// `Wide` or `Crowded` as the first elimination that stops: of a projection's others and of the parameters, for its
+/// last dimension alone, or then of that dimension, if it is not the first; `Large` with a number beyond 2^40 of what is
+/// left of a last dimension alone, or of a constraint of the set; `NoMemory`. The projections trace their rows; where
+/// one of them has no bound, the exact ones stop so.
+pub fn outline_of(alloc: Global, set: &ScanSet) -> Result<Option<Vec<Shadow>>, FmStop>
+    requires few { variables_in set.now.system < 2 ^ 32 }
+    ensures found { IfOk result (λ found. MatchOption found (IsOpenSomewhere set.now.system)
+        (λ v. AreShadows set.now v.items)) }
+    ensures stops { IfErr result (StopsSet set.now.system) }
+{
+    match Traced::of(alloc, set.system()) {
+        Err(_) => Err(FmStop::NoMemory),
+        Ok(traced) => match outline_by(alloc, set, Projection::Traced(traced)) {
+            Err(stop) => Err(stop),
+            Ok(None) => exact_outline(alloc, set),
+            Ok(Some(shadows)) => Ok(Some(shadows)),
+        },
     }
 }

@@ -203,6 +203,5 @@ pub implied_rows : (depth m n : ℕ) (o : Outline) (d : Shadow) (rows : List Aff
     → All (Implies m o.set.now) rows
 implied_rows depth m n o d rows alike dims is =
     subst (All (Implies m o.set.now)) (sym is) (λ k e inside params outer x r range size key.
-    let row = (o.are.each depth d alike.inside).rows k e inside in
     row_holds depth m (get_or (get_or o.shadows.items depth d).rows.items k e) o dims
-    (λ front others a b sat. row.holds (front ++ others) sat) params outer x r range size key)
+    ((o.are.each depth d alike.inside).rows k e inside).holds params outer x r range size key)

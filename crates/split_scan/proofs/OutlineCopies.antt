@@ -1,15 +1,13 @@
 -- Outlines of the sets that stay.
 use Rattle.std.proofs.Common.{◌≡◌, ℕ, zero, suc, ◌+◌, ◌<◌, Bool, true, false, List, [], ◌∷◌, ◌++◌, length, take, get_or}
-use Rattle.std.proofs.Common.{refl, sym, ap, subst, ◌∙◌, arith}
+use Rattle.std.proofs.Common.{refl, sym, ap, subst, ◌∙◌, All, arith}
 use Rattle.std.proofs.lemmas.Bool.{false≢true}
 use Rattle.std.proofs.lemmas.List.{append-nil}
-use Rattle.integer_sets.specs.Constraints.{Constraints}
 use Rattle.integer_sets.specs.Scanned.{Scanned}
-use Rattle.fm_projection.specs.Projecting.{projected}
 use Rattle.plain_scan.specs.declared.outline.Shadow.{Shadow}
 use Rattle.plain_scan.specs.declared.set_outline.Outline.{Outline}
 use Rattle.plain_scan.specs.Hulls.{sets_in}
-use Rattle.plain_scan.specs.Outlines.{AreRows, AreShadows, IsShadowOf}
+use Rattle.plain_scan.specs.Outlines.{AreShadows, IsRowBefore, IsShadowOf}
 use Rattle.plain_scan.proofs.CodeBounds.{take_next}
 use Rattle.plain_scan.proofs.WholeScans.{sets_more}
 use Rattle.split_scan.specs.Copies.{AreCopies, IsCopy, one_if}
@@ -43,22 +41,22 @@ copy_at (a ∷ xs) [] h n d inside = absurd h
 copy_at (a ∷ xs) (b ∷ ys) h zero d inside = h.0
 copy_at (a ∷ xs) (b ∷ ys) h (suc n) d inside = copy_at xs ys h.1 n d (omega (arith, inside))
 
-copied_shadow : (t : Constraints) (a b : Shadow) → IsCopy a b → IsShadowOf t a → IsShadowOf t b
-copied_shadow t a b copy h = record {
-  rows = subst (AreRows t) (sym copy.rows) h.rows;
+copied_shadow : (n : ℕ) (s : Scanned) (a b : Shadow) → IsCopy a b → IsShadowOf n s a → IsShadowOf n s b
+copied_shadow n s a b copy h = record {
+  rows = subst (All (IsRowBefore n s)) (sym copy.rows) h.rows;
   between = rw (copy.low, copy.high) h.between;
   small = rw (copy.low, copy.high) h.small;
 }
 
 -- copies of a set's shadows are its shadows
-pub copied_shadows : (s : Constraints) (xs ys : List Shadow) → AreCopies xs ys → AreShadows s xs → AreShadows s ys
+pub copied_shadows : (s : Scanned) (xs ys : List Shadow) → AreCopies xs ys → AreShadows s xs → AreShadows s ys
 copied_shadows s xs ys copies are = record {
   sized = are.sized;
   small = are.small;
   count = copies_count xs ys copies ∙ are.count;
   each = λ n d inside.
       let count = copies_count xs ys copies in
-      copied_shadow (projected n s) (get_or xs n d) (get_or ys n d) (copy_at xs ys copies n d inside)
+      copied_shadow n s (get_or xs n d) (get_or ys n d) (copy_at xs ys copies n d inside)
       (are.each n d (omega (arith, count, inside)));
 }
 

@@ -47,7 +47,7 @@ fn shadows_again(alloc: Global, shadows: &[Shadow]) -> Result<Vec<Shadow>, Alloc
 
 /// The outline of these shadows.
 fn of_shadows(set: &ScanSet, shadows: Vec<Shadow>) -> Outline
-    requires { AreShadows set.now.system shadows.items }
+    requires { AreShadows set.now shadows.items }
     ensures { result.set.now ≡ set.now }
 {
     Outline { set, shadows }

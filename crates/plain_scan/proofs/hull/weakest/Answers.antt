@@ -1,19 +1,19 @@
-use Rattle.std.proofs.Common.{rules, ◌∙◌, ◌+◌, ℕ, ◌<◌, ℤ, pos, ◌≤ℤ◌, List, get_or, ap, subst, sym, FitsSigned}
+use Rattle.std.proofs.Common.{rules, ◌∙◌, ◌+◌, ℕ, ◌<◌, ℤ, pos, ◌≤ℤ◌, List, get_or, ap, subst, sym, All, FitsSigned}
+use Rattle.std.proofs.Common.{arith}
 use Rattle.std.specs.Int.{w128}
 use Rattle.std.proofs.lemmas.Int.{to_z-of_z}
 use Rattle.whole_numbers.specs.Affine.{form_of, value_of}
 use Rattle.affine_forms.specs.Parts.{variables_of}
-use Rattle.fm_projection.specs.Projecting.{projected}
 use Rattle.plain_scan.specs.declared.outline.Shadow.{Shadow}
 use Rattle.plain_scan.specs.declared.set_outline.Outline.{Outline}
-use Rattle.plain_scan.specs.Outlines.{AreRows}
+use Rattle.plain_scan.specs.Outlines.{IsRowBefore}
 use Rattle.plain_scan.specs.Hulls.{Hold, HoldsAt, IsAlike}
 use Rattle.plain_scan.proofs.HullRows.{weaker, next_at, own_row}
 use Rattle.plain_scan.proofs.hull.weakest.Goals as goal
 use Rattle.plain_scan.proofs.hull.weakest.Goals.{After-as_slice}
 
 -- the rows of the set's shadow at the dimension
-rows_there : (c : After-as_slice) → AreRows (projected c.args.depth c.outline-item.result.set.now.system)
+rows_there : (c : After-as_slice) → All (IsRowBefore c.args.depth c.outline-item.result.set.now)
     c.as_slice.result.now
 rows_there c =
     let depth = c.args.depth in
@@ -22,7 +22,7 @@ rows_there c =
     let alike : IsAlike depth n o =
     subst (IsAlike depth n) (sym c.outline-item.is)
     (c.requires.alike c.loop-outline.outline-index o c.loop-outline-test.true) in
-    subst (AreRows (projected depth o.set.now.system))
+    subst (All (IsRowBefore depth o.set.now))
     (sym (c.as_slice.ensures.value ∙ ap (λ (h : Shadow). h.rows.items) c.index.ensures))
     (o.are.each depth _ alike.inside).rows
 
@@ -54,3 +54,7 @@ loop-outline-preserved c =
     (own_row depth cs c.in-Some.constant o c.as_slice.result.now rows own)) in
     let small = simp to_z-of_z at c.greater-worst.ensures.small in
     record { holds = simp to_z-of_z all; small = simp to_z-of_z (small inv.small c.in-Some.ensures.small) }
+
+pub returns-clause-holds : goal.returns-clause-holds
+returns-clause-holds c k d inside =
+    let past = c.loop-outline-test.false in c.loop-outline.invariant.holds k d (omega (arith, inside, past))

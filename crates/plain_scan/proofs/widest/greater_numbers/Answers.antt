@@ -1,4 +1,5 @@
-use Rattle.std.proofs.Common.{rules, ◌≡◌, ◌∙◌, ℕ, ◌+◌, suc, List, ℤ, ◌++◌, ◌∷◌, [], take, ap, ap₂, sym, arith, get_or, pos, FitsSigned}
+use Rattle.std.proofs.Common.{rules, ◌≡◌, ◌∙◌, ℕ, ◌+◌, suc, List, ℤ, ◌++◌, ◌∷◌, [], take, ap, ap₂, sym, arith, get_or}
+use Rattle.std.proofs.Common.{pos, FitsSigned}
 use Rattle.std.specs.Int.{w128}
 use Rattle.std.proofs.lemmas.Int.{to_z-of_z}
 use Rattle.std.proofs.lemmas.List.{take_all}

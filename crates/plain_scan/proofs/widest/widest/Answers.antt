@@ -1,9 +1,8 @@
-use Rattle.std.proofs.Common.{rules, ◌≡◌, ◌∙◌, suc, ◌+◌, get_or, ap, subst, sym, arith}
+use Rattle.std.proofs.Common.{rules, ◌≡◌, ◌∙◌, suc, ◌+◌, get_or, ap, subst, sym, All, arith}
 use Rattle.affine_forms.specs.Parts.{variables_of}
-use Rattle.fm_projection.specs.Projecting.{projected}
 use Rattle.plain_scan.specs.declared.outline.Shadow.{Shadow}
 use Rattle.plain_scan.specs.declared.set_outline.Outline.{Outline}
-use Rattle.plain_scan.specs.Outlines.{AreRows}
+use Rattle.plain_scan.specs.Outlines.{IsRowBefore}
 use Rattle.plain_scan.specs.Hulls.{HoldsAt, IsAlike}
 use Rattle.plain_scan.specs.Weaker.{IsAboveSome}
 use Rattle.plain_scan.proofs.HullRows.{next_at}
@@ -27,7 +26,7 @@ loop-outline-preserved c =
     subst (IsAlike depth (variables_of c.args.row.now)) (sym c.outline-item.is) (c.requires.alike i o there) in
     let dims = subst (λ (q : Outline). q.set.now.system.dimensions ≡ place + suc depth) (sym c.outline-item.is)
     (c.requires.place i o there) in
-    let own = subst (AreRows (projected depth o.set.now.system))
+    let own = subst (All (IsRowBefore depth o.set.now))
     (sym (c.as_slice.ensures.value ∙ ap (λ (h : Shadow). h.rows.items) c.index.ensures))
     (o.are.each depth _ alike.inside).rows in
     record {
@@ -37,4 +36,14 @@ loop-outline-preserved c =
           (λ k d l. weaker_holds depth place (get_or os k d) wide f
           (c.requires.place k d (omega (arith, l, there))) up.first (inv.holds k d l))
           (following_holds depth place o rows f dims own up.second);
+    }
+
+pub returns : goal.returns
+returns c =
+    let past = c.loop-outline-test.false in
+    let inv = c.loop-outline.invariant in
+    record {
+      sized = inv.sized;
+      small = inv.small;
+      holds = λ k d inside. inv.holds k d (omega (arith, inside, past));
     }

@@ -10,7 +10,7 @@ pub of_shadows-requires : goal.of_shadows-requires
 of_shadows-requires c =
     let o = c.args.outline.now in
     let copies = c.in_ok-shadows.shadows.items in
-    copied_shadows o.set.now.system o.shadows.items copies
+    copied_shadows o.set.now o.shadows.items copies
     (subst (λ xs. AreCopies xs copies) c.deref.ensures.value c.in_ok-shadows.ensures) o.are
 
 pub returns : goal.returns
