@@ -1,7 +1,8 @@
 -- Old and new nodes, kind by kind, where loops that run once go.
 use Rattle.std.proofs.Common.{◌≡◌, ℕ, zero, suc, ◌+◌, ◌^◌, ◌≤◌, Bool, true, false, ℤ, pos, List, [], ◌∷◌, ◌++◌}
 use Rattle.std.proofs.Common.{length, map, ap, ap₂, subst, sym, ◌∙◌, refl, arith, length-append}
-use Rattle.std.specs.Prelude.{All, ◌+ℤ◌, ◌-ℤ◌, ◌≤ℤ◌, ◌<ℤ◌, if◌then◌else◌}
+use Rattle.std.specs.Int.Signed.{le_z}
+use Rattle.std.specs.Prelude.{All, ◌+ℤ◌, ◌-ℤ◌, ◌≤ℤ◌, if◌then◌else◌, neg_ℤ, unsigned_abs}
 use Rattle.std.proofs.lemmas.Int.{ints}
 use Rattle.std.proofs.lemmas.List.{map-append, append-nil, length-map}
 use Rattle.std.proofs.lemmas.List.Elements.{All-head, All-tail}
@@ -12,7 +13,7 @@ use Rattle.scop_syntax.specs.Kernel.{AreAtMost}
 use Rattle.scop_syntax.specs.Members.{In}
 use Rattle.scop_syntax.specs.Tree.{Program}
 use Rattle.scop_syntax.specs.Walk.{most_turns, Instance}
-use Rattle.scop_syntax.proofs.Members.{in_map, in_map_from}
+use Rattle.scop_syntax.proofs.Members.{both, holds_le_z, in_map, in_map_from}
 use Rattle.loop_tree.specs.Fits.{FitsAll}
 use Rattle.loop_tree.specs.Marks.{AreBounds, AreTests, Flat, FlatAll}
 use Rattle.loop_tree.specs.Plans.{AreFree, Conflict}
@@ -20,7 +21,8 @@ use Rattle.loop_tree.specs.Scans.{Within}
 use Rattle.loop_tree.specs.Shape.{BoundsAreUpTo, IsUpTo, NestAllTo, NestsTo, TreesAreOver}
 use Rattle.loop_tree.specs.Tree.{Bounds, Test, Tree, loop, guard, instance, Trees, none, more}
 use Rattle.loop_tree.specs.Walk.{Visit, all_hold, along, between, given, lower, upper, through, walk, walk_all}
-use Rattle.tree_simplification.specs.Simplified.{shown, StayWithin}
+use Rattle.tree_simplification.specs.Simplified.{shown}
+use Rattle.tree_simplification.specs.steps.Inlined.{StayWithin}
 use Rattle.tree_simplification.specs.steps.Inlined.{AreNear, AreTestsFor, Inlines, IsInlined, IsPlace, bounds_over}
 use Rattle.tree_simplification.specs.steps.Inlined.{IsOnce, inside, side_tests}
 use Rattle.tree_simplification.specs.steps.Context.{parts}
@@ -30,10 +32,12 @@ use Rattle.tree_simplification.proofs.ComposedForms.{forms_fit_near}
 use Rattle.tree_simplification.proofs.ComposedForms.{forms_sized, lower_over, near_more, near_size, place_sized}
 use Rattle.tree_simplification.proofs.ComposedForms.{place_values}
 use Rattle.tree_simplification.proofs.ComposedForms.{tests_fit_near, upper_over, values_over}
-use Rattle.loop_tree.proofs.Lists.{between_none}
+use Rattle.tree_simplification.specs.steps.Strided.{CanGoAt, InlinesAt, lies, masked}
+use Rattle.tree_simplification.proofs.Blocks.{map_along, masked_once}
+use Rattle.tree_simplification.proofs.Walks.{between_same}
 use Rattle.tree_simplification.proofs.Heads.{tests_flat}
 use Rattle.tree_simplification.proofs.InnerForms.{inside_values}
-use Rattle.tree_simplification.proofs.Once.{at_most_once, sides_flat}
+use Rattle.tree_simplification.proofs.Once.{is_between, sides_flat, tests_lie}
 use Rattle.tree_simplification.proofs.JoinedTrees.{fits_joined, flat_joined, free_joined, nested_joined, of_joined}
 use Rattle.tree_simplification.proofs.JoinedTrees.{over_joined}
 use Rattle.tree_simplification.proofs.JoinedTrees.{serial_joined, small_joined, walk_joined}
@@ -67,12 +71,6 @@ along_alike f g (suc n) first same =
     map-append shown (f first) (along f (first +ℤ pos 1) n)
     ∙ (ap₂ (λ (us vs : List Visit). us ++ vs) (same first) (along_alike f g n (first +ℤ pos 1) same)
     ∙ sym (map-append shown (g first) (along g (first +ℤ pos 1) n)))
-
--- a loop that runs once
-between_once : (f : ℤ → List Visit) (v : ℤ) → between f v v ≡ f v
-between_once f v =
-    let e : v -ℤ v ≡ pos 0 = omega (arith, ints) in
-    ap (λ (z : ℤ). along f v (most_turns z)) e ∙ append-nil (f v)
 
 choice_alike : (b c : Bool) (vs ws : List Visit) → b ≡ c → map shown vs ≡ map shown ws
     → map shown (if b then vs else []) ≡ map shown (if c then ws else [])
@@ -217,6 +215,12 @@ kept_free m k loops forms flag lo up body new place within program params outer 
       tt,
     )
 
+-- values between small numbers
+small_within : (first last x : ℤ) → neg_ℤ (pos (2 ^ 40)) ≤ℤ first → last ≤ℤ pos (2 ^ 40)
+    → (first ≤ℤ x) × (x ≤ℤ last) → unsigned_abs x ≤ 2 ^ 40
+small_within first last x low high w =
+    let a = w.0 in let b = w.1 in abs_at_most x (2 ^ 40) (omega (arith, ints)) (omega (arith, ints))
+
 kept_fits : (m k : ℕ) (loops forms : List Affine) (flag : Bool) (lo up : Bounds) (body new : Trees)
     → IsPlace m k loops forms → Inlines m (k + 1) (inside m k loops) body new
     → BoundsAreUpTo (2 ^ 45) (bounds_over true (k + m) forms lo)
@@ -237,14 +241,14 @@ kept_fits m k loops forms flag lo up body new place within low high (suc d) para
         bounds_fit_near (bounds_over true (k + m) forms lo) point s low,
         bounds_fit_near (bounds_over false (k + m) forms up) point s high,
         (λ x w.
-            let here = stay.0 x (within_over (k + m) forms point (old ++ params) at lo up x w) in
-            let room = here.0 in
+            let inside = within_over (k + m) forms point (old ++ params) at lo up x w in
+            let room = small_within (lower lo (old ++ params)) (upper up (old ++ params)) x stay.0.0 stay.0.1 inside in
             let l = length-append outer (x ∷ []) in
             let inner = near_more d params outer x near room in
             let fits = within.fits d params (outer ++ x ∷ []) p (omega arith) nests.0 inner
             (subst (λ (ys : List ℤ). StayWithin (2 ^ 40) body params ys)
             (sym (inside_values m k loops outer params x o))
-            here.1) in
+            (stay.0.2 x inside)) in
             (omega (arith, room), fits)),
       ),
       tt,
@@ -300,174 +304,211 @@ kept_loop m k loops forms flag lo up body new place within low high =
           kept_nested m k loops flag lo up (bounds_over true n forms lo) (bounds_over false n forms up) body new within;
     }
 
--- a loop that runs at most once, at a point: its one value
-record AtOnce (loops : List Affine) (lo up : Bounds) (f : Affine) (tests : List Test) (params outer : List ℤ)
+-- a loop's body at one value, at a point
+record AtValue (loops : List Affine) (lo up : Bounds) (f : Affine) (tests : List Test) (params outer : List ℤ)
     : Type 0 where
-  first : all_hold tests (outer ++ params) ≡ true
-      → lower lo (values_of loops (outer ++ params) ++ params) ≡ value_of f (outer ++ params)
-  last : all_hold tests (outer ++ params) ≡ true
-      → upper up (values_of loops (outer ++ params) ++ params) ≡ value_of f (outer ++ params)
-  never : all_hold tests (outer ++ params) ≡ false
-      → upper up (values_of loops (outer ++ params) ++ params) <ℤ lower lo (values_of loops (outer ++ params) ++ params)
+  holds : all_hold tests (outer ++ params)
+      ≡ lies (lower lo (values_of loops (outer ++ params) ++ params))
+      (upper up (values_of loops (outer ++ params) ++ params)) (value_of f (outer ++ params))
   values : values_of (loops ++ f ∷ []) (outer ++ params)
       ≡ values_of loops (outer ++ params) ++ value_of f (outer ++ params) ∷ []
 
--- what is known of such a loop
-pub record GoesOnce (m k : ℕ) (loops forms : List Affine) (lo up : Bounds) (f : Affine) (tests : List Test)
-    : Type 0 where
-  pub place : IsPlace m k loops forms
-  pub flat_low : AreBounds lo
-  pub flat_high : AreBounds up
-  pub once : IsOnce (k + m) f (bounds_over true (k + m) forms lo) (bounds_over false (k + m) forms up) tests
-
-at_once : (m k : ℕ) (loops forms : List Affine) (lo up : Bounds) (f : Affine) (tests : List Test)
-    → GoesOnce m k loops forms lo up f tests → (params outer : List ℤ) → length params ≡ m → length outer ≡ k
-    → AtOnce loops lo up f tests params outer
-at_once m k loops forms lo up f tests goes params outer p o =
+at_value : (m k : ℕ) (loops forms : List Affine) (lo up : Bounds) (f : Affine) (tests : List Test) (body : Trees)
+    → CanGoAt m k loops forms lo up f tests body → (params outer : List ℤ) → length params ≡ m → length outer ≡ k
+    → AtValue loops lo up f tests params outer
+at_value m k loops forms lo up f tests body can params outer p o =
     let point = outer ++ params in
     let n = k + m in
-    let at = at_loop m k loops forms lo up params outer goes.place p o in
-    let most = at_most_once n f (bounds_over true n forms lo) (bounds_over false n forms up) tests point goes.once
-    (bounds_flat true n forms lo goes.flat_low) (bounds_flat false n forms up goes.flat_high) in
+    let at = at_loop m k loops forms lo up params outer can.place p o in
     record {
-      first = λ h. sym at.first ∙ most.first h;
-      last = λ h. sym at.last ∙ most.last h;
-      never = λ h. let less = most.never h in let a = at.first in let b = at.last in omega (arith, ints);
+      holds = tests_lie n f (bounds_over true n forms lo) (bounds_over false n forms up) tests point can.between
+          (bounds_flat true n forms lo can.flat_low) (bounds_flat false n forms up can.flat_high)
+          ∙ ap₂ (λ (y z : ℤ). lies y z (value_of f point)) at.first at.last;
       values = map-append (λ g. value_of g point) loops (f ∷ []);
     }
 
-once_within : (lo up : Bounds) (point : List ℤ) (v : ℤ) → lower lo point ≡ v → upper up point ≡ v
-    → Within lo up point v
-once_within lo up point v a b = (omega (arith, ints, a), omega (arith, ints, b))
+lies_within : (lo up : Bounds) (point : List ℤ) (x : ℤ) → lies (lower lo point) (upper up point) x ≡ true
+    → Within lo up point x
+lies_within lo up point x h =
+    let q = both (le_z (lower lo point) x) (le_z x (upper up point)) h in
+    (holds_le_z (lower lo point) x q.0, holds_le_z x (upper up point) q.1)
 
-once_alike : (b : Bool) (v first last : ℤ) (g : ℤ → List Visit) (inner : List Visit)
-    → map shown inner ≡ map shown (g v) → (b ≡ true → first ≡ v) → (b ≡ true → last ≡ v)
-    → (b ≡ false → last <ℤ first)
-    → map shown (if b then inner else []) ≡ map shown (between g first last ++ [])
-once_alike true v first last g inner same a b never =
-    same
-    ∙ (ap (λ (vs : List Visit). map shown vs)
-    (sym (append-nil (g v)) ∙ ap (λ (vs : List Visit). vs ++ []) (sym (between_once g v)))
-    ∙ sym (ap₂ (λ (y z : ℤ). map shown (between g y z ++ [])) (a refl) (b refl)))
-once_alike false v first last g inner same a b never =
-    sym (ap (λ (vs : List Visit). map shown (vs ++ [])) (between_none g first last (never refl)))
+choose_alike : (b c : Bool) (vs ws : List Visit) → b ≡ c → map shown vs ≡ ws
+    → map shown (if b then vs else []) ≡ (if c then ws else [])
+choose_alike true c vs ws e same = subst (λ (d : Bool). map shown vs ≡ (if d then ws else [])) e same
+choose_alike false c vs ws e same = ap (λ (d : Bool). if d then ws else []) e
 
-gone_alike : (m k : ℕ) (loops forms : List Affine) (lo up : Bounds) (f : Affine) (tests : List Test)
-    → (body new : Trees) → GoesOnce m k loops forms lo up f tests → Inlines m k (loops ++ f ∷ []) body new
+at_alike : (m k : ℕ) (loops forms : List Affine) (lo up : Bounds) (f : Affine) (tests : List Test) (body new : Trees)
+    → CanGoAt m k loops forms lo up f tests body → Inlines m k (loops ++ f ∷ []) body new
     → (params outer : List ℤ) → length params ≡ m → length outer ≡ k
     → map shown (if all_hold tests (outer ++ params) then walk_all new params outer else [])
-    ≡ map shown (walk_all (more (loop false lo up body) none) params (values_of loops (outer ++ params)))
-gone_alike m k loops forms lo up f tests body new goes within params outer p o =
+    ≡ masked (lower lo (values_of loops (outer ++ params) ++ params))
+    (upper up (values_of loops (outer ++ params) ++ params))
+    (λ x. map shown (walk_all body params (values_of loops (outer ++ params) ++ x ∷ []))) (value_of f (outer ++ params))
+at_alike m k loops forms lo up f tests body new can within params outer p o =
     let point = outer ++ params in
     let old = values_of loops point in
     let v = value_of f point in
-    let at = at_once m k loops forms lo up f tests goes params outer p o in
-    once_alike (all_hold tests point) v (lower lo (old ++ params)) (upper up (old ++ params))
-    (λ x. map (through false x) (walk_all body params (old ++ x ∷ []))) (walk_all new params outer)
-    (within.alike params outer p o
-    ∙ (ap (λ (ys : List ℤ). map shown (walk_all body params ys)) at.values
-    ∙ sym (through_serial v (walk_all body params (old ++ v ∷ [])))))
-    at.first at.last at.never
+    let at = at_value m k loops forms lo up f tests body can params outer p o in
+    choose_alike (all_hold tests point) (lies (lower lo (old ++ params)) (upper up (old ++ params)) v)
+    (walk_all new params outer) (map shown (walk_all body params (old ++ v ∷ []))) at.holds
+    (within.alike params outer p o ∙ ap (λ (ys : List ℤ). map shown (walk_all body params ys)) at.values)
 
-gone_free : (m k : ℕ) (loops forms : List Affine) (lo up : Bounds) (f : Affine) (tests : List Test)
-    → (body new : Trees) → GoesOnce m k loops forms lo up f tests → Inlines m k (loops ++ f ∷ []) body new
+at_free : (m k : ℕ) (loops forms : List Affine) (lo up : Bounds) (f : Affine) (tests : List Test) (body new : Trees)
+    → CanGoAt m k loops forms lo up f tests body → Inlines m k (loops ++ f ∷ []) body new
     → (program : Program) (params outer : List ℤ) → length params ≡ m → length outer ≡ k
-    → AreFree (Conflict program params) (more (loop false lo up body) none) params (values_of loops (outer ++ params))
+    → (Within lo up (values_of loops (outer ++ params) ++ params) (value_of f (outer ++ params))
+    → AreFree (Conflict program params) body params
+    (values_of loops (outer ++ params) ++ value_of f (outer ++ params) ∷ []))
     → all_hold tests (outer ++ params) ≡ true → AreFree (Conflict program params) new params outer
-gone_free m k loops forms lo up f tests body new goes within program params outer p o h holds =
+at_free m k loops forms lo up f tests body new can within program params outer p o h holds =
     let point = outer ++ params in
-    let v = value_of f point in
-    let at = at_once m k loops forms lo up f tests goes params outer p o in
+    let at = at_value m k loops forms lo up f tests body can params outer p o in
     within.free program params outer p o
     (subst (λ (ys : List ℤ). AreFree (Conflict program params) body params ys) (sym at.values)
-    (h.0.1 v (once_within lo up (values_of loops point ++ params) v (at.first holds) (at.last holds))))
+    (h (lies_within lo up (values_of loops point ++ params) (value_of f point) (sym at.holds ∙ holds))))
 
-gone_fits : (m k : ℕ) (loops forms : List Affine) (lo up : Bounds) (f : Affine) (tests : List Test)
-    → (body new : Trees) → GoesOnce m k loops forms lo up f tests → Inlines m k (loops ++ f ∷ []) body new
-    → (d : ℕ) (params outer : List ℤ) → length params ≡ m → length outer ≡ k
-    → NestAllTo d (more (loop false lo up body) none) → AreNear d params outer
-    → StayWithin (2 ^ 40) (more (loop false lo up body) none) params (values_of loops (outer ++ params))
+at_fits : (m k : ℕ) (loops forms : List Affine) (lo up : Bounds) (f : Affine) (tests : List Test) (body new : Trees)
+    → CanGoAt m k loops forms lo up f tests body → Inlines m k (loops ++ f ∷ []) body new
+    → (d : ℕ) (params outer : List ℤ) → length params ≡ m → length outer ≡ k → NestAllTo d body
+    → AreNear d params outer
+    → (Within lo up (values_of loops (outer ++ params) ++ params) (value_of f (outer ++ params))
+    → StayWithin (2 ^ 40) body params (values_of loops (outer ++ params) ++ value_of f (outer ++ params) ∷ []))
     → all_hold tests (outer ++ params) ≡ true → FitsAll new params outer
-gone_fits m k loops forms lo up f tests body new goes within zero params outer p o nests near stay holds =
-    absurd nests.0
-gone_fits m k loops forms lo up f tests body new goes within (suc d) params outer p o nests near stay holds =
+at_fits m k loops forms lo up f tests body new can within d params outer p o nests near stay holds =
     let point = outer ++ params in
-    let at = at_once m k loops forms lo up f tests goes params outer p o in
-    let few = near.few_loops in
-    let here = stay.0 (value_of f point)
-    (once_within lo up (values_of loops point ++ params) (value_of f point) (at.first holds) (at.last holds)) in
-    within.fits d params outer p o nests.0
-    (record {
-      few_parameters = near.few_parameters;
-      few_loops = omega (arith, few);
-      small_parameters = near.small_parameters;
-      small_values = near.small_values;
-    })
-    (subst (λ (ys : List ℤ). StayWithin (2 ^ 40) body params ys) (sym at.values) here.1)
+    let at = at_value m k loops forms lo up f tests body can params outer p o in
+    within.fits d params outer p o nests near
+    (subst (λ (ys : List ℤ). StayWithin (2 ^ 40) body params ys) (sym at.values)
+    (stay (lies_within lo up (values_of loops point ++ params) (value_of f point) (sym at.holds ∙ holds))))
 
-gone_nested : (m k : ℕ) (loops : List Affine) (lo up : Bounds) (body new : Trees) → Inlines m k loops body new
-    → (n i : ℕ) → n ≤ i → NestAllTo n (more (loop false lo up body) none) → NestAllTo i new
-gone_nested m k loops lo up body new within zero i l h = absurd h.0
-gone_nested m k loops lo up body new within (suc n) i l h = within.nested n i (omega arith) h.0
-
--- a loop that runs once gives way to its body
-pub gone_loop : (m k : ℕ) (loops forms : List Affine) (lo up : Bounds) (f : Affine) (body new : Trees)
-    → GoesOnce m k loops forms lo up f [] → Inlines m k (loops ++ f ∷ []) body new
-    → Inlines m k loops (more (loop false lo up body) none) new
-gone_loop m k loops forms lo up f body new goes within =
+-- a body at a value that it always has
+pub plain_at : (m k : ℕ) (loops forms : List Affine) (lo up : Bounds) (f : Affine) (body new : Trees)
+    → CanGoAt m k loops forms lo up f [] body → Inlines m k (loops ++ f ∷ []) body new
+    → InlinesAt m k loops lo up f body new
+plain_at m k loops forms lo up f body new can within =
     record {
-      alike = gone_alike m k loops forms lo up f [] body new goes within;
+      alike = at_alike m k loops forms lo up f [] body new can within;
       free = λ program params outer p o h.
-          gone_free m k loops forms lo up f [] body new goes within program params outer p o h refl;
+          at_free m k loops forms lo up f [] body new can within program params outer p o h refl;
       fits = λ d params outer p o nests near stay.
-          gone_fits m k loops forms lo up f [] body new goes within d params outer p o nests near stay refl;
-      serial = λ h. within.serial h.0.1;
-      flat = λ h. within.flat h.0.2;
-      statements = λ program h. within.statements program h.0;
+          at_fits m k loops forms lo up f [] body new can within d params outer p o nests near stay refl;
+      serial = within.serial;
+      flat = within.flat;
+      statements = within.statements;
       over = within.over;
       small = within.small;
-      nested = gone_nested m k (loops ++ f ∷ []) lo up body new within;
+      nested = within.nested;
     }
 
--- one that runs at most once, to a guard round it
-pub guarded_loop : (m k : ℕ) (loops forms : List Affine) (lo up : Bounds) (f : Affine) (test : Test)
-    → (others : List Test) (body new : Trees) → GoesOnce m k loops forms lo up f (test ∷ others)
+-- and under a guard
+pub guarded_at : (m k : ℕ) (loops forms : List Affine) (lo up : Bounds) (f : Affine) (test : Test)
+    → (others : List Test) (body new : Trees) → CanGoAt m k loops forms lo up f (test ∷ others) body
     → Inlines m k (loops ++ f ∷ []) body new
-    → Inlines m k loops (more (loop false lo up body) none) (more (guard (test ∷ others) new) none)
-guarded_loop m k loops forms lo up f test others body new goes within =
+    → InlinesAt m k loops lo up f body (more (guard (test ∷ others) new) none)
+guarded_at m k loops forms lo up f test others body new can within =
     let here = test ∷ others in
-    let are = goes.once.between in
+    let are = can.between in
     let n = k + m in
     record {
       alike = λ params outer p o.
           ap (λ (vs : List Visit). map shown vs)
           (append-nil (if all_hold here (outer ++ params) then walk_all new params outer else []))
-          ∙ gone_alike m k loops forms lo up f here body new goes within params outer p o;
+          ∙ at_alike m k loops forms lo up f here body new can within params outer p o;
       free = λ program params outer p o h.
-          (gone_free m k loops forms lo up f here body new goes within program params outer p o h, tt);
+          (at_free m k loops forms lo up f here body new can within program params outer p o h, tt);
       fits = λ d params outer p o nests near stay. (
         (
           tests_fit_near here (outer ++ params) (near_size d params outer near) are.small,
-          gone_fits m k loops forms lo up f here body new goes within d params outer p o nests near stay,
+          at_fits m k loops forms lo up f here body new can within d params outer p o nests near stay,
         ),
         tt,
       );
-      serial = λ h. (within.serial h.0.1, tt);
+      serial = λ h. (within.serial h, tt);
       flat = λ h. (
         (
           are.flat (sides_flat true f (parts (bounds_over true n forms lo))
               (side_tests false f (parts (bounds_over false n forms up)))
               (subst AreTests (append-nil (side_tests false f (parts (bounds_over false n forms up))))
               (sides_flat false f (parts (bounds_over false n forms up)) [] tt))),
-          within.flat h.0.2,
+          within.flat h,
         ),
         tt,
       );
-      statements = λ program h. (within.statements program h.0, tt);
+      statements = λ program h. (within.statements program h, tt);
       over = ((are.over, within.over), tt);
       small = ((are.small, within.small), tt);
-      nested = λ i j l h.
-          (guard_nests j here new (gone_nested m k (loops ++ f ∷ []) lo up body new within i j l h), tt);
+      nested = λ i j l h. (guard_nests j here new (within.nested i j l h), tt);
+    }
+
+-- what a serial loop shows
+pub shown_loop : (ts : Trees) (params old : List ℤ) (first last : ℤ)
+    → map shown (between (λ x. map (through false x) (walk_all ts params (old ++ x ∷ []))) first last ++ [])
+    ≡ between (λ x. map shown (walk_all ts params (old ++ x ∷ []))) first last
+shown_loop ts params old first last =
+    let body : ℤ → List Visit = λ x. map (through false x) (walk_all ts params (old ++ x ∷ [])) in
+    ap (λ (vs : List Visit). map shown vs) (append-nil (between body first last))
+    ∙ (map_along shown body (most_turns (last -ℤ first)) first
+    ∙ between_same (λ x. map shown (body x)) (λ x. map shown (walk_all ts params (old ++ x ∷ []))) first last
+    (λ x a b. through_serial x (walk_all ts params (old ++ x ∷ []))))
+
+once_nested : (lo up : Bounds) (body new : Trees) → ((n m : ℕ) → n ≤ m → NestAllTo n body → NestAllTo m new)
+    → (n i : ℕ) → n ≤ i → NestAllTo n (more (loop false lo up body) none) → NestAllTo i new
+once_nested lo up body new nested zero i l h = absurd h.0
+once_nested lo up body new nested (suc n) i l h = nested n i (omega arith) h.0
+
+once_fits : (m k : ℕ) (loops : List Affine) (lo up : Bounds) (f : Affine) (body new : Trees)
+    → InlinesAt m k loops lo up f body new → (d : ℕ) (params outer : List ℤ) → length params ≡ m → length outer ≡ k
+    → NestAllTo d (more (loop false lo up body) none) → AreNear d params outer
+    → StayWithin (2 ^ 40) (more (loop false lo up body) none) params (values_of loops (outer ++ params))
+    → FitsAll new params outer
+once_fits m k loops lo up f body new at zero params outer p o nests near stay = absurd nests.0
+once_fits m k loops lo up f body new at (suc d) params outer p o nests near stay =
+    let few = near.few_loops in
+    at.fits d params outer p o nests.0
+    (record {
+      few_parameters = near.few_parameters;
+      few_loops = omega (arith, few);
+      small_parameters = near.small_parameters;
+      small_values = near.small_values;
+    })
+    (λ w. stay.0.2 (value_of f (outer ++ params)) w)
+
+-- a loop that runs at most once gives way to its body at the form's value
+pub once_loop : (m k : ℕ) (loops forms : List Affine) (lo up : Bounds) (f : Affine) (tests : List Test)
+    → (body new : Trees) → IsPlace m k loops forms → AreBounds lo → AreBounds up
+    → IsOnce (k + m) f (bounds_over true (k + m) forms lo) (bounds_over false (k + m) forms up) tests
+    → InlinesAt m k loops lo up f body new → Inlines m k loops (more (loop false lo up body) none) new
+once_loop m k loops forms lo up f tests body new place flat_low flat_high once at =
+    let n = k + m in
+    let low = bounds_over true n forms lo in
+    let high = bounds_over false n forms up in
+    record {
+      alike = λ params outer p o.
+          let point = outer ++ params in
+          let old = values_of loops point in
+          let first = lower lo (old ++ params) in
+          let last = upper up (old ++ params) in
+          let range = at_loop m k loops forms lo up params outer place p o in
+          let are = is_between f low high point once.low once.high (bounds_flat true n forms lo flat_low)
+          (bounds_flat false n forms up flat_high) in
+          let above = are.above in
+          let below = are.below in
+          let a = range.first in
+          let b = range.last in
+          at.alike params outer p o
+          ∙ (masked_once (λ x. map shown (walk_all body params (old ++ x ∷ []))) first last (value_of f point)
+          (omega (arith, ints, a, above)) (omega (arith, ints, b, below))
+          ∙ sym (shown_loop body params old first last));
+      free = λ program params outer p o h.
+          at.free program params outer p o (λ w. h.0.1 (value_of f (outer ++ params)) w);
+      fits = once_fits m k loops lo up f body new at;
+      serial = λ h. at.serial h.0.1;
+      flat = λ h. at.flat h.0.2;
+      statements = λ program h. at.statements program h.0;
+      over = at.over;
+      small = at.small;
+      nested = once_nested lo up body new at.nested;
     }
 
 -- tests over the new loops hold where the old ones do

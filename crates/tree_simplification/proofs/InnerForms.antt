@@ -4,17 +4,17 @@ use Rattle.std.proofs.Common.{ap, ap₂, subst, ◌∙◌, refl, arith}
 use Rattle.std.specs.Prelude.{All}
 use Rattle.std.proofs.Math.Seq.{get_or-append_seam}
 use Rattle.std.proofs.lemmas.List.{append_assoc, map-append}
-use Rattle.std.proofs.lemmas.List.Elements.{All-nil, All-cons, All-head, All-tail, All-append}
+use Rattle.std.proofs.lemmas.List.Elements.{All-nil, All-cons, All-head, All-tail}
 use Rattle.whole_numbers.specs.Affine.{Affine, value_of, values_of, widened}
 use Rattle.whole_numbers.proofs.Values.{length-widened}
 use Rattle.iteration_domains.specs.Rows.{variable}
-use Rattle.iteration_domains.proofs.Surroundings.{length-variable}
 use Rattle.iteration_domains.proofs.RowLaws.{value_of-variable}
 use Rattle.loop_tree.specs.Shape.{IsOver}
 use Rattle.tree_simplification.specs.steps.Inlined.{inside}
 use Rattle.tree_simplification.proofs.RowValues.{value_widened}
 
-all_widened : (k : ℕ) (loops : List Affine) (outer params : List ℤ) (x : ℤ) → length outer ≡ k
+-- the forms of the old loops, with a loop more round them
+pub all_widened : (k : ℕ) (loops : List Affine) (outer params : List ℤ) (x : ℤ) → length outer ≡ k
     → values_of (map (widened k) loops) ((outer ++ x ∷ []) ++ params) ≡ values_of loops (outer ++ params)
 all_widened k [] outer params x o = refl
 all_widened k (f ∷ loops) outer params x o =
@@ -42,12 +42,8 @@ widened_sized n k (f ∷ loops) sized =
     (widened_sized n k loops (All-tail (IsOver n) f loops sized))
 
 -- and are over one loop more
-pub inside_sized : (m k : ℕ) (loops : List Affine) → All (IsOver (k + m)) loops
-    → All (IsOver (k + 1 + m)) (inside m k loops)
-inside_sized m k loops sized =
-    let n = k + 1 + m in
-    let own = variable n k in
-    let e : (k + m) + 1 ≡ n = omega arith in
-    All-append (IsOver n) (map (widened k) loops) (own ∷ [])
-    (subst (λ i. All (IsOver i) (map (widened k) loops)) e (widened_sized (k + m) k loops sized))
-    (All-cons (IsOver n) own [] (length-variable n k) (All-nil (IsOver n)))
+pub block_sized : (m k : ℕ) (loops : List Affine) → All (IsOver (k + m)) loops
+    → All (IsOver (k + 1 + m)) (map (widened k) loops)
+block_sized m k loops sized =
+    let e : (k + m) + 1 ≡ k + 1 + m = omega arith in
+    subst (λ i. All (IsOver i) (map (widened k) loops)) e (widened_sized (k + m) k loops sized)

@@ -6,10 +6,12 @@ pub mod ComposedForms
 pub mod InnerForms
 pub mod Heads
 pub mod Once
+pub mod Walks
+pub mod Blocks
 pub mod InlinedNodes
+pub mod Strides
 pub mod Nodes
 pub mod RemainingParts
 pub mod Shapes
-pub mod Walks
 pub mod Trees
 pub mod TrimmedTrees

@@ -1,12 +1,12 @@
 -- Nodes of the code one by one, and what the code asks of their parts.
-use Rattle.std.proofs.Common.{◌≡◌, ℕ, zero, suc, ◌+◌, ◌^◌, ◌<◌, ◌≤◌, Bool, true, false, List, [], ◌∷◌, ◌++◌, length}
-use Rattle.std.proofs.Common.{map, drop, get_or}
+use Rattle.std.proofs.Common.{◌≡◌, ℕ, zero, suc, ◌+◌, ◌-◌, ◌^◌, ◌<◌, ◌≤◌, Bool, true, false, List, [], ◌∷◌, ◌++◌}
+use Rattle.std.proofs.Common.{length, map, drop, get_or}
 use Rattle.std.proofs.Common.{ap, subst, sym, ◌∙◌, arith, length-append}
 use Rattle.std.specs.Prelude.{All}
 use Rattle.std.proofs.lemmas.List.{length-map}
 use Rattle.std.proofs.lemmas.List.Elements.{All-nil, All-push}
 use Rattle.whole_numbers.specs.Affine.{Affine, composed, widened}
-use Rattle.iteration_domains.specs.Rows.{variable, variables}
+use Rattle.iteration_domains.specs.Rows.{variables}
 use Rattle.iteration_domains.proofs.Surroundings.{length-variables}
 use Rattle.loop_tree.specs.Fits.{form_in}
 use Rattle.loop_tree.specs.Marks.{AreBounds, FlatAll}
@@ -22,10 +22,13 @@ use Rattle.tree_simplification.specs.steps.Inlined.{bounds_over}
 use Rattle.tree_simplification.specs.steps.Inlined.{inside}
 use Rattle.tree_simplification.specs.steps.Joined.{joined}
 use Rattle.tree_simplification.proofs.ComposedForms.{place_sized}
-use Rattle.tree_simplification.proofs.InlinedNodes.{GoesOnce, gone_guard, gone_loop, guard_tests, guarded_loop}
+use Rattle.tree_simplification.specs.steps.Strided.{AreEnds, AreTestsAt, CanBound, CanGoAt, ExtendsAt, InlinesAt}
+use Rattle.tree_simplification.specs.steps.Strided.{blocks, turn_form}
+use Rattle.tree_simplification.proofs.InlinedNodes.{gone_guard, guard_tests, guarded_at}
 use Rattle.tree_simplification.proofs.InlinedNodes.{kept_guard, kept_loop, leaf_stays}
-use Rattle.tree_simplification.proofs.InlinedNodes.{nests_guard, nothing_stays, then_others}
-use Rattle.tree_simplification.proofs.InnerForms.{inside_sized}
+use Rattle.tree_simplification.proofs.InlinedNodes.{nests_guard, nothing_stays, once_loop, plain_at, then_others}
+use Rattle.tree_simplification.proofs.InnerForms.{block_sized}
+use Rattle.tree_simplification.proofs.Strides.{Unrolls, length_turn, strided, unrolls_more}
 use Rattle.tree_simplification.proofs.JoinedTrees.{joined_assoc, joined_none, nodes_joined}
 
 -- how many forms a place has
@@ -74,16 +77,23 @@ all_gone m k loops nodes i before now ended gone =
       gone.2 none last,
     )
 
+-- a node that is appended, of which something is known
+pub with_tree : (P : Trees → Type 0) (before after : List Node) (node : Node) (t : Tree) → after ≡ before ++ node ∷ []
+    → tree_of node ≡ t → P (more t none)
+    → (new : Trees) × (nodes_of after ≡ joined (nodes_of before) new) × P new
+with_tree P before after node t pushed is known = (
+  more t none,
+  ap (λ (ns : List Node). nodes_of ns) pushed
+      ∙ (nodes_joined before (node ∷ []) ∙ ap (λ (u : Tree). joined (nodes_of before) (more u none)) is),
+  known,
+)
+
 -- a node that is appended
 pub with_node : (m k : ℕ) (loops : List Affine) (old : Trees) (before after : List Node) (node : Node) (t : Tree)
     → after ≡ before ++ node ∷ [] → tree_of node ≡ t → Inlines m k loops old (more t none)
     → Extends m k loops old (nodes_of before) (nodes_of after)
-with_node m k loops old before after node t pushed is within = (
-  more t none,
-  ap (λ (ns : List Node). nodes_of ns) pushed
-      ∙ (nodes_joined before (node ∷ []) ∙ ap (λ (u : Tree). joined (nodes_of before) (more u none)) is),
-  within,
-)
+with_node m k loops old before after node t pushed is within =
+    with_tree (Inlines m k loops old) before after node t pushed is within
 
 -- nodes that stand alone
 pub alone_gone : (m k : ℕ) (loops : List Affine) (old : Trees) (before after : List Node) → before ≡ []
@@ -176,8 +186,9 @@ pub record LoopCan (m k : ℕ) (loops forms : List Affine) (lo up : Bounds) (bod
   pub flat_high : AreBounds up
   pub sized : All (IsOver (k + m)) forms
   pub few : k + 1 + m ≤ 2 ^ 34
-  pub stays : (others : List Affine) → others ≡ inside m k loops ++ variables (k + 1 + m) (k + 1) m
-      → CanInline m (k + 1) (inside m k loops) others body
+  pub stays : (f : Affine) (others : List Affine) → IsOver (k + 1 + m) f
+      → others ≡ (map (widened k) loops ++ f ∷ []) ++ variables (k + 1 + m) (k + 1) m
+      → CanInline m (k + 1) (map (widened k) loops ++ f ∷ []) others body
   pub goes : (f : Affine) (others : List Affine) → IsOver (k + m) f
       → others ≡ (loops ++ f ∷ []) ++ variables (k + m) k m → CanInline m k (loops ++ f ∷ []) others body
 
@@ -188,12 +199,24 @@ below : (k n : ℕ) (flag : Bool) (lo up : Bounds) (body : Trees) → k + n ≤ 
 below k zero flag lo up body few nests = absurd nests.0
 below k (suc n) flag lo up body few nests = (n, omega (arith, few), nests.0)
 
-length_inside : (m k : ℕ) (loops : List Affine) → length (inside m k loops) ≡ suc (length loops)
-length_inside m k loops =
-    let own = variable (k + 1 + m) k in
-    let l = length-append (map (widened k) loops) (own ∷ []) in
+length_inside : (k : ℕ) (loops : List Affine) (f : Affine)
+    → length (map (widened k) loops ++ f ∷ []) ≡ suc (length loops)
+length_inside k loops f =
+    let l = length-append (map (widened k) loops) (f ∷ []) in
     let n = length-map loops (widened k) in
     omega (arith, l, n)
+
+-- forms of loops with one more
+with_sized : (m k : ℕ) (loops : List Affine) (f : Affine) → All (IsOver (k + m)) loops → IsOver (k + 1 + m) f
+    → All (IsOver (k + 1 + m)) (map (widened k) loops ++ f ∷ [])
+with_sized m k loops f sized own =
+    All-push (IsOver (k + 1 + m)) (map (widened k) loops) f (block_sized m k loops sized) own
+
+-- the place within a loop over blocks
+block_place : (m k : ℕ) (loops others : List Affine) → All (IsOver (k + m)) loops
+    → others ≡ map (widened k) loops ++ variables (k + 1 + m) (k + 1) m
+    → IsPlace m (k + 1) (map (widened k) loops) others
+block_place m k loops others sized are = record { are = are; sized = block_sized m k loops sized }
 
 pub loop_can : (m k : ℕ) (loops forms : List Affine) (flag : Bool) (lo up : Bounds) (body : Trees)
     → CanInline m k loops forms (more (loop flag lo up body) none) → LoopCan m k loops forms lo up body
@@ -211,11 +234,11 @@ loop_can m k loops forms flag lo up body can =
       flat_high = can.flat.0.1;
       sized = place_sized m k loops forms can.place;
       few = omega (arith, few, room);
-      stays = λ others are.
-          let e : suc (length loops + m) ≡ length (inside m k loops) + m =
-          let i = length_inside m k loops in omega (arith, i) in
+      stays = λ f others own are.
+          let e : suc (length loops + m) ≡ length (map (widened k) loops ++ f ∷ []) + m =
+          let i = length_inside k loops f in omega (arith, i) in
           record {
-            place = record { are = are; sized = inside_sized m k loops can.place.sized };
+            place = record { are = are; sized = with_sized m k loops f can.place.sized own };
             few = can.few;
             deep = deep;
             flat = can.flat.0.2;
@@ -253,41 +276,142 @@ guard_stays m k loops forms tests body new [] place are some within = absurd (om
 guard_stays m k loops forms tests body new (test ∷ found) place are some within =
     kept_guard m k loops forms tests (test_of test) (map test_of found) body new place are within
 
--- what is known of a loop that runs at most once
-pub goes_once : (m k : ℕ) (loops forms : List Affine) (flag : Bool) (lo up : Bounds) (f : Affine) (tests : List Test)
+-- a loop's body at its value, where it runs at most once
+pub once_can : (m k : ℕ) (loops forms : List Affine) (flag : Bool) (lo up : Bounds) (f : Affine) (tests : List Test)
     → (body : Trees) → CanInline m k loops forms (more (loop flag lo up body) none)
     → IsOnce (k + m) f (bounds_over true (k + m) forms lo) (bounds_over false (k + m) forms up) tests
-    → GoesOnce m k loops forms lo up f tests
-goes_once m k loops forms flag lo up f tests body can once =
-    record { place = can.place; flat_low = can.flat.0.0; flat_high = can.flat.0.1; once = once }
+    → CanGoAt m k loops forms lo up f tests body
+once_can m k loops forms flag lo up f tests body can once =
+    let here = loop_can m k loops forms flag lo up body can in
+    let few = here.few in
+    record {
+      place = can.place;
+      few = omega (arith, few);
+      over = once.over;
+      flat_low = can.flat.0.0;
+      flat_high = can.flat.0.1;
+      between = once.between;
+      within = λ others are. here.goes f others once.over are;
+    }
 
--- a loop that goes
-pub loop_goes : (m k i j : ℕ) (loops inner forms : List Affine) (flag : Bool) (lo up : Bounds) (f : Affine)
-    → (found : List CodeTest) (body before after : Trees) → GoesOnce m k loops forms lo up f (map test_of found)
-    → flag ≡ false → length found ≡ 0 → i ≡ m → j ≡ k → inner ≡ loops ++ f ∷ [] → Extends i j inner body before after
+-- a loop's bounds, with a loop more round them
+pub bounds_can : (m k : ℕ) (loops forms others : List Affine) (flag : Bool) (lo up : Bounds) (body : Trees)
+    → CanInline m k loops forms (more (loop flag lo up body) none)
+    → others ≡ map (widened k) loops ++ variables (k + 1 + m) (k + 1) m → CanBound (k + 1 + m) others lo up
+bounds_can m k loops forms others flag lo up body can are =
+    let l = length-map loops (widened k) in
+    let place = block_place m k loops others can.place.sized are in
+    let n = place_length m (k + 1) (map (widened k) loops) others place in
+    let e : length loops + m ≡ length others = omega (arith, l, n) in
+    record {
+      low = subst (λ i. BoundsAreOver i lo) e can.over.0.0;
+      high = subst (λ i. BoundsAreOver i up) e can.over.0.1;
+      low_numbers = can.small.0.0;
+      high_numbers = can.small.0.1;
+      sized = place_sized m (k + 1) (map (widened k) loops) others place;
+    }
+
+-- and without
+pub plain_bounds : (m k : ℕ) (loops forms : List Affine) (flag : Bool) (lo up : Bounds) (body : Trees)
+    → CanInline m k loops forms (more (loop flag lo up body) none) → CanBound (k + m) forms lo up
+plain_bounds m k loops forms flag lo up body can =
+    let here = loop_can m k loops forms flag lo up body can in
+    record {
+      low = here.low;
+      high = here.high;
+      low_numbers = here.low_numbers;
+      high_numbers = here.high_numbers;
+      sized = here.sized;
+    }
+
+-- a loop's body at a value of a block
+pub turn_can : (m k i j : ℕ) (loops inner forms others : List Affine) (flag : Bool) (lo up : Bounds) (by at : ℕ)
+    → (f : Affine) (tests : List Test) (body : Trees) → CanInline m k loops forms (more (loop flag lo up body) none)
+    → i ≡ m → j ≡ k + 1 → inner ≡ map (widened k) loops → others ≡ inner ++ variables (k + 1 + m) (k + 1) m
+    → f ≡ turn_form (j + i) (j - 1) by at → AreTestsAt (j + i) others lo up f tests
+    → CanGoAt i j inner others lo up f tests body
+turn_can m k i j loops inner forms others flag lo up by at f tests body can a b e are is between =
+    let here = loop_can m k loops forms flag lo up body can in
+    let few = here.few in
+    let P : ℕ → ℕ → List Affine → Type 0 = λ x y fs. others ≡ fs ++ variables (k + 1 + m) (k + 1) m
+    → f ≡ turn_form (y + x) (y - 1) by at → AreTestsAt (y + x) others lo up f tests
+    → CanGoAt x y fs others lo up f tests body in
+    at_place P i j m (k + 1) inner (map (widened k) loops) (sym a) (sym b) (sym e)
+    (λ same form tested.
+    let over : IsOver (k + 1 + m) f =
+    subst (IsOver (k + 1 + m)) (sym form) (length_turn (k + 1 + m) (k + 1 - 1) by at) in
+    record {
+      place = block_place m k loops others can.place.sized same;
+      few = few;
+      over = over;
+      flat_low = can.flat.0.0;
+      flat_high = can.flat.0.1;
+      between = tested;
+      within = λ all is_all. here.stays f all over is_all;
+    }) are is between
+
+-- one value of a block more
+pub turn_more : (m k i j : ℕ) (loops inner : List Affine) (lo up : Bounds) (body : Trees) (by at : ℕ) (f : Affine)
+    → (before after : Trees) → Unrolls m k loops lo up body by at before → i ≡ m → j ≡ k + 1
+    → inner ≡ map (widened k) loops → f ≡ turn_form (j + i) (j - 1) by at
+    → ExtendsAt i j inner lo up f body before after → Unrolls m k loops lo up body by (at + 1) after
+turn_more m k i j loops inner lo up body by at f before after done a b e is gone =
+    let c : k + 1 - 1 ≡ k = omega arith in
+    let P : ℕ → ℕ → List Affine → Type 0 = λ x y fs. f ≡ turn_form (y + x) (y - 1) by at
+    → InlinesAt x y fs lo up f body gone.0 → Unrolls m k loops lo up body by (at + 1) after in
+    at_place P i j m (k + 1) inner (map (widened k) loops) (sym a) (sym b) (sym e)
+    (λ form one.
+    subst (Unrolls m k loops lo up body by (at + 1)) (sym gone.1)
+    (unrolls_more m k loops lo up body by at before gone.0 done
+    (subst (λ (g : Affine). InlinesAt m (k + 1) (map (widened k) loops) lo up g body gone.0)
+    (form ∙ ap (λ (v : ℕ). turn_form (k + 1 + m) v by at) c) one))) is gone.2
+
+-- a body at one value that it always has
+pub at_goes : (m k i j : ℕ) (loops inner forms : List Affine) (lo up : Bounds) (f : Affine) (found : List CodeTest)
+    → (body before after : Trees) → CanGoAt m k loops forms lo up f (map test_of found) body → length found ≡ 0 → i ≡ m
+    → j ≡ k → inner ≡ loops ++ f ∷ [] → Extends i j inner body before after
+    → ExtendsAt m k loops lo up f body before after
+at_goes m k i j loops inner forms lo up f (test ∷ found) body before after can empty a b e gone = absurd (omega arith)
+at_goes m k i j loops inner forms lo up f [] body before after can empty a b e gone = (
+  gone.0,
+  gone.1,
+  plain_at m k loops forms lo up f body gone.0 can
+      (at_place (λ x y fs. Inlines x y fs body gone.0) m k i j (loops ++ f ∷ []) inner a b e gone.2),
+)
+
+-- one under a guard
+pub at_guarded : (m k i j : ℕ) (loops inner forms : List Affine) (lo up : Bounds) (f : Affine) (found : List CodeTest)
+    → (body new : Trees) → CanGoAt m k loops forms lo up f (map test_of found) body → 0 < length found → i ≡ m → j ≡ k
+    → inner ≡ loops ++ f ∷ [] → Inlines i j inner body new
+    → InlinesAt m k loops lo up f body (more (guard (map test_of found) new) none)
+at_guarded m k i j loops inner forms lo up f [] body new can some a b e within = absurd (omega arith)
+at_guarded m k i j loops inner forms lo up f (test ∷ found) body new can some a b e within =
+    guarded_at m k loops forms lo up f (test_of test) (map test_of found) body new can
+    (at_place (λ x y fs. Inlines x y fs body new) m k i j (loops ++ f ∷ []) inner a b e within)
+
+-- a loop that runs at most once gives way to its body at the form's value
+pub once_goes : (m k : ℕ) (loops forms : List Affine) (flag : Bool) (lo up : Bounds) (f : Affine) (tests : List Test)
+    → (body before after : Trees) → CanInline m k loops forms (more (loop flag lo up body) none) → flag ≡ false
+    → IsOnce (k + m) f (bounds_over true (k + m) forms lo) (bounds_over false (k + m) forms up) tests
+    → ExtendsAt m k loops lo up f body before after
     → Extends m k loops (more (loop flag lo up body) none) before after
-loop_goes m k i j loops inner forms flag lo up f (test ∷ found) body old new goes serial empty a b e gone =
-    absurd (omega arith)
-loop_goes m k i j loops inner forms flag lo up f [] body old new goes serial empty a b e gone =
-    let within =
-    at_place (λ x y fs. Inlines x y fs body gone.0) m k i j (loops ++ f ∷ []) inner a b e gone.2 in (
-      gone.0,
-      gone.1,
-      subst (λ (c : Bool). Inlines m k loops (more (loop c lo up body) none) gone.0) (sym serial)
-          (gone_loop m k loops forms lo up f body gone.0 goes within),
-    )
+once_goes m k loops forms flag lo up f tests body before after can serial once gone = (
+  gone.0,
+  gone.1,
+  subst (λ (c : Bool). Inlines m k loops (more (loop c lo up body) none) gone.0) (sym serial)
+      (once_loop m k loops forms lo up f tests body gone.0 can.place can.flat.0.0 can.flat.0.1 once gone.2),
+)
 
--- one that gives way to a guard
-pub loop_guarded : (m k i j : ℕ) (loops inner forms : List Affine) (flag : Bool) (lo up : Bounds) (f : Affine)
-    → (found : List CodeTest) (body new : Trees) → GoesOnce m k loops forms lo up f (map test_of found)
-    → flag ≡ false → 0 < length found → i ≡ m → j ≡ k → inner ≡ loops ++ f ∷ [] → Inlines i j inner body new
-    → Inlines m k loops (more (loop flag lo up body) none) (more (guard (map test_of found) new) none)
-loop_guarded m k i j loops inner forms flag lo up f [] body new goes serial some a b e within = absurd (omega arith)
-loop_guarded m k i j loops inner forms flag lo up f (test ∷ found) body new goes serial some a b e within =
-    let here = more (guard (map test_of (test ∷ found)) new) none in
-    subst (λ (c : Bool). Inlines m k loops (more (loop c lo up body) none) here) (sym serial)
-    (guarded_loop m k loops forms lo up f (test_of test) (map test_of found) body new goes
-    (at_place (λ x y fs. Inlines x y fs body new) m k i j (loops ++ f ∷ []) inner a b e within))
+-- a loop gives way to one over blocks
+pub loop_strided : (m k : ℕ) (loops forms : List Affine) (flag : Bool) (by : ℕ) (lo up low high : Bounds)
+    → (body new : Trees) → CanInline m k loops forms (more (loop flag lo up body) none) → flag ≡ false → 0 < by
+    → AreEnds (k + m) forms (blocks by (by - 1) lo) (blocks by 0 up) low high
+    → Unrolls m k loops lo up body by by new
+    → Inlines m k loops (more (loop flag lo up body) none) (more (loop false low high new) none)
+loop_strided m k loops forms flag by lo up low high body new can serial some ends done =
+    subst (λ (c : Bool). Inlines m k loops (more (loop c lo up body) none) (more (loop false low high new) none))
+    (sym serial)
+    (strided m k loops forms by lo up low high body new some can.place can.flat.0.0 can.flat.0.1 ends done)
 
 -- a loop that stays
 pub loop_stays : (m k i j : ℕ) (loops inner forms : List Affine) (flag : Bool) (lo up low high : Bounds)

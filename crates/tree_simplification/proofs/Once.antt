@@ -1,11 +1,11 @@
--- A loop that a form bounds from both sides runs at most once: where the form lies between the other bounds.
+-- Tests whether a form lies between bounds; one that bounds a loop from both sides.
 use Rattle.std.proofs.Common.{◌≡◌, ℕ, inl, inr, ℤ, pos, Bool, true, false, List, [], ◌∷◌, ◌++◌}
 use Rattle.std.proofs.Common.{ap, ap₂, subst, sym, ◌∙◌, refl, arith}
-use Rattle.std.specs.Prelude.{All, not, ◌-ℤ◌, ◌*ℤ◌, ◌≤ℤ◌, ◌<ℤ◌, if◌then◌else◌}
+use Rattle.std.specs.Int.Signed.{le_z}
+use Rattle.std.specs.Prelude.{All, not, ◌-ℤ◌, ◌*ℤ◌, ◌≤ℤ◌, if◌then◌else◌}
 use Rattle.std.proofs.lemmas.Int.{ints}
 use Rattle.std.proofs.lemmas.List.Elements.{All-cons, All-head, All-nil, All-tail}
 use Rattle.whole_numbers.specs.Affine.{Affine, multiple_of_form, value_of}
-use Rattle.whole_numbers.proofs.Order.{le_or_lt}
 use Rattle.whole_numbers.proofs.Ring.{mul_one_left, mul_one_right, mul_sub_left}
 use Rattle.whole_numbers.proofs.Values.{value_of-multiple, value_of-sum}
 use Rattle.scop_syntax.specs.Members.{In}
@@ -15,7 +15,8 @@ use Rattle.loop_tree.specs.Shape.{BoundsAreOver, IsOver}
 use Rattle.loop_tree.specs.Tree.{Bound, Bounds, Test, at_least, besides, only}
 use Rattle.loop_tree.specs.Walk.{all_hold, lower, upper}
 use Rattle.tree_simplification.specs.steps.Context.{OnSide, parts, sign_of}
-use Rattle.tree_simplification.specs.steps.Inlined.{IsOnce, side_form, side_tests, whole}
+use Rattle.tree_simplification.specs.steps.Inlined.{AreTestsOf, side_form, side_tests, whole}
+use Rattle.tree_simplification.specs.steps.Strided.{lies}
 use Rattle.tree_simplification.proofs.Contexts.{high_from, high_to, low_from, low_to}
 use Rattle.tree_simplification.proofs.Heads.{all_hold_append}
 use Rattle.tree_simplification.proofs.Rounding.{rounded_holds, test_flat}
@@ -69,50 +70,52 @@ pub sides_flat : (turned : Bool) (f : Affine) (bs : List Bound) (tests : List Te
 sides_flat turned f [] tests h = h
 sides_flat turned f (b ∷ bs) tests h = (test_flat (at_least (side_form turned f b)) tt, sides_flat turned f bs tests h)
 
--- the loop's first and last value where the tests hold; where they do not, there is none
-pub record AtMostOnce (low high : Bounds) (f : Affine) (tests : List Test) (point : List ℤ) : Type 0 where
-  pub first : all_hold tests point ≡ true → lower low point ≡ value_of f point
-  pub last : all_hold tests point ≡ true → upper high point ≡ value_of f point
-  pub never : all_hold tests point ≡ false → upper high point <ℤ lower low point
+truths_same : (a b : Bool) → (a ≡ true → b ≡ true) → (b ≡ true → a ≡ true) → a ≡ b
+truths_same true b f g = sym (f refl)
+truths_same false true f g = g refl
+truths_same false false f g = refl
 
-pub at_most_once : (n : ℕ) (f : Affine) (low high : Bounds) (tests : List Test) (point : List ℤ)
-    → IsOnce n f low high tests → AreBounds low → AreBounds high → AtMostOnce low high f tests point
-at_most_once n f low high tests point once flat_low flat_high =
+-- the tests hold where the form lies between the bounds
+pub tests_lie : (n : ℕ) (f : Affine) (low high : Bounds) (tests : List Test) (point : List ℤ)
+    → AreTestsOf n (side_tests true f (parts low) ++ side_tests false f (parts high)) tests → AreBounds low
+    → AreBounds high
+    → all_hold tests point ≡ lies (lower low point) (upper high point) (value_of f point)
+tests_lie n f low high tests point are flat_low flat_high =
     let v = value_of f point in
     let l = lower low point in
     let u = upper high point in
     let lows = side_tests true f (parts low) in
     let highs = side_tests false f (parts high) in
-    let above = on_member true (whole f) (parts low) point l once.low
+    are.same point
+    ∙ (all_hold_append lows highs point
+    ∙ ap₂ (λ (p q : Bool). if p then q else false)
+    (truths_same (all_hold lows point) (le_z l v)
+    (λ h. le_z_holds l v (low_from low point v flat_low (sides_to true f (parts low) point h)))
+    (λ h. sides_from true f (parts low) point (low_to low point v flat_low (holds_le_z l v h))))
+    (truths_same (all_hold highs point) (le_z v u)
+    (λ h. le_z_holds v u (high_from high point v flat_high (sides_to false f (parts high) point h)))
+    (λ h. sides_from false f (parts high) point (high_to high point v flat_high (holds_le_z v u h)))))
+
+-- a form that is one of the bounds of both sides
+pub record IsBetween (low high : Bounds) (f : Affine) (point : List ℤ) : Type 0 where
+  pub above : value_of f point ≤ℤ lower low point
+  pub below : upper high point ≤ℤ value_of f point
+
+pub is_between : (f : Affine) (low high : Bounds) (point : List ℤ) → In (whole f) (parts low)
+    → In (whole f) (parts high) → AreBounds low → AreBounds high → IsBetween low high f point
+is_between f low high point in_low in_high flat_low flat_high =
+    let v = value_of f point in
+    let l = lower low point in
+    let u = upper high point in
+    let above = on_member true (whole f) (parts low) point l in_low
     (low_to low point l flat_low (omega (arith, ints))) in
-    let below = on_member false (whole f) (parts high) point u once.high
+    let below = on_member false (whole f) (parts high) point u in_high
     (high_to high point u flat_high (omega (arith, ints))) in
     let t = turned_is (v -ℤ (l *ℤ pos 1)) in
     let o = mul_one_left (v -ℤ (u *ℤ pos 1)) in
     let a = mul_one_right l in
     let b = mul_one_right u in
-    let same = once.between.same point ∙ all_hold_append lows highs point in
-    let sides : all_hold tests point ≡ true → (all_hold lows point ≡ true) × (all_hold highs point ≡ true) =
-    λ h. both (all_hold lows point) (all_hold highs point) (sym same ∙ h) in
-    let low_true : all_hold tests point ≡ true → l ≤ℤ v =
-    λ h. low_from low point v flat_low (sides_to true f (parts low) point (sides h).0) in
-    let high_true : all_hold tests point ≡ true → v ≤ℤ u =
-    λ h. high_from high point v flat_high (sides_to false f (parts high) point (sides h).1) in
-    record {
-      first = λ h. let k = low_true h in omega (arith, ints);
-      last = λ h. let k = high_true h in omega (arith, ints);
-      never = λ h. elim (le_or_lt l u) [
-        | inr less ↦ less
-        | inl some ↦
-            let x = sides_from true f (parts low) point (low_to low point v flat_low (omega (arith, ints))) in
-            let y = sides_from false f (parts high) point (high_to high point v flat_high (omega (arith, ints))) in
-            let yes : all_hold tests point ≡ true =
-            same ∙ ap₂ (λ (p q : Bool). if p then q else false) x y in absurd (not_both (sym yes ∙ h))
-      ];
-    }
-  where
-    not_both : true ≡ false → ⊥
-    not_both e = cc
+    record { above = omega (arith, ints); below = omega (arith, ints) }
 
 -- the parts of bounds over n variables
 pub parts_sized : (n : ℕ) (bs : Bounds) → BoundsAreOver n bs → All (λ b. IsOver n b.form) (parts bs)

@@ -1,14 +1,14 @@
 -- What is left of trees visits what they visit: nodes behind others, a loop, a guard; loops with the same values.
 use Rattle.std.proofs.Common.{◌≡◌, ℕ, zero, suc, ◌+◌, ◌^◌, ◌≤◌, inl, inr, ℤ, pos, negsuc, List, [], ◌∷◌, ◌++◌}
 use Rattle.std.proofs.Common.{map, ap, ap₂, subst, sym, ◌∙◌, refl, arith}
-use Rattle.std.specs.Prelude.{◌↔◌, Bool, true, false, if◌then◌else◌, unsigned_abs, ◌+ℤ◌, ◌-ℤ◌, ◌*ℤ◌, ◌≤ℤ◌, ◌<ℤ◌}
+use Rattle.std.specs.Prelude.{◌↔◌, Bool, true, false, if◌then◌else◌, neg_ℤ, unsigned_abs, ◌+ℤ◌, ◌-ℤ◌, ◌*ℤ◌, ◌≤ℤ◌, ◌<ℤ◌}
 use Rattle.std.proofs.lemmas.Int.{ints}
 use Rattle.std.proofs.lemmas.List.{append-nil}
 use Rattle.std.proofs.lemmas.List.Elements.{All-cons, All-nil}
 use Rattle.whole_numbers.specs.Affine.{value_of}
 use Rattle.whole_numbers.proofs.Order.{le_or_lt}
 use Rattle.whole_numbers.proofs.Ring.{mul_one_left, mul_one_right}
-use Rattle.whole_numbers.proofs.Sizes.{abs_at_most, abs_high, abs_low}
+use Rattle.whole_numbers.proofs.Sizes.{abs_high, abs_low}
 use Rattle.affine_forms.specs.Parts.{variables_of}
 use Rattle.scop_syntax.specs.Members.{In}
 use Rattle.scop_syntax.specs.Walk.{Instance, most_turns}
@@ -22,7 +22,7 @@ use Rattle.loop_tree.specs.Tree.{Bound, Bounds, only, besides, Test, Tree, loop,
 use Rattle.loop_tree.specs.Walk.{Visit, all_hold, along, between, lower, upper, through, walk, walk_all}
 use Rattle.loop_tree.proofs.Lists.{between_none}
 use Rattle.loop_tree.proofs.Fits.{dot_zeros}
-use Rattle.tree_simplification.specs.Simplified.{StayWithin, StaysWithin}
+use Rattle.tree_simplification.specs.steps.Inlined.{StayWithin, StaysWithin}
 use Rattle.tree_simplification.specs.steps.Context.{ArePartsOver, Context, IsSizedContext, Meets, NaturalAbove, OnSide}
 use Rattle.tree_simplification.specs.steps.Context.{entered, parts}
 use Rattle.tree_simplification.specs.steps.Context.{sign_of, tested}
@@ -34,14 +34,14 @@ use Rattle.tree_simplification.proofs.JoinedTrees.{fits_joined, free_joined, wal
 use Rattle.tree_simplification.proofs.Shapes.{Each, each_among, flat_body}
 
 -- a loop's values, one by one
-along_same : {A : Type 0} (f g : ℤ → List A) (n : ℕ) (first : ℤ)
+pub along_same : {A : Type 0} (f g : ℤ → List A) (n : ℕ) (first : ℤ)
     → ((x : ℤ) → first ≤ℤ x → x <ℤ (first +ℤ pos n) → f x ≡ g x) → along f first n ≡ along g first n
 along_same f g zero first h = refl
 along_same f g (suc n) first h =
     ap₂ (λ xs ys. xs ++ ys) (h first (omega (arith, ints)) (omega (arith, ints)))
     (along_same f g n (first +ℤ pos 1) (λ x a b. h x (omega (arith, ints)) (omega (arith, ints))))
 
-between_same : {A : Type 0} (f g : ℤ → List A) (first last : ℤ)
+pub between_same : {A : Type 0} (f g : ℤ → List A) (first last : ℤ)
     → ((x : ℤ) → first ≤ℤ x → x ≤ℤ last → f x ≡ g x) → between f first last ≡ between g first last
 between_same f g first last h = turns (last -ℤ first) refl
   where
@@ -337,32 +337,36 @@ number_among turned (besides b bs) point x (inl h) on =
     (b.form.constant, h.constant, number_side turned b point x h on.0)
 number_among turned (besides b bs) point x (inr h) on = number_among turned bs point x h on.1
 
-small_value : (lo up : Bounds) (point : List ℤ) (x : ℤ) → HasNumber lo → HasNumber up
-    → OnSide true (parts lo) point x → OnSide false (parts up) point x → unsigned_abs x ≤ 2 ^ 40
-small_value lo up point x low high above below =
-    let a = number_among true lo point x low above in
-    let b = number_among false up point x high below in
-    let t = turned_is (a.0 -ℤ x) in
-    let o = mul_one_left (b.0 -ℤ x) in
-    let al = abs_low a.0 in
-    let bh = abs_high b.0 in
-    let a1 = a.1 in
-    let a2 = a.2 in
-    let b1 = b.1 in
-    let b2 = b.2 in
-    abs_at_most x (2 ^ 40) (omega (arith, ints, t, al, a1, a2)) (omega (arith, ints, o, bh, b1, b2))
+low_value : (lo : Bounds) (point : List ℤ) → AreBounds lo → HasNumber lo → neg_ℤ (pos (2 ^ 40)) ≤ℤ lower lo point
+low_value lo point flat h =
+    let l = lower lo point in
+    let a = number_among true lo point l h (low_to lo point l flat (omega (arith, ints))) in
+    let t = turned_is (a.0 -ℤ l) in
+    let k = abs_low a.0 in
+    let small = a.1 in
+    let side = a.2 in
+    omega (arith, ints, t, k, small, side)
+
+high_value : (up : Bounds) (point : List ℤ) → AreBounds up → HasNumber up → upper up point ≤ℤ pos (2 ^ 40)
+high_value up point flat h =
+    let u = upper up point in
+    let b = number_among false up point u h (high_to up point u flat (omega (arith, ints))) in
+    let o = mul_one_left (b.0 -ℤ u) in
+    let k = abs_high b.0 in
+    let small = b.1 in
+    let side = b.2 in
+    omega (arith, ints, o, k, small, side)
 
 -- a tree of small numbers has small values
 mutual
   stays_one : (d : ℕ) (t : Tree) (params outer : List ℤ) → IsSmallTree d t → FlatAll (more t none)
       → StaysWithin (2 ^ 40) t params outer
   stays_one zero (loop flag lo up body) params outer small flat = absurd small
-  stays_one (suc d) (loop flag lo up body) params outer small flat =
-      λ x w. (
-        small_value lo up (outer ++ params) x small.2 small.3 (low_to lo (outer ++ params) x flat.0.0 w.0)
-            (high_to up (outer ++ params) x flat.0.1 w.1),
-        stays_all d body params (outer ++ x ∷ []) small.4 flat.0.2,
-      )
+  stays_one (suc d) (loop flag lo up body) params outer small flat = (
+    low_value lo (outer ++ params) flat.0.0 small.2,
+    high_value up (outer ++ params) flat.0.1 small.3,
+    (λ x w. stays_all d body params (outer ++ x ∷ []) small.4 flat.0.2),
+  )
   stays_one zero (guard tests body) params outer small flat =
       λ e. stays_all zero body params outer small.1 (flat_body tests body flat)
   stays_one (suc d) (guard tests body) params outer small flat =

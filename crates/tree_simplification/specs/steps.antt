@@ -4,4 +4,5 @@ pub mod Context
 pub mod ContextView
 pub mod Rounded
 pub mod Inlined
+pub mod Strided
 pub mod Trimmed

@@ -1,8 +1,9 @@
 //! Loop trees with less in them: bounds and tests lose common factors, loops that run at most once are gone, their
-//! value standing in the forms within, and tests, parts of bounds and pieces that what stands round them implies or
-//! denies are left out. Promises that the new tree shows exactly what the old one shows for all parameters in 0..=65536
-//! (C. Bastoul, "Code generation in the polyhedral model is easier than you think", PACT 2004, section 4; C. Chen,
-//! "Polyhedra scanning revisited", PLDI 2012, overhead removal).
+//! value standing in the forms within, turns are taken so many at once where a form is divided, and tests, parts of
+//! bounds and pieces that what stands round them implies or denies are left out. Promises that the new tree shows
+//! exactly what the old one shows for all parameters in 0..=65536 (C. Bastoul, "Code generation in the polyhedral model
+//! is easier than you think", PACT 2004, section 4; C. Chen, "Polyhedra scanning revisited", PLDI 2012, overhead
+//! removal).
 #![tactic(auto)]
 
 mod asking;

@@ -13,9 +13,10 @@ use loop_tree::Tree;
 use std::alloc::{AllocError, Global};
 
 /// A tree that shows what this one shows for all parameters in 0..=65536: bounds and tests lose common factors, loops
-/// that are found to run at most once give way to their value under tests, and tests and parts of bounds that are found
-/// to be implied are left out, so is what is found never to be visited. The tree speaks of so many parameters; each
-/// question may make so many moves of the solver, and where it needs more the thing stays.
+/// that are found to run at most once give way to their value under tests, turns are taken so many at once where a loop
+/// within divides by so many, and tests and parts of bounds that are found to be implied are left out, so is what is
+/// found never to be visited. The tree speaks of so many parameters; each question may make so many moves of the solver,
+/// and where it needs more the thing stays.
 ///
 /// # Errors
 /// `AllocError` alone.

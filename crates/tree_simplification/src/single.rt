@@ -1,4 +1,4 @@
-//! The step that takes out the loops that run once.
+//! The step that takes out the loops that run once, and takes several turns of a loop at once.
 
 mod heads;
 mod nodes;
@@ -7,5 +7,7 @@ mod once;
 mod place;
 mod rounding;
 mod straight;
+mod stride;
+mod turns;
 
 pub(crate) use nodes::without_single;

@@ -1,6 +1,6 @@
 -- Trees in which the loops that run once have given way to their values.
 use Rattle.std.specs.Prelude.{◌≡◌, ℕ, ◌+◌, ◌^◌, ◌≤◌, Bool, true, false, ℤ, ◌*ℤ◌, not, List, [], ◌∷◌, ◌++◌, All}
-use Rattle.std.specs.Prelude.{◌⊎◌, length, map, pos}
+use Rattle.std.specs.Prelude.{◌⊎◌, ◌≤ℤ◌, length, map, neg_ℤ, pos, ⊤}
 use Rattle.whole_numbers.specs.Affine.{Affine, composed, multiple_of_form, sum_of_forms, values_of, widened}
 use Rattle.fm_projection.specs.Alone.{AreInRange}
 use Rattle.scop_syntax.specs.Kernel.{AreAtMost}
@@ -10,19 +10,36 @@ use Rattle.iteration_domains.specs.Rows.{variable, variables}
 use Rattle.loop_tree.specs.Fits.{FitsAll, form_in}
 use Rattle.loop_tree.specs.Marks.{AreTests, FlatAll}
 use Rattle.loop_tree.specs.Plans.{AreFree, Conflict}
+use Rattle.loop_tree.specs.Scans.{Within}
 use Rattle.loop_tree.specs.Shape.{AreSerial, BoundsAreUpTo, IsOver, NestAllTo, TestIsUpTo, TreesAreOf, TreesAreOver}
 use Rattle.loop_tree.specs.Shape.{TreesAreUpTo}
-use Rattle.loop_tree.specs.Tree.{Bound, Bounds, only, besides, Test, at_least, equal, multiple, Trees}
+use Rattle.loop_tree.specs.Tree.{Bound, Bounds, only, besides, Test, at_least, equal, multiple, Tree, loop, guard}
+use Rattle.loop_tree.specs.Tree.{instance, Trees, none, more}
 use Rattle.loop_tree.specs.View.{test_of}
-use Rattle.loop_tree.specs.Walk.{all_hold, holds, walk_all}
+use Rattle.loop_tree.specs.Walk.{all_hold, holds, lower, upper, walk_all}
 use Rattle.loop_tree.specs.declared.tree.Test.{Test as CodeTest}
-use Rattle.tree_simplification.specs.Simplified.{shown, shows, StayWithin}
+use Rattle.tree_simplification.specs.Simplified.{shown, shows}
 use Rattle.tree_simplification.specs.steps.Context.{parts, sign_of}
 use Rattle.tree_simplification.specs.steps.Joined.{joined}
 use Rattle.tree_simplification.specs.steps.Rounded.{rounded, rounded_test}
 
+abbrev mutual
+  -- each loop of the walk starts and ends within n
+  pub StaysWithin : ℕ → Tree → List ℤ → List ℤ → Type 0
+  StaysWithin n (loop flag lo up body) params outer =
+      (neg_ℤ (pos n) ≤ℤ lower lo (outer ++ params)) × (upper up (outer ++ params) ≤ℤ pos n)
+      × ((x : ℤ) → Within lo up (outer ++ params) x → StayWithin n body params (outer ++ x ∷ []))
+  StaysWithin n (guard tests body) params outer =
+      all_hold tests (outer ++ params) ≡ true → StayWithin n body params outer
+  StaysWithin n (instance k forms) params outer = ⊤
+
+  -- so it is in each of these trees
+  pub StayWithin : ℕ → Trees → List ℤ → List ℤ → Type 0
+  StayWithin n none params outer = ⊤
+  StayWithin n (more t ts) params outer = StaysWithin n t params outer × StayWithin n ts params outer
+
 -- for all parameters the new trees show what the old ones show, and iterations of parallel loops that were free of
--- conflicts are so; the numbers fit for parameters in 0..=65536 for which the values of the old loops lie within 2^40
+-- conflicts are so; the numbers fit for parameters in 0..=65536 for which the old loops start and end within 2^40
 pub record IsInlined (parameters : ℕ) (old new : Trees) : Type 0 where
   pub alike : (params : List ℤ) → length params ≡ parameters → shows new params ≡ shows old params
   pub free : (program : Program) (params : List ℤ) → length params ≡ parameters
@@ -141,14 +158,6 @@ pub record CanKeep (parameters kept : ℕ) (loops forms : List Affine) (lo up lo
   pub upper : high ≡ bounds_over false (kept + parameters) forms up
   pub small_low : BoundsAreUpTo (2 ^ 45) low
   pub small_high : BoundsAreUpTo (2 ^ 45) high
-
--- and of one that runs at most once
-pub record CanGoOnce (parameters kept : ℕ) (loops forms : List Affine) (flag : Bool) (lo up : Bounds) (f : Affine)
-    (tests : List Test) (old : Trees) : Type 0 where
-  pub can : CanInline parameters kept loops forms old
-  pub serial : flag ≡ false
-  pub once : IsOnce (kept + parameters) f (bounds_over true (kept + parameters) forms lo)
-      (bounds_over false (kept + parameters) forms up) tests
 
 -- behind the trees there were stand those that the old ones gave way to
 abbrev pub Extends : ℕ → ℕ → List Affine → Trees → Trees → Trees → Type 0

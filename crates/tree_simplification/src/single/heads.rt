@@ -10,6 +10,7 @@ ghost use Rattle.loop_tree.specs.View.{bounds_in, test_of};
 ghost use Rattle.loop_tree.specs.Walk.{holds};
 ghost use Rattle.tree_simplification.specs.steps.Inlined.{AreTestsFor, AreWith, bound_over, bounds_over};
 ghost use Rattle.tree_simplification.specs.steps.Inlined.{test_over};
+ghost use Rattle.tree_simplification.specs.steps.Strided.{AreEnds, CanBound};
 
 use crate::single::numbers::{Stop, composed, composition};
 use crate::single::rounding::{rounded, rounded_at_least, rounded_equal};
@@ -77,6 +78,30 @@ pub fn bounds_at(
     Ok(Bounds { first, others })
 }
 
+/// The bounds of a loop from both sides.
+#[derive(Drop)]
+pub struct Ends {
+    pub lower: Bounds,
+    pub upper: Bounds,
+}
+
+/// The bounds of a loop over other variables.
+pub fn ends_at(
+    alloc: Global,
+    lower: &Bounds,
+    upper: &Bounds,
+    forms: &[Form],
+    variables: usize,
+) -> Result<Ends, Stop>
+    requires { CanBound variables forms.now (bounds_in lower.now) (bounds_in upper.now) }
+    ensures { IfOk result (λ e. AreEnds variables forms.now (bounds_in lower.now) (bounds_in upper.now)
+        (bounds_in e.lower) (bounds_in e.upper)) }
+{
+    let lower = bounds_at(alloc, lower, forms, variables, true)?;
+    let upper = bounds_at(alloc, upper, forms, variables, false)?;
+    Ok(Ends { lower, upper })
+}
+
 /// A test.
 fn test_at(alloc: Global, test: &Test, forms: &[Form], variables: usize) -> Result<Test, Stop>
     requires count { IsOver (length forms.now) (form_in (test_of test.now)) }
@@ -130,7 +155,7 @@ fn constant_is_zero(form: &Aff) -> bool
 }
 
 /// Whether a number is a multiple of another.
-fn is_multiple(number: i128, of: i128) -> bool
+pub fn is_multiple(number: i128, of: i128) -> bool
     requires { pos 1 ≤ℤ of }
     ensures { result ≡ le_z number (floor number of *ℤ of) }
 {

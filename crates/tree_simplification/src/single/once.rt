@@ -120,7 +120,12 @@ pub struct Once {
 }
 
 /// The tests whether a form lies between bounds.
-fn side_tests(alloc: Global, form: &Form, lows: &[Bound], ups: &[Bound]) -> Result<Vec<Test>, Stop>
+pub fn side_tests(
+    alloc: Global,
+    form: &Form,
+    lows: &[Bound],
+    ups: &[Bound],
+) -> Result<Vec<Test>, Stop>
     requires lows { All (λ b. IsOver (variables_of form.now) b.form) lows.now }
     requires ups { All (λ b. IsOver (variables_of form.now) b.form) ups.now }
     ensures { IfOk result (λ ts. AreTestsOf (variables_of form.now)

@@ -1,6 +1,7 @@
 //! Where the walk stands: what the values of the old loops round a node are, as forms over the new loops and the
 //! parameters.
-ghost use Rattle.std.specs.Prelude.{◌≡◌, ◌+◌, ◌-◌, ◌<◌, ◌≤◌, ◌^◌, ◌++◌, ◌∷◌, [], All, IfOk, OnOk};
+ghost use Rattle.std.specs.Prelude.{◌≡◌, ◌+◌, ◌-◌, ◌<◌, ◌≤◌, ◌^◌, ◌++◌, ◌∷◌, [], All, IfOk, OnOk, map};
+ghost use Rattle.whole_numbers.specs.Affine.{widened};
 ghost use Rattle.iteration_domains.specs.Rows.{variables};
 ghost use Rattle.loop_tree.specs.Shape.{IsOver};
 ghost use Rattle.tree_simplification.specs.steps.Inlined.{inside};
@@ -81,6 +82,21 @@ pub fn within_loop(alloc: Global, place: &Place, parallel: bool) -> Result<Place
         variable_form(alloc, kept + place.parameters, place.kept)?,
     )?;
     place_of(alloc, loops, kept, place.parameters, parallel)
+}
+
+/// The place within a loop that stands for none of the old ones.
+pub fn within_block(alloc: Global, place: &Place) -> Result<Place, AllocError>
+    requires few { place.now.kept + 1 + place.now.parameters ≤ 2 ^ 34 }
+    requires sized { All (IsOver (place.now.kept + place.now.parameters)) place.now.loops.items }
+    ensures loops { IfOk result (λ p. p.loops.items ≡ map (widened place.now.kept) place.now.loops.items) }
+    ensures forms { IfOk result (λ p. p.forms.items
+        ≡ p.loops.items
+        ++ variables (place.now.kept + 1 + place.now.parameters) (place.now.kept + 1) place.now.parameters) }
+    ensures kept { IfOk result (λ p. p.kept ≡ place.now.kept + 1) }
+    ensures parameters { IfOk result (λ p. p.parameters ≡ place.now.parameters) }
+{
+    let loops = widen_all(alloc, place.loops.as_slice(), place.kept)?;
+    place_of(alloc, loops, place.kept + 1, place.parameters, false)
 }
 
 /// The place within a loop that runs at most once, where a form gives its value.

@@ -7,7 +7,7 @@ use loop_tree::{Bound, Bounds, Loop, Node};
 const DEEPEST: usize = 32;
 
 /// Whether a part is one of bounds.
-fn is_in(part: &Bound, bounds: &Bounds) -> bool {
+pub fn is_in(part: &Bound, bounds: &Bounds) -> bool {
     if same_part(part, &bounds.first) {
         return true;
     }
