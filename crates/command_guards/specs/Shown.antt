@@ -31,7 +31,7 @@ use Rattle.report_text.specs.StatusText.{status_text}
 use Rattle.report_text.specs.TilesText.{tiles_text}
 use Rattle.report_text.specs.declared.status.Status.TheVariants.{BadData, WriteFault}
 use Rattle.plan_check.specs.Judged.{judged}
-use Rattle.plan_certificate.specs.Certificates.{certificate_of}
+use Rattle.polypar.specs.Certificates.{certificate_of}
 use Rattle.command_line.specs.declared.command.RunOptions.{RunOptions}
 use Rattle.polypar.specs.Planned.{AreExpanded, ArePlanned, is_tiled}
 use Rattle.polypar.specs.Planning.{IsCauseOf, IsSearched}

@@ -1,4 +1,4 @@
-//! A caller of the top call: each of its clauses follows from one field of `Answered`, with what that field speaks of
+//! Callers of the top call: each of their clauses follows from one field of `Answered`, with what that field speaks of
 //! written out. So one of these fields that is emptied fails here, and so does a definition under it, but for those
 //! that are named here: which input is accepted or spells a kernel, what is asked for, what a generated kernel leaves,
 //! which arrays a kernel only adds to (`marks`), which read is the first whose source is not told, and by which line
@@ -35,7 +35,7 @@ ghost use Rattle.plan_check.specs.Goals.{InRange};
 ghost use Rattle.plan_check.specs.Judged.{SaysPlan, judged, rejected_at};
 ghost use Rattle.plan_check.specs.Plans.{Plan, tiling_of};
 ghost use Rattle.plan_check.specs.declared.kinds.FaultKind.{FaultKind};
-ghost use Rattle.plan_certificate.specs.Certificates.{certificate_of};
+ghost use Rattle.polypar.specs.Certificates.{certificate_of};
 ghost use Rattle.kernel_gen.specs.Cases as cases;
 ghost use Rattle.kernel_gen.specs.Summary.{summary_text};
 ghost use Rattle.kernel_gen.specs.Totals.{cells_in, sum_of};
@@ -61,12 +61,8 @@ use io_ports::{Sink, Source};
 use polypar::{Status, plain_command};
 use std::alloc::Global;
 
-/// A call of `plain_command`: by `done` the arrays and the report of `run`, by `scheduled`, `sourced`, `emitted`,
-/// `generated`, `checked` and `certified` what another command tells, by `deserved` why a certificate is rejected, by
-/// `unread`, `nothing` and `written` what else ports show; by `error_line` the line of data that is refused, with the
-/// names of the program that was read, the lines of a command that is done, and those of one that is cut off, with the
-/// count that rose.
-pub fn answered_call<S: Source, O: Sink, E: Sink>(
+/// A run: by `done` the arrays and the report of `run`, by `generated` the summary of `gen`.
+pub fn answered_run<S: Source, O: Sink, E: Sink>(
     alloc: Global,
     words: &[String],
     source: &mut S,
@@ -80,6 +76,27 @@ pub fn answered_call<S: Source, O: Sink, E: Sink>(
     ensures report { (options : RunOptions) → IsRunCommand options (map string_bytes words.now)
         → options.report ≡ true → result ≡ Done
         → GainsReport options (S.shows source.old).left (E.shows err.old) (E.shows err.new) }
+    ensures summary { (g : GeneratedKernel) (options : RunOptions)
+        → IsGenCommand g options (map string_bytes words.now) → result ≡ Done
+        → (plan : Tiling) × (trees : Trees) × (lines : List ℕ) × (tiles : ℕ) × (waves : ℕ)
+        × ArePlanned options.tile options.budget false [] (cases.program g.kind g.seed) plan lines trees
+        × HasTiles plan (walked (cases.program g.kind g.seed) (cases.params g.kind g.size)) tiles
+        × HasWaves plan (walked (cases.program g.kind g.seed) (cases.params g.kind g.size)) waves
+        × Appends (O.shows out.old).taken (O.shows out.new).taken
+        (summary_text g.kind g.seed g.size tiles waves (cells_in (left_by g)) (sum_of (left_by g)))
+        × Appends (E.shows err.old).taken (E.shows err.new).taken lines }
+{
+    plain_command(alloc, words, source, out, err)
+}
+
+/// What is told of a kernel: by `scheduled` its schedule, by `sourced` the sources of its reads, by `emitted` its loops.
+pub fn answered_kernel<S: Source, O: Sink, E: Sink>(
+    alloc: Global,
+    words: &[String],
+    source: &mut S,
+    out: &mut O,
+    err: &mut E,
+) -> Status
     ensures schedule { (budget : ℕ) → IsScheduleCommand budget (map string_bytes words.now) → result ≡ Done
         → (input : List ℕ) × (kernel : Spelled input) × (text : List ℕ) × IsAllOf (S.shows source.old).left input
         × (((blocks : List Block)
@@ -104,15 +121,18 @@ pub fn answered_call<S: Source, O: Sink, E: Sink>(
         × ((params : List ℤ) (size : ℕ) (statements : List Items) → HasParameters kernel.program params
         → plan ≡ tiled size statements → has_rows statements ≡ true → (v : Visit) → In v (walk_all trees params [])
         → v.parallel ≡ first_coordinate size (items_at statements v.number).band v.turns) }
-    ensures summary { (g : GeneratedKernel) (options : RunOptions)
-        → IsGenCommand g options (map string_bytes words.now) → result ≡ Done
-        → (plan : Tiling) × (trees : Trees) × (lines : List ℕ) × (tiles : ℕ) × (waves : ℕ)
-        × ArePlanned options.tile options.budget false [] (cases.program g.kind g.seed) plan lines trees
-        × HasTiles plan (walked (cases.program g.kind g.seed) (cases.params g.kind g.size)) tiles
-        × HasWaves plan (walked (cases.program g.kind g.seed) (cases.params g.kind g.size)) waves
-        × Appends (O.shows out.old).taken (O.shows out.new).taken
-        (summary_text g.kind g.seed g.size tiles waves (cells_in (left_by g)) (sum_of (left_by g)))
-        × Appends (E.shows err.old).taken (E.shows err.new).taken lines }
+{
+    plain_command(alloc, words, source, out, err)
+}
+
+/// A certificate: by `checked` that it is accepted, by `deserved` why it is rejected, by `certified` what is written.
+pub fn answered_certificate<S: Source, O: Sink, E: Sink>(
+    alloc: Global,
+    words: &[String],
+    source: &mut S,
+    out: &mut O,
+    err: &mut E,
+) -> Status
     ensures checked { IsCheckCommand (map string_bytes words.now) → result ≡ Done
         → (input : List ℕ) × (kernel : Spelled input) × (plan : Plan) × IsAllOf (S.shows source.old).left input
         × SaysPlan kernel.program (data_part input) plan
@@ -125,6 +145,20 @@ pub fn answered_call<S: Source, O: Sink, E: Sink>(
         → (input : List ℕ) × (program : Program) × IsAllOf (S.shows source.old).left input
         × SpellsProgram (kernel_part input) program
         × (judged program (data_part input) ≡ Err (rejected_at kind line)) }
+{
+    plain_command(alloc, words, source, out, err)
+}
+
+/// How a call ends: by `unread`, `nothing` and `written` what else ports show; by `error_line` the line of data that is
+/// refused, with the names of the program that was read, the lines of a command that is done, and those of one that is
+/// cut off, with the count that rose.
+pub fn ended_call<S: Source, O: Sink, E: Sink>(
+    alloc: Global,
+    words: &[String],
+    source: &mut S,
+    out: &mut O,
+    err: &mut E,
+) -> Status
     ensures unread { result ≡ Usage → S.shows source.new ≡ S.shows source.old }
     ensures nothing { result ≢ Done → result ≢ WriteFault → O.shows out.new ≡ O.shows out.old }
     ensures front { result ≡ WriteFault → (input : List ℕ) × (told : Told)

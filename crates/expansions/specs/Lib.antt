@@ -1,3 +1,2 @@
 pub mod Expansions
-pub mod Rows
 pub mod steps

@@ -7,7 +7,6 @@ mod listing;
 mod marking;
 mod placing;
 mod sourcing;
-pub mod worked_rows;
 
 pub use placing::places_of_visits;
 pub use sourcing::{NoSources, Sources, source_places};

@@ -18,7 +18,8 @@ use Rattle.loop_tree.specs.Tree.{Trees}
 use Rattle.loop_tree.specs.View.{trees_in}
 use Rattle.pluto_search.specs.Items.{Block}
 use Rattle.pluto_search.specs.Schedule.{IsScheduled, Scheduled, bands_from, items_of, marks_of, scheduled}
-use Rattle.plan_tree.specs.Trees.{AreFlowTreesOf, AreTreesOf, IsFlowScheduleFor, IsScheduleFor, arrays_of, tiling_of}
+use Rattle.plan_tree.specs.Trees.{AreFlowTreesOf, AreTreesOf}
+use Rattle.plan_tree.specs.Schedules.{IsFlowScheduleFor, IsScheduleFor, arrays_of, tiling_of}
 use Rattle.kernel_plans.specs.declared.plans.Planned.{Planned}
 use Rattle.kernel_plans.specs.Found.{HoldFor, LieBetween}
 use Rattle.kernel_plans.specs.Planned.{AreExpanded, AreKept, AreSourcesTold, AreTiled, IsExpandedPlan, flow_in}

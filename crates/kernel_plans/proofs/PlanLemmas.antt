@@ -9,7 +9,7 @@ use Rattle.scop_syntax.specs.Tree.{Program}
 use Rattle.scop_syntax.specs.Walk.{Instance}
 use Rattle.iteration_domains.specs.Dependence.{Dependence}
 use Rattle.iteration_domains.specs.Model.{KernelModel, model_of}
-use Rattle.fm_projection.specs.declared.stop.FmStop.{FmStop}
+use Rattle.plan_tree.specs.FmStop.{FmStop}
 use Rattle.pluto_search.specs.Stuck.TheVariants as stuck
 use Rattle.pluto_search.specs.Schedule.{Scheduled, IsScheduled}
 use Rattle.loop_tree.specs.Tiling.{Tiling, kept, items_at}
@@ -19,7 +19,8 @@ use Rattle.loop_tree.specs.View.{trees_in}
 use Rattle.loop_tree.specs.Walk.{visits}
 use Rattle.tile_list.specs.Tiles.{CanTile}
 use Rattle.plan_tree.specs.Tilings.{schedule_tiling, statements_from}
-use Rattle.plan_tree.specs.Trees.{AreTreesOf, IsScheduleFor, StopsTiled, tiling_of}
+use Rattle.plan_tree.specs.Trees.{AreTreesOf}
+use Rattle.plan_tree.specs.Schedules.{IsScheduleFor, StopsTiled, tiling_of}
 use Rattle.plan_certificate.specs.KeptLine.{KeptLine}
 use Rattle.kernel_plans.specs.declared.plans.Planned.{Planned}
 use Rattle.kernel_plans.specs.Planned.{IsCauseOfKept, IsPlanned}

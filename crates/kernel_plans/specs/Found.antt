@@ -10,7 +10,7 @@ use Rattle.iteration_domains.specs.Model.{KernelModel, model_of}
 use Rattle.dataflow.specs.Covering.{LiesBetween}
 use Rattle.pluto_search.specs.Schedule.{Scheduled}
 use Rattle.pluto_search.specs.Searching.{Searches}
-use Rattle.plan_tree.specs.Trees.{IsScheduleFor}
+use Rattle.plan_tree.specs.Schedules.{IsScheduleFor}
 use Rattle.plan_certificate.specs.KeptLine.{KeptLine}
 use Rattle.kernel_plans.specs.Planning.{IsCauseOf}
 

@@ -13,6 +13,7 @@ pub use Rattle.dataflow.specs.Told
 pub use Rattle.dataflow.specs.Way
 pub use Rattle.dataflow.specs.declared.source.ReadSource
 pub use Rattle.dataflow.specs.declared.source.SourceStop
+pub use Rattle.plan_certificate.specs.Certificates
 pub use Rattle.plan_certificate.specs.DepsText
 pub use Rattle.plan_certificate.specs.Status
 pub use Rattle.plan_certificate.specs.StatusText
@@ -20,6 +21,7 @@ pub use Rattle.plan_certificate.specs.TilesText
 pub use Rattle.plan_certificate.specs.UnexpandedLine
 pub use Rattle.plan_certificate.specs.UnexpandedText
 pub use Rattle.plan_tree.specs.Executions
+pub use Rattle.plan_tree.specs.Schedules
 pub use Rattle.plan_tree.specs.Trees
 pub use Rattle.tile_list.specs.Counting
 pub use Rattle.tile_list.specs.Tiles

@@ -8,7 +8,7 @@ use Rattle.dataflow.specs.Flow.{IsResolved, flow_of, tree_in}
 use Rattle.dataflow.specs.ReadSources.{AreSources, reads_of}
 use Rattle.dataflow.specs.Way.TheVariants.{Later}
 use Rattle.dataflow.specs.declared.source.ReadSource.{ReadSource}
-use Rattle.fm_projection.specs.declared.stop.FmStop.{FmStop}
+use Rattle.plan_tree.specs.FmStop.{FmStop}
 use Rattle.pluto_search.specs.Stuck.TheVariants as stuck
 use Rattle.pluto_search.specs.Items.{Block}
 use Rattle.loop_tree.specs.Source.{source_of}
@@ -17,7 +17,8 @@ use Rattle.loop_tree.specs.TilingView.{tiling_of as tiling_in}
 use Rattle.loop_tree.specs.Tree.{Trees}
 use Rattle.loop_tree.specs.View.{trees_in}
 use Rattle.loop_tree.specs.Walk.{visits}
-use Rattle.plan_tree.specs.Trees.{AreFlowTreesOf, AreTreesOf, StopsTiled, tiling_of}
+use Rattle.plan_tree.specs.Trees.{AreFlowTreesOf, AreTreesOf}
+use Rattle.plan_tree.specs.Schedules.{StopsTiled, tiling_of}
 use Rattle.tile_list.specs.Tiles.{CanTile}
 use Rattle.plan_certificate.specs.KeptLine.{KeptLine}
 use Rattle.plan_certificate.specs.KeptText.{kept_text}

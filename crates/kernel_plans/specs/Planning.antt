@@ -4,7 +4,7 @@ use Rattle.scop_syntax.specs.Tree.{Program}
 use Rattle.iteration_domains.specs.Dependence.{Dependence}
 use Rattle.iteration_domains.specs.Model.{KernelModel, model_of}
 use Rattle.dataflow.specs.Covering.{covers_of}
-use Rattle.fm_projection.specs.declared.FmStop.TheVariants as elimination
+use Rattle.plan_tree.specs.FmStop.TheVariants as elimination
 use Rattle.pluto_search.specs.Stop.TheVariants as solver
 use Rattle.pluto_search.specs.Stuck.{Stuck}
 use Rattle.pluto_search.specs.Stuck.TheVariants as stuck

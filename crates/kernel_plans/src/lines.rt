@@ -3,8 +3,8 @@
 ghost use Rattle.std.specs.Prelude.{◌≡◌, IfOk, None, Some};
 ghost use Rattle.kernel_plans.specs.Planning.{line_of, line_of_kept, IsLineText};
 
-use fm_projection::FmStop;
 use plan_certificate::{KeptLine, kept_text};
+use plan_tree::FmStop;
 use pluto_search::{Kept, Stop, Stuck};
 use std::alloc::{AllocError, Global};
 

@@ -8,7 +8,7 @@ ghost use Rattle.scop_syntax.specs.View.{program_of};
 ghost use Rattle.iteration_domains.specs.Dependence.{Dependence};
 ghost use Rattle.iteration_domains.specs.Model.{model_of};
 ghost use Rattle.pluto_search.specs.Schedule.{IsScheduled};
-ghost use Rattle.plan_tree.specs.Trees.{IsScheduleFor};
+ghost use Rattle.plan_tree.specs.Schedules.{IsScheduleFor};
 ghost use Rattle.kernel_plans.specs.Found.{HoldFor, LieBetween};
 ghost use Rattle.kernel_plans.specs.Planned.{AreSourcesTold, IsExpandedPlan, IsPlanned};
 ghost use Rattle.kernel_plans.specs.Planning.{IsSearched};

@@ -7,12 +7,6 @@ use Rattle.scop_syntax.proofs.Members.{nat_cases}
 use Rattle.tile_core.specs.Plans.{HasRest, HoldsContents, plain_shape}
 use Rattle.tile_core.specs.declared.plan.Plan.{Plan}
 use Rattle.tile_events.specs.Flat.{flat}
-use Rattle.kernel_runs.specs.steps.Rows.{Begins}
-
--- a row that begins with one that begins with another
-pub begins_then : (old row new : List ℕ) → Begins old row → Begins row new → Begins old new
-begins_then old row new f g =
-    (f.0 ++ g.0, g.1 ∙ (ap (λ xs. xs ++ g.0) f.1 ∙ append_assoc old f.0 g.0))
 
 -- zeros behind zeros
 pub zeros_then : (old row new : List ℕ) (n k : ℕ) → row ≡ old ++ replicate n 0 → new ≡ row ++ replicate k 0

@@ -5,7 +5,7 @@ use Rattle.scop_syntax.specs.Limits.{HasParameters}
 use Rattle.scop_syntax.specs.Tree.{Program}
 use Rattle.loop_tree.specs.Tiling.{IsFlowPlan, IsGoodFor, Tiling}
 use Rattle.loop_tree.specs.Tree.{Trees}
-use Rattle.plan_tree.specs.Trees.{AreFlowTreesOf, AreTreesOf}
+use Rattle.planned_trees.specs.Trees.{AreFlowTreesOf, AreTreesOf}
 
 -- trees of a plan, where some arrays are marked; of a flow plan, where something is there
 abbrev pub HaveTrees : {S : Type 0} → Option S → Program → List ℕ → Tiling → Trees → Type 0

@@ -8,7 +8,7 @@ ghost use Rattle.scop_syntax.specs.Walk.{walk_of};
 ghost use Rattle.loop_tree.specs.TilingView.{tiling_of};
 ghost use Rattle.loop_tree.specs.View.{trees_in};
 ghost use Rattle.loop_tree.specs.Walk.{visits};
-ghost use Rattle.plan_tree.specs.Trees.{AreTreesOf};
+ghost use Rattle.planned_trees.specs.Trees.{AreTreesOf};
 ghost use Rattle.stmt_table.specs.Tables.{IsTableOf};
 ghost use Rattle.tile_core.specs.Plans.{HaveRoom};
 ghost use Rattle.tile_edges.specs.Counting.{IsReleaseOf};
@@ -18,7 +18,7 @@ ghost use Rattle.tile_list.specs.TilesView.{IsTileListOf};
 
 use data_text::Case;
 use loop_tree::{Tiling, Tree};
-use plan_tree::laws::trees_of_plans_can_be_walked;
+use planned_trees::laws::trees_of_plans_can_be_walked;
 use scop_syntax::tree::Kernel;
 use std::alloc::{AllocError, Global};
 use stmt_table::table::Table;

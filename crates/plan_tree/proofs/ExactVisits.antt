@@ -27,7 +27,7 @@ use Rattle.tile_skew.specs.ScanSets.{front_of, most_iterators, scan_set}
 use Rattle.tile_skew.specs.Tilings.{statement_items, statements_from}
 use Rattle.plain_scan.specs.Scanning.{GiveIterators}
 use Rattle.plain_scan.specs.Sets.{IsKeyOf, Keys}
-use Rattle.plan_tree.specs.Trees.{tiling_of}
+use Rattle.plan_tree.specs.Schedules.{tiling_of}
 use Rattle.plan_tree.specs.steps.Scanning.{IsPlaced, place_in, set_of, sets_of}
 
 -- what the laws of the walk, of domains and of scan sets say of a kernel's instances and their places

@@ -27,7 +27,7 @@ use Rattle.tile_skew.specs.Items.{Block}
 use Rattle.tile_skew.specs.Next.{IsSizedDep}
 use Rattle.tile_skew.specs.Outcomes.{IsSchedule}
 use Rattle.tile_skew.specs.Schedule.{IsScheduled, Scheduled, loops_in}
-use Rattle.plan_tree.specs.Trees.{IsFlowScheduleFor, IsScheduleFor, arrays_of, tiling_of}
+use Rattle.plan_tree.specs.Schedules.{IsFlowScheduleFor, IsScheduleFor, arrays_of, tiling_of}
 
 -- a number within a range is one of it
 marked_within : (k n a : ℕ) → k ≤ a → a < k + n → is_marked (range_with_len k n) a ≡ true

@@ -12,7 +12,7 @@ use Rattle.loop_tree.specs.Source.{source_of}
 use Rattle.loop_tree.specs.Tiling.{IsGoodPlan, kept}
 use Rattle.loop_tree.specs.Tree.{Trees}
 use Rattle.loop_tree.specs.Walk.{visits}
-use Rattle.plan_tree.specs.Trees.{AreTreesOf}
+use Rattle.planned_trees.specs.Trees.{AreTreesOf}
 use Rattle.plan_tree.proofs.ConflictFreedom.{serial_is_free}
 use Rattle.plan_tree.proofs.Nests.{source_nests}
 

@@ -1,4 +1,3 @@
-pub mod RunResults
 pub mod ExactVisits
 pub mod FlowSchedules
 pub mod ConflictFreedom
@@ -6,16 +5,11 @@ pub mod KeptOrder
 pub mod MarkedPlaces
 pub mod ModelStatements
 pub mod Nests
-pub mod Orders
 pub mod Parallel
-pub mod TreeRuns
 pub mod ScannableSets
 pub mod Scans
 pub mod Schedules
 pub mod Shapes
-pub mod Shuffles
 pub mod Waves
 pub mod SimplerTrees
-pub mod WalkedVisits
-pub mod Lengths
 pub mod Rows

@@ -24,12 +24,13 @@ use Rattle.tile_skew.proofs.AlikeSets.{scanned_alike}
 use Rattle.tile_skew.proofs.PlaceOrder.{band_lengths}
 use Rattle.plain_scan.specs.Hulls.{flags}
 use Rattle.plain_scan.specs.Scanning.{GiveIterators, dimensions_of, mark_of}
-use Rattle.plan_tree.specs.Trees.{tiling_of}
+use Rattle.plan_tree.specs.Schedules.{tiling_of}
 use Rattle.plan_tree.specs.steps.Parting.{NoneConflict, PartAt}
 use Rattle.plan_tree.proofs.ConflictFreedom.{free_all}
 use Rattle.plan_tree.proofs.MarkedPlaces.{no_mark, none_parallel}
 use Rattle.plan_tree.proofs.ModelStatements.{number_inside}
-use Rattle.plan_tree.proofs.Waves.{wave_at, tile_at, one_wave, marked_place, not_in_conflict}
+use Rattle.planned_trees.proofs.Orders.{wave_at}
+use Rattle.plan_tree.proofs.Waves.{tile_at, one_wave, marked_place, not_in_conflict}
 
 -- the visits stand at the places of their turns
 abbrev pub StandAt : ℕ → ℕ → List Block → List Visit → Type 0

@@ -19,7 +19,7 @@ use Rattle.tile_skew.specs.Items.{Block, Marked, band, scalar, part_of}
 use Rattle.tile_skew.specs.Sized.{AreSized, AreSizedRows, IsSizedRow, IsSmall}
 use Rattle.tile_skew.specs.Tilings.{first_band_at, form_at, rows_at, statements_from}
 use Rattle.tile_skew.proofs.TilingAgreement.{items_found}
-use Rattle.plan_tree.proofs.WalkedVisits.{IsWalked}
+use Rattle.planned_trees.proofs.WalkedVisits.{IsWalked}
 
 small_number : (x : ℤ) → pos 0 ≤ℤ x → x ≤ℤ pos 4096 → unsigned_abs x ≤ 4096
 small_number (pos n) low high = omega (arith, ints)

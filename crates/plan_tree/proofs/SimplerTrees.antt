@@ -8,7 +8,7 @@ use Rattle.loop_tree.specs.Tiling.{Tiling, kept, tiled, items_at}
 use Rattle.loop_tree.specs.Tree.{Trees}
 use Rattle.loop_tree.specs.Walk.{Visit, given, visits, walk_all}
 use Rattle.tree_simplification.specs.Simplified.{Simplifies, shown, shows}
-use Rattle.plan_tree.specs.Trees.{AreTreesOf}
+use Rattle.planned_trees.specs.Trees.{AreTreesOf}
 
 -- what a visit shows gives its instance
 given_shown : (vs : List Visit) → map given (map shown vs) ≡ map given vs

@@ -4,7 +4,7 @@ use Rattle.std.proofs.Common.{◌≡◌, ℕ, ◌+◌, ◌-◌, ◌≤◌, ℤ, 
 use Rattle.std.proofs.Common.{inl, inr, ap, subst, sym, ◌∙◌, refl, arith}
 use Rattle.std.specs.Prelude.{◌<ℤ◌, Option, Some, ◌⊎◌}
 use Rattle.std.proofs.lemmas.Int.{ints}
-use Rattle.std.proofs.lemmas.List.{length-append, length-map}
+use Rattle.std.proofs.lemmas.List.{length-map}
 use Rattle.whole_numbers.specs.Affine.{value_of}
 use Rattle.whole_numbers.specs.Floor.{floor}
 use Rattle.whole_numbers.specs.Lists.{zeros}
@@ -19,6 +19,7 @@ use Rattle.loop_tree.specs.Tiling.{IsInOrder, IsGoodPlan}
 use Rattle.plain_scan.specs.Hulls.{flags}
 use Rattle.tile_skew.specs.Places.{place_of}
 use Rattle.tile_skew.specs.ScanSets.{parallel_place}
+use Rattle.planned_trees.proofs.Orders.{length_wave, wave_at}
 use Rattle.plan_tree.specs.steps.Parting.{PartAt}
 use Rattle.plan_tree.proofs.MarkedPlaces.{no_mark, never_part, part_there, none_marked, marked_there}
 
@@ -26,10 +27,7 @@ use Rattle.plan_tree.proofs.MarkedPlaces.{no_mark, never_part, part_there, none_
 abbrev pub parts : List ℕ → List TileRow → List Item → Items
 parts ls rs is = record { leading = ls; band = rs; behind = is }
 
--- a statement's wave and tile at turns
-abbrev pub wave_at : ℤ → List ℕ → List TileRow → List ℤ → List ℤ
-wave_at size ls rs us = map pos ls ++ wave_sum size rs us ∷ []
-
+-- a statement's tile at turns
 abbrev pub tile_at : ℤ → List ℕ → List TileRow → List ℤ → List ℤ
 tile_at size ls rs us = map pos ls ++ coordinates size rs us
 
@@ -46,12 +44,6 @@ begins : (size : ℤ) (n : ℕ) (ls : List ℕ) (r : TileRow) (rs : List TileRow
 begins size n ls r rs is us =
     wave_first (map pos ls) (wave_sum size (r ∷ rs) us) (floor (value_of r.form us) size) (coordinates size rs us)
     (item_values (parts ls (r ∷ rs) is) us) (us ++ zeros (n - length us))
-
--- a wave has an entry more than there are leading scalars
-pub length_wave : (size : ℤ) (ls : List ℕ) (rs : List TileRow) (us : List ℤ)
-    → length (wave_at size ls rs us) ≡ length ls + 1
-length_wave size ls rs us =
-    length-append (map pos ls) (wave_sum size rs us ∷ []) ∙ ap (λ (n : ℕ). n + 1) (length-map ls pos)
 
 -- what stands behind fronts of one length
 behind_fronts : (hs bs : List ℤ) (x y : ℤ) (us vs : List ℤ) → length hs ≡ length bs → hs ++ x ∷ us ≡ bs ++ y ∷ vs

@@ -7,7 +7,8 @@ ghost use Rattle.loop_tree.specs.Walk.{Visit};
 ghost use Rattle.tile_skew.specs.Items.{Block};
 ghost use Rattle.plain_scan.specs.Scanning.{AreScanned, GiveIterators, dimensions_of, parameters_of};
 ghost use Rattle.plain_scan.specs.Sets.{Keys, NumbersRise};
-ghost use Rattle.plan_tree.specs.Trees.{AreTreesOf, tiling_of};
+ghost use Rattle.planned_trees.specs.Trees.{AreTreesOf};
+ghost use Rattle.plan_tree.specs.Schedules.{tiling_of};
 ghost use Rattle.plan_tree.specs.steps.Scanning.{AreVisits, IsScan, IsTiled, sets_of};
 
 use iteration_domains::domain_laws::domains_hold_the_instances;

@@ -14,7 +14,8 @@ ghost use Rattle.plain_scan.specs.Scanning.{AreScanned, StopsScan, dimensions_of
 ghost use Rattle.plain_scan.specs.Sets.{NumbersRise};
 ghost use Rattle.tile_skew.specs.Schedule.{IsScheduled};
 ghost use Rattle.tile_skew.specs.ScanSets.{scan_sets};
-ghost use Rattle.plan_tree.specs.Trees.{AreTreesOf, IsScheduleFor, StopsTiled, tiling_of};
+ghost use Rattle.planned_trees.specs.Trees.{AreTreesOf};
+ghost use Rattle.plan_tree.specs.Schedules.{IsScheduleFor, StopsTiled, tiling_of};
 ghost use Rattle.plan_tree.specs.steps.Scanning.{IsScan};
 
 use crate::tiles::{scans_are_trees_of_tilings, sets_can_be_scanned};

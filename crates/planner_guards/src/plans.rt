@@ -1,31 +1,42 @@
 //! Callers of the trees of plans: that of the source's own order, that of a hull, and the laws in kernels without
-//! parameters.
-ghost use Rattle.std.specs.Prelude.{◌≡◌, ℕ, [], IfErr, IfOk, List, false, map};
+//! parameters, also at tiles of size 1.
+ghost use Rattle.std.specs.Prelude.{◌≡◌, ℕ, [], All, FitsSigned, IfErr, IfOk, List, false, length, map};
+ghost use Rattle.std.specs.Int.{w64};
+ghost use Rattle.whole_numbers.specs.Affine.{value_of};
 ghost use Rattle.scop_syntax.specs.Cells.{PlacesConflict, conflict_cell};
 ghost use Rattle.scop_syntax.specs.Execution.{IsInside, IsShaped, exec, layout, performed_all};
 ghost use Rattle.scop_syntax.specs.Kernel.{IsKernel};
 ghost use Rattle.scop_syntax.specs.Limits.{HasParameters};
+ghost use Rattle.scop_syntax.specs.Members.{In};
 ghost use Rattle.scop_syntax.specs.Reductions.{is_marked};
 ghost use Rattle.scop_syntax.specs.Tree.{Program, none as nothing};
 ghost use Rattle.scop_syntax.specs.View.{program_of};
-ghost use Rattle.scop_syntax.specs.Walk.{Visit as Walked, instance, walk_of};
+ghost use Rattle.scop_syntax.specs.Walk.{Instance, Visit as Walked, instance, walk_of};
+ghost use Rattle.iteration_domains.specs.Model.{model_of};
 ghost use Rattle.conflict_orders.specs.Orders.{IsOrderOf, KeepsCovers};
+ghost use Rattle.loop_tree.specs.Conditions.{CanWalk};
 ghost use Rattle.loop_tree.specs.Plans.{CarryOut, walked};
 ghost use Rattle.loop_tree.specs.Runs.{MayRunAll};
-ghost use Rattle.loop_tree.specs.Tiling.{Tiling, kept};
+ghost use Rattle.loop_tree.specs.Tiling.{Items, Tiling, items_at, kept, tile_of, tiled, wave_of};
 ghost use Rattle.loop_tree.specs.Tree.{Trees, none};
 ghost use Rattle.loop_tree.specs.View.{trees_in};
 ghost use Rattle.loop_tree.specs.Walk.{Visit, given, visits, walk_all};
-ghost use Rattle.plan_tree.specs.Executions.{AreVisitsOf};
-ghost use Rattle.schedule_rows.specs.Schedule.{IsScheduled};
-ghost use Rattle.plan_tree.specs.Trees.{AreTreesOf, IsScheduleFor, StandInOrder, StopsTiled, tiling_of};
+ghost use Rattle.planned_trees.specs.Executions.{AreVisitsOf};
+ghost use Rattle.planned_trees.specs.Trees.{AreTreesOf, StandInOrder};
+ghost use Rattle.schedule_rows.specs.Schedule.{IsScheduled, Scheduled};
+ghost use Rattle.tile_skew.specs.Tilings.{statements_from};
+ghost use Rattle.plan_tree.specs.Schedules.{IsScheduleFor, StopsTiled, tiling_of};
 
 use conflict_orders::laws::{
     orders_of_walks_end_as_they_do, orders_that_keep_covers_keep_conflicts,
 };
 use fm_projection::FmStop;
 use loop_tree::Tree;
-use plan_tree::laws;
+use plan_tree::laws::rows_of_schedules_fit;
+use planned_trees::laws::{
+    loops_end_as_the_source_does, trees_keep_conflicts_in_order, trees_of_plans_can_be_walked,
+    waves_have_one_length,
+};
 use schedule_rows::Schedule;
 use scop_syntax::tree::Kernel;
 use std::alloc::{AllocError, Global};
@@ -57,7 +68,7 @@ pub fn trees_of_the_source_keep_conflicts_in_order()
         (c : PlacesConflict (walk_of program []) i j) → is_marked marked (conflict_cell c).array ≡ false
         → StandInOrder (visits ts []) (instance c.earlier) (instance c.later) }
 {
-    laws::trees_keep_conflicts_in_order();
+    trees_keep_conflicts_in_order();
 }
 
 /// An order of a walk's visits that keeps its covers ends as the walk does, by the clause of
@@ -86,5 +97,35 @@ pub fn loops_without_parameters()
         → HasParameters program [] → MayRunAll ts [] [] run → IsOrderOf (map given run) (walked program []) }
     ensures walk { (ts : Trees) → MayRunAll ts [] [] (walk_all ts [] []) }
 {
-    laws::loops_end_as_the_source_does();
+    loops_end_as_the_source_does();
+}
+
+/// Trees of the source's order can be walked, by the clause of `trees_of_plans_can_be_walked`.
+pub fn trees_of_the_source_can_be_walked()
+    ensures { (program : Program) (marked : List ℕ) (ts : Trees) → AreTreesOf program marked kept ts
+        → HasParameters program [] → CanWalk ts [] [] }
+{
+    trees_of_plans_can_be_walked();
+}
+
+/// Waves and tiles have one length each, by the clause of `waves_have_one_length`.
+pub fn waves_of_tiles_of_size_1_have_one_length()
+    ensures { (program : Program) (marked : List ℕ) (statements : List Items) (ts : Trees)
+        → AreTreesOf program marked (tiled 1 statements) ts → HasParameters program []
+        → (x y : Instance) → In x (visits ts []) → In y (visits ts [])
+        → (length (wave_of (tiled 1 statements) x) ≡ length (wave_of (tiled 1 statements) y))
+        × (length (tile_of (tiled 1 statements) x) ≡ length (tile_of (tiled 1 statements) y)) }
+{
+    waves_have_one_length();
+}
+
+/// The rows of a schedule have values of 64 bits, by the clause of `rows_of_schedules_fit`.
+pub fn rows_of_tiles_of_size_1_fit()
+    ensures { (program : Program) (marked : List ℕ) (s : Scheduled) (run : IsScheduled s) (ts : Trees)
+        → IsScheduleFor program marked s → AreTreesOf program marked (tiling_of program 1 run.blocks) ts
+        → HasParameters program [] → (x : Instance) → In x (visits ts [])
+        → All (λ r. FitsSigned w64 (value_of r.form x.turns))
+        (items_at (statements_from run.blocks 0 (length (model_of program).statements)) x.number).band }
+{
+    rows_of_schedules_fit();
 }

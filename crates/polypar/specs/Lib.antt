@@ -15,9 +15,11 @@ pub mod Told
 pub mod steps
 -- Passed on: what this crate's contracts are told in.
 pub use Rattle.conflict_orders.specs.Orders
+pub use Rattle.kernel_plans.specs.Certificates
 pub use Rattle.kernel_plans.specs.Certifying
 pub use Rattle.kernel_plans.specs.Executions
 pub use Rattle.kernel_plans.specs.Planned
 pub use Rattle.kernel_plans.specs.Planning
+pub use Rattle.kernel_plans.specs.Schedules
 pub use Rattle.kernel_plans.specs.Trees
 pub use Rattle.kernel_runs.specs.Counting

@@ -13,7 +13,7 @@ ghost use Rattle.loop_tree.specs.TilingView.{tiling_of};
 ghost use Rattle.loop_tree.specs.View.{trees_in};
 ghost use Rattle.loop_tree.specs.Walk.{visits};
 ghost use Rattle.expansions.specs.Expansions.{AreSourcesOf};
-ghost use Rattle.plan_tree.specs.Trees.{AreFlowTreesOf, AreTreesOf};
+ghost use Rattle.planned_trees.specs.Trees.{AreFlowTreesOf, AreTreesOf};
 ghost use Rattle.tile_list.specs.Tiles.{CanTile};
 ghost use Rattle.tile_core.specs.Plans.{HasRest, HoldsContents, IsPlan, extents_in, is_expanded, plain_shape, plan_of};
 ghost use Rattle.tile_core.specs.Plans.{program_in, shape_of, walk_in};

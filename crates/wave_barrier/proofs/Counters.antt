@@ -1,13 +1,13 @@
 -- What a plan's gates look at: one word for all tiles, or for each tile a counter behind the cells of all arrays.
 use Rattle.std.proofs.Common.{◌≡◌, ℕ, ◌+◌, ◌<◌, ◌≤◌, Bor, ap, arith, refl}
 use Rattle.std.specs.Prelude.{IsSome, Option, Some, None}
-use Rattle.tile_edges.specs.declared.waiting.TileEdges.{TileEdges}
 use Rattle.tile_events.specs.Core.{needed_by}
 use Rattle.tile_events.specs.Plan as plain
 use Rattle.tile_events.specs.Plan.{Gate, waves, counters}
 use Rattle.tile_events.specs.Rule.{gate_word}
 use Rattle.tile_core.specs.Passes.{plan_in}
 use Rattle.tile_core.specs.Plans.{HasEdges, gated, shape_of, walk_shape}
+use Rattle.tile_core.specs.TileEdges.{TileEdges}
 use Rattle.tile_core.specs.declared.plan.Plan.{Plan}
 use Rattle.tile_core.specs.declared.words.Words.{Words}
 

@@ -28,7 +28,7 @@ use Rattle.tile_skew.specs.Tilings.{statement_items}
 use Rattle.plain_scan.specs.Hulls.{flags}
 use Rattle.plain_scan.specs.Scanning.{AreOfSets, GiveIterators, dimensions_of, mark_of}
 use Rattle.plain_scan.specs.Sets.{Keys}
-use Rattle.plan_tree.specs.Trees.{tiling_of}
+use Rattle.plan_tree.specs.Schedules.{tiling_of}
 
 -- the blocks are those of a schedule of dependences that hold the covers of the kernel's walk, but for those on marked
 -- arrays, for tiles of a size within 1 to 1024

@@ -4,7 +4,7 @@ use Rattle.std.proofs.lemmas.Result.{IfOk-weaker}
 use Rattle.scop_syntax.specs.View.{program_of}
 use Rattle.iteration_domains.specs.Model.{KernelModel}
 use Rattle.dataflow.specs.Flow.{AreLastSources, flow_of, tree_in}
-use Rattle.plan_tree.specs.Trees.{arrays_of}
+use Rattle.plan_tree.specs.Schedules.{arrays_of}
 use Rattle.kernel_plans.specs.Found.{LieBetween}
 use Rattle.kernel_plans.specs.Planned.{flow_in}
 use Rattle.kernel_plans.proofs.FlowLemmas.{AreFlow, FlowLaws, are_flow, flow_holds, plan_of_flow}

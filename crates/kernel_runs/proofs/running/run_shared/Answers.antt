@@ -9,7 +9,7 @@ use Rattle.loop_tree.specs.Tiling.{tile_of, wave_of}
 use Rattle.loop_tree.specs.TilingView.{tiling_of}
 use Rattle.loop_tree.specs.View.{trees_in}
 use Rattle.loop_tree.specs.Walk.{visits}
-use Rattle.plan_tree.specs.Trees.{AreFlowTreesOf, AreTreesOf}
+use Rattle.planned_trees.specs.Trees.{AreFlowTreesOf, AreTreesOf}
 use Rattle.tile_core.specs.Expansions.{IsExpansionOf}
 use Rattle.tile_core.specs.Plans.{HaveRoom}
 use Rattle.tile_edges.specs.Counting.{IsReleaseOf}

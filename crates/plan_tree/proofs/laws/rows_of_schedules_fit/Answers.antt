@@ -1,8 +1,8 @@
 use Rattle.loop_tree.specs.Walk.{visits}
 use Rattle.tile_skew.specs.Schedule.{loops_in}
-use Rattle.plan_tree.specs.Trees.{tiling_of}
+use Rattle.plan_tree.specs.Schedules.{tiling_of}
 use Rattle.plan_tree.proofs.Rows.{tiled_rows_fit}
-use Rattle.plan_tree.proofs.WalkedVisits.{are_walked}
+use Rattle.planned_trees.proofs.WalkedVisits.{are_walked}
 use Rattle.plan_tree.proofs.laws.rows_of_schedules_fit.Goals as goal
 
 pub returns : goal.returns

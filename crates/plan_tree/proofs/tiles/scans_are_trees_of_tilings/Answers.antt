@@ -6,7 +6,7 @@ use Rattle.loop_tree.proofs.LargerBounds.{trees_more}
 use Rattle.plan_tree.specs.steps.Scanning.{sets_of}
 use Rattle.iteration_domains.specs.Model.{model_of}
 use Rattle.tile_skew.specs.ScanSets.{most_iterators}
-use Rattle.plan_tree.proofs.Orders.{tilings_are_even}
+use Rattle.plan_tree.proofs.Schedules.{tilings_are_even}
 use Rattle.plan_tree.proofs.Parallel.{StandAt, tiles_are_free, tiles_are_marked}
 use Rattle.plan_tree.proofs.Shapes.{all_of_program}
 use Rattle.plain_scan.specs.Scanning.{dimensions_of}

@@ -3,7 +3,7 @@ use Rattle.iteration_domains.specs.Model.{KernelModel}
 use Rattle.loop_tree.specs.Shape.{TreesAreOver}
 use Rattle.loop_tree.specs.View.{trees_in}
 use Rattle.tree_simplification.specs.Simplified.{Simplifies}
-use Rattle.plan_tree.specs.Trees.{tiling_of}
+use Rattle.plan_tree.specs.Schedules.{tiling_of}
 use Rattle.plan_tree.proofs.SimplerTrees.{simpler}
 use Rattle.plan_tree.proofs.trees.tiled_tree.Goals as goal
 
