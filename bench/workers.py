@@ -1,5 +1,6 @@
 """Times parallel runs against a C compiler, by the clock. Called by workers.sh."""
 
+import subprocess
 import sys
 
 from by_clock import START, input_of, kernel_in, net_times, shortest
@@ -82,9 +83,27 @@ def tell(kind, net, instances):
             print(f"  1 worker to {name}: {one / seconds:.2f}")
 
 
+def parts_of(command, text):
+    """The seconds of a run before its tiles are begun, until they are done, and behind them."""
+    said = subprocess.run(command, input=text, stdout=subprocess.DEVNULL, stderr=subprocess.PIPE, check=True).stderr
+    begun, done, ended = (int(line.split()[1]) / 1e9 for line in said.splitlines()[-3:])
+    return begun, done - begun, ended - done
+
+
+def tell_shares(clocked, kernel, values, tiny):
+    """Prints which part of a run is planning (what a tiny case takes before its tiles), listing, running and writing."""
+    for workers in WORKERS:
+        command = [clocked, "run", "--workers", str(workers)]
+        planning = parts_of(command, input_of(kernel, tiny))[0]
+        begun, running, writing = parts_of(command, input_of(kernel, values))
+        parts = {"planning": planning, "listing": begun - planning, "running": running, "writing": writing}
+        whole = sum(parts.values())
+        print(f"  {workers} workers: " + ", ".join(f"{name} {100 * part / whole:.0f} %" for name, part in parts.items()))
+
+
 def main():
-    program, root, folder = sys.argv[1:4]
-    rounds = rounds_of(sys.argv[4:], 5)
+    program, clocked, root, folder = sys.argv[1:5]
+    rounds = rounds_of(sys.argv[5:], 5)
     for kind, (file, values, tiny, instances) in CASES.items():
         kernel = kernel_in(root, file)
         if set(numbers_of(kernel)) != set(values):
@@ -92,6 +111,7 @@ def main():
         commands = commands_of(program, folder, kind, kernel, values, "")
         starts = commands_of(program, folder, kind, kernel, tiny, START)
         tell(kind, net_times(kind, commands, starts, rounds), instances)
+        tell_shares(clocked, kernel, values, tiny)
     times, _ = shortest({f"{k} workers": ([program, "gen", "product", "7", "256", "--workers", str(k)], b"") for k in WORKERS}, rounds)
     tell("gen product 7 256", times, 256**3)
 

@@ -2,12 +2,14 @@
 # Times `polypar run` with 1, 2 and 4 workers beside the kernel's own text by gcc -O0, on a product of matrices, a
 # two-dimensional Jacobi sweep, an LU decomposition, a sweep of Gauss and Seidel over a line, a triangle, a guard,
 # strides 2 and 3, and `gen product 7 256`, in one run. Prints of each the seconds by the clock, the shortest of several
-# rounds, less those of a start on a tiny case, nanoseconds an instance, and the ratios of one worker to the others and
-# to gcc.
+# rounds, less those of a start on a tiny case, nanoseconds an instance, the ratios of one worker to the others and to
+# gcc, and which parts of one run are planning, listing tiles, running them and writing, by the clock of bench_runs.
 # usage: bench/workers.sh [ROUNDS], at least 5
 set -eu
 root=$(CDPATH= cd -- "$(dirname -- "$0")/.." && pwd)
 work=$(mktemp -d)
 trap 'rm -rf "$work"' EXIT
 "$root/polypar" run <"$root/examples/copy.c" >/dev/null
-python3 -B "$root/bench/workers.py" "$root/crates/polypar_main/out/polypar_main" "$root" "$work" "$@"
+(cd "$root/crates/bench_runs" && rt run -- run <"$root/examples/copy.c" >/dev/null 2>"$work/log") || { cat "$work/log" >&2; exit 1; }
+python3 -B "$root/bench/workers.py" "$root/crates/polypar_main/out/polypar_main" "$root/crates/bench_runs/out/bench_runs" \
+  "$root" "$work" "$@"

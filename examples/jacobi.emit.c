@@ -6,7 +6,7 @@ static int64_t pp_min(int64_t a, int64_t b) { return a < b ? a : b; }
 void jacobi(int64_t T, int64_t N, uint64_t A[N][N], uint64_t B[N][N]) {
   for (int64_t pp_1 = 0; pp_1 <= pp_floord(5*T + 2*N - 9, 32); pp_1++) {
     #pragma omp parallel for
-    for (int64_t pp_2 = pp_max(0, pp_max(pp_ceild(-2*T - N + 16*pp_1 + 4, 16), pp_ceild(-N + 16*pp_1 - 60, 80))); pp_2 <= pp_min(pp_floord(T - 1, 32), pp_floord(N + 32*pp_1 + 90, 160)); pp_2++) {
+    for (int64_t pp_2 = pp_max(0, pp_max(pp_ceild(-2*T - N + 16*pp_1 + 4, 16), pp_ceild(-N + 16*pp_1 - 60, 80))); pp_2 <= pp_floord(T - 1, 32); pp_2++) {
       for (int64_t pp_3 = pp_max(0, pp_max(pp_ceild(-2*T - N + 32*pp_1 - 32*pp_2 + 4, 32), pp_max(pp_ceild(-N + 32*pp_1 - 96*pp_2 - 60, 32), pp_ceild(-N + 32*pp_1 - 32*pp_2 - 28, 64)))); pp_3 <= pp_min(pp_floord(2*T + N - 4, 32), pp_min(pp_floord(N + 64*pp_2 + 60, 32), pp_floord(N + 32*pp_1 - 32*pp_2 + 28, 64))); pp_3++) {
         if (pp_1 - pp_2 - pp_3 >= 0) {
           for (int64_t pp_4 = pp_max(32*pp_2, pp_max(pp_ceild(-N + 32*pp_3 + 2, 2), pp_ceild(-N + 32*pp_1 - 32*pp_2 - 32*pp_3 + 3, 2))); pp_4 <= pp_floord(-N + 32*pp_3 + 2, 2); pp_4++) {

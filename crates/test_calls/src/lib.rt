@@ -32,6 +32,8 @@ mod ports;
 #[cfg(test)]
 mod posed;
 #[cfg(test)]
+mod projections;
+#[cfg(test)]
 mod sets;
 #[cfg(test)]
 mod solver;

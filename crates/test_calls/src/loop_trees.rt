@@ -8,7 +8,7 @@ ghost use Rattle.scop_syntax.specs.Tree.{Program};
 ghost use Rattle.scop_syntax.specs.View.{program_of};
 ghost use Rattle.loop_tree.specs.Conditions.{CanWalk};
 ghost use Rattle.loop_tree.specs.View.{trees_in};
-ghost use Rattle.polypar.specs.Trees.{IsScheduleFor};
+ghost use Rattle.polypar.specs.Schedules.{IsScheduleFor};
 
 use c_printer::{print, read_back};
 use iteration_domains::Model;

@@ -4,7 +4,7 @@ use Rattle.scop_syntax.specs.Members.{In}
 use Rattle.scop_syntax.specs.View.{program_of}
 use Rattle.iteration_domains.specs.Dependence.{Dependence}
 use Rattle.iteration_domains.specs.Held.{HoldCovers}
-use Rattle.polypar.specs.Trees.{IsScheduleFor}
+use Rattle.polypar.specs.Schedules.{IsScheduleFor}
 use Rattle.test_calls.proofs.loop_trees.planned.Goals.{In-Ok}
 use Rattle.test_calls.proofs.loop_trees.planned.Goals as goal
 

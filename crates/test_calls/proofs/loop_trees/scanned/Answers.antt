@@ -1,7 +1,8 @@
 use Rattle.std.proofs.Common.{◌∙◌, [], sym}
 use Rattle.std.proofs.lemmas.Result.{IfOk-at_ok}
 use Rattle.loop_tree.specs.View.{trees_in}
-use Rattle.polypar.specs.Trees.{AreTreesOf, tiling_of}
+use Rattle.polypar.specs.Trees.{AreTreesOf}
+use Rattle.polypar.specs.Schedules.{tiling_of}
 use Rattle.test_calls.proofs.loop_trees.scanned.Goals.{in-Hull, in-Separated}
 use Rattle.test_calls.proofs.loop_trees.scanned.Goals as goal
 
