@@ -83,19 +83,22 @@ def tell(kind, net, instances):
             print(f"  1 worker to {name}: {one / seconds:.2f}")
 
 
-def parts_of(command, text):
-    """The seconds of a run before its tiles are begun, until they are done, and behind them."""
-    said = subprocess.run(command, input=text, stdout=subprocess.DEVNULL, stderr=subprocess.PIPE, check=True).stderr
-    begun, done, ended = (int(line.split()[1]) / 1e9 for line in said.splitlines()[-3:])
-    return begun, done - begun, ended - done
+def parts_of(command, text, rounds):
+    """The seconds of the shortest of some runs before its tiles are begun, until they are done, and behind them."""
+    told = []
+    for _ in range(rounds):
+        said = subprocess.run(command, input=text, stdout=subprocess.DEVNULL, stderr=subprocess.PIPE, check=True).stderr
+        begun, done, ended = (int(line.split()[1]) / 1e9 for line in said.splitlines()[-3:])
+        told.append((ended, begun, done - begun, ended - done))
+    return min(told)[1:]
 
 
-def tell_shares(clocked, kernel, values, tiny):
+def tell_shares(clocked, kernel, values, tiny, rounds):
     """Prints which part of a run is planning (what a tiny case takes before its tiles), listing, running and writing."""
     for workers in WORKERS:
         command = [clocked, "run", "--workers", str(workers)]
-        planning = parts_of(command, input_of(kernel, tiny))[0]
-        begun, running, writing = parts_of(command, input_of(kernel, values))
+        planning = parts_of(command, input_of(kernel, tiny), rounds)[0]
+        begun, running, writing = parts_of(command, input_of(kernel, values), rounds)
         parts = {"planning": planning, "listing": begun - planning, "running": running, "writing": writing}
         whole = sum(parts.values())
         print(f"  {workers} workers: " + ", ".join(f"{name} {100 * part / whole:.0f} %" for name, part in parts.items()))
@@ -111,7 +114,7 @@ def main():
         commands = commands_of(program, folder, kind, kernel, values, "")
         starts = commands_of(program, folder, kind, kernel, tiny, START)
         tell(kind, net_times(kind, commands, starts, rounds), instances)
-        tell_shares(clocked, kernel, values, tiny)
+        tell_shares(clocked, kernel, values, tiny, rounds)
     times, _ = shortest({f"{k} workers": ([program, "gen", "product", "7", "256", "--workers", str(k)], b"") for k in WORKERS}, rounds)
     tell("gen product 7 256", times, 256**3)
 
