@@ -220,7 +220,7 @@ expect_same "none is tried that stands on it" "$(grep -c 'scop_pass\|polypar' "$
 fresh
 echo scop_lexer >"$work/slow"
 PATH=$work/bin:$PATH TMPDIR=$work/tmp "$copy/polypar" >/dev/null 2>&1 &
-until grep -qs kernel_grammar "$work/calls"; do sleep 0.1; done
+until grep -qs scop_grammar "$work/calls"; do sleep 0.1; done
 kill -0 "$(cat "$work/process")" 2>/dev/null
 expect_same "independent crates are proved side by side" "$?" 0
 wait "$!"

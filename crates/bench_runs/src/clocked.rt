@@ -3,11 +3,11 @@
 //! between).
 
 ghost use Rattle.std.specs.Prelude.{◌≡◌, ◌≤◌, IfErr, IfOk, length};
-ghost use Rattle.kernel_runs.specs.Plans.{HasRest, IsPlan, shape_of};
-ghost use Rattle.kernel_runs.specs.Running.{AreExecuted};
+ghost use Rattle.tile_runs.specs.Plans.{HasRest, IsPlan, shape_of};
+ghost use Rattle.tile_runs.specs.Running.{AreExecuted};
 
 use io_ports::{OpenGate, Sink, Source};
-use kernel_runs::{By, Plan, run_on_threads};
+use tile_runs::{By, Plan, run_on_threads};
 use polypar::command_by;
 use std::alloc::{AllocError, Global};
 use std::io;

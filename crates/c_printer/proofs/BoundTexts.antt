@@ -13,7 +13,7 @@ use Rattle.form_text.specs.View.{saturated}
 use Rattle.c_printer.specs.Nodes.{repeated}
 use Rattle.c_printer.specs.Reading.{body_at, instance_at, read_instance}
 use Rattle.c_printer.specs.steps.Reading.{all_bounds, closed_bounds, place_of, with_bound}
-use Rattle.standings.specs.Standings.{standings_of}
+use Rattle.scop_syntax.specs.Standings.{standings_of}
 use Rattle.c_printer.proofs.ReadSteps.{deeper, strip_both}
 
 -- a text so many times and once more

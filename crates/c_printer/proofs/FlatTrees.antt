@@ -16,8 +16,8 @@ use Rattle.loop_tree.specs.Shape.{IsOver, BoundsAreOver, TreeIsOver, TreesAreOve
 use Rattle.loop_tree.specs.Shape.{IsUpTo, BoundsAreUpTo, TestIsUpTo, TreeIsUpTo, TreesAreUpTo, NestsTo, NestAllTo}
 use Rattle.loop_tree.specs.Tree.{Bounds, only, besides, Test, at_least, equal, multiple, Tree, loop, guard, instance}
 use Rattle.loop_tree.specs.Tree.{Trees, none, more}
-use Rattle.standings.specs.Standings.{Standing, standing, heads_in}
-use Rattle.standings.proofs.Heads.{as_many_heads}
+use Rattle.scop_syntax.specs.Standings.{Standing, standing, heads_in}
+use Rattle.scop_syntax.proofs.Heads.{as_many_heads}
 use Rattle.c_printer.specs.Printable.{IsTreeForm, IsDivisor, AreBounds, IsTest, AreTests, AreTurns, IsInstance, IsNode}
 use Rattle.c_printer.specs.Printable.{AreNodes}
 use Rattle.c_printer.proofs.FormsOver.{at_most_is_narrow, at_most_are_narrow}

@@ -13,7 +13,7 @@ use Rattle.form_text.specs.Reading.{strip, when, behind_digits, term_in_front, E
 use Rattle.form_text.proofs.Digits.{decimal_number, decimal_behind}
 use Rattle.form_text.proofs.Calls.{strip_front}
 use Rattle.c_printer.specs.Forms.{names_in, loop_names, iterator_form}
-use Rattle.standings.specs.Standings.{Standing, standings_of}
+use Rattle.scop_syntax.specs.Standings.{Standing, standings_of}
 use Rattle.c_printer.specs.Naming.{iterators_of}
 use Rattle.c_printer.specs.Statements.{between, statement_text}
 use Rattle.c_printer.specs.Nodes.{givens_text, body_text}

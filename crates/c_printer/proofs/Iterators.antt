@@ -16,7 +16,7 @@ use Rattle.scop_syntax.specs.Walk.{turn_point}
 use Rattle.c_printer.specs.Forms.{turned, spread}
 use Rattle.c_printer.specs.Iterators.{given_value, given_values}
 use Rattle.c_printer.specs.Printable.{AreTurns, AreHeads, IsInstance, IsNamed}
-use Rattle.standings.specs.Standings.{Standing, standing, heads_in, standings_of}
+use Rattle.scop_syntax.specs.Standings.{Standing, standing, heads_in, standings_of}
 
 -- a form of the source has no coefficient for loops of the tree
 spread_value : (cs params loops outer : List ℤ) → length params ≤ length cs

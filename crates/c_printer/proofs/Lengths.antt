@@ -7,7 +7,7 @@ use Rattle.scop_lexer.specs.Bytes.{Text}
 use Rattle.scop_syntax.specs.Tree.{Program}
 use Rattle.loop_tree.specs.Tree.{Bounds, only, besides, Test, Tree, loop, guard, instance, Trees, none, more}
 use Rattle.c_printer.specs.Forms.{names_in, loop_name}
-use Rattle.standings.specs.Standings.{standings_of}
+use Rattle.scop_syntax.specs.Standings.{standings_of}
 use Rattle.c_printer.specs.Statements.{between}
 use Rattle.c_printer.specs.Nodes.{bound_text, bounds_text, lower_text, upper_text, test_text, tests_text, body_text}
 use Rattle.c_printer.specs.Nodes.{indent, head_text, pragma_text, closing_text, node_text, nodes_text}

@@ -17,12 +17,12 @@ use Rattle.form_text.proofs.Digits.{is_digit_of}
 use Rattle.form_text.proofs.Names.{bytes_append, fresh_append}
 use Rattle.form_text.proofs.Terms.{digit_is_byte}
 use Rattle.c_printer.specs.Forms.{loop_name, loop_names}
-use Rattle.standings.specs.Standings.{Standing, standing, heads_in, standings_of}
-use Rattle.standings.specs.steps.Gathered.{gathered, gathered_all}
+use Rattle.scop_syntax.specs.Standings.{Standing, standing, heads_in, standings_of}
+use Rattle.scop_syntax.specs.steps.Gathered.{gathered, gathered_all}
 use Rattle.c_printer.specs.Naming.{iterators_of, IsFree, AreFree, TakesWords, TakeWords, HasWords}
 use Rattle.c_printer.specs.Printable.{IsStart, AreHeads, IsNamed}
 use Rattle.c_printer.proofs.FormsOver.{at_most_is_narrow, at_most_are_narrow}
-use Rattle.standings.proofs.GatheredStatements.{program_gathered}
+use Rattle.scop_syntax.proofs.GatheredStatements.{program_gathered}
 use Rattle.c_printer.proofs.InstancesRead.{names_front}
 
 -- names of emitted loops

@@ -11,7 +11,7 @@ use Rattle.form_text.specs.Names.{AreNames}
 use Rattle.form_text.specs.Reading.{strip, when}
 use Rattle.form_text.proofs.Calls.{strip_front}
 use Rattle.c_printer.specs.Forms.{names_in, loop_name, loop_names}
-use Rattle.standings.specs.Standings.{Standing, standings_of}
+use Rattle.scop_syntax.specs.Standings.{Standing, standings_of}
 use Rattle.c_printer.specs.Statements.{between}
 use Rattle.c_printer.specs.Nodes.{lower_text, upper_text, tests_text, body_text, indent, head_text}
 use Rattle.c_printer.specs.Nodes.{pragma_text, closing_text, node_text, nodes_text}

@@ -14,7 +14,7 @@ use Rattle.form_text.specs.Reading.{strip, when, number_in_front, behind_digits,
 use Rattle.form_text.specs.Reading.{read_terms, read_form}
 use Rattle.form_text.proofs.Terms.{left_true, right_true}
 use Rattle.c_printer.specs.Forms.{names_in, loop_name, loop_names, spread}
-use Rattle.standings.specs.Standings.{Standing, standings_of}
+use Rattle.scop_syntax.specs.Standings.{Standing, standings_of}
 use Rattle.c_printer.specs.Naming.{iterators_of}
 use Rattle.c_printer.specs.Statements.{statement_text, front_text}
 use Rattle.c_printer.specs.Nodes.{indent, text_of}

@@ -9,7 +9,7 @@ use Rattle.loop_tree.specs.Tree.{Bound, Bounds, only, besides, Test, at_least, e
 use Rattle.loop_tree.specs.Tree.{instance, Trees, none, more}
 use Rattle.form_text.specs.Forms.{form_text}
 use Rattle.c_printer.specs.Forms.{loop_name, names_in, tree_form_text, iterator_form}
-use Rattle.standings.specs.Standings.{Standing, standings_of}
+use Rattle.scop_syntax.specs.Standings.{Standing, standings_of}
 use Rattle.c_printer.specs.Naming.{iterators_of}
 use Rattle.c_printer.specs.Statements.{between, statement_text, front_text}
 

@@ -7,7 +7,7 @@ use Rattle.loop_tree.specs.Tree.{Bound, Bounds, only, besides, Test, at_least, e
 use Rattle.loop_tree.specs.Tree.{instance, Trees, none, more}
 use Rattle.form_text.specs.Names.{AreNames}
 use Rattle.c_printer.specs.Forms.{names_in}
-use Rattle.standings.specs.Standings.{Standing, standings_of}
+use Rattle.scop_syntax.specs.Standings.{Standing, standings_of}
 use Rattle.c_printer.specs.Naming.{iterators_of}
 use Rattle.c_printer.specs.Reading.{is_narrow, is_narrow_form}
 

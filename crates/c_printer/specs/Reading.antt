@@ -12,7 +12,7 @@ use Rattle.loop_tree.specs.Tree.{Bound, Bounds, only, besides, Test, at_least, e
 use Rattle.loop_tree.specs.Tree.{instance, Trees, none, more}
 use Rattle.form_text.specs.Reading.{strip, when, number_in_front, behind_digits, read_form}
 use Rattle.c_printer.specs.Forms.{loop_name, names_in, spread}
-use Rattle.standings.specs.Standings.{Standing, standings_of}
+use Rattle.scop_syntax.specs.Standings.{Standing, standings_of}
 use Rattle.c_printer.specs.Naming.{iterators_of}
 use Rattle.c_printer.specs.Statements.{statement_text, front_text}
 use Rattle.c_printer.specs.Nodes.{indent, text_of}

@@ -4,9 +4,9 @@ ghost use Rattle.std.specs.Prelude.{◌≡◌, ◌++◌, Some, IfOk, codes, map,
 ghost use Rattle.form_text.specs.Forms.{form_text};
 ghost use Rattle.scop_syntax.specs.View.{program_of};
 ghost use Rattle.c_printer.specs.Forms.{iterator_form};
-ghost use Rattle.standings.specs.View.{standing_of};
+ghost use Rattle.scop_syntax.specs.StandingView.{standing_of};
 ghost use Rattle.c_printer.specs.Nodes.{body_text, givens_text, instance_text};
-ghost use Rattle.standings.specs.Standings.{standings_of};
+ghost use Rattle.scop_syntax.specs.Standings.{standings_of};
 ghost use Rattle.c_printer.specs.Naming.{iterators_of};
 ghost use Rattle.c_printer.specs.Statements.{between};
 
@@ -16,7 +16,7 @@ use crate::values::put_statement;
 use form_text::put_bytes;
 use loop_tree::Leaf;
 use scop_syntax::tree::{Aff, Kernel, Loop, Name};
-use standings::Standing;
+use scop_syntax::standings::Standing;
 use std::alloc::{AllocError, Global};
 
 /// Puts a source iterator at a turn of its loop.

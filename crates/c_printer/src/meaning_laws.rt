@@ -20,7 +20,7 @@ ghost use Rattle.c_printer.specs.Divisions.{floor_function, ceiling_function, gr
 ghost use Rattle.c_printer.specs.Iterators.{given_value, given_values};
 ghost use Rattle.c_printer.specs.Printable.{IsInstance, IsNamed};
 ghost use Rattle.c_printer.specs.Values.{stores, worth};
-ghost use Rattle.standings.specs.Standings.{heads_in};
+ghost use Rattle.scop_syntax.specs.Standings.{heads_in};
 
 /// A constant of an instance's line holds the source iterator of its loop at that loop's turn; and all of them behind
 /// the parameters are the point of the source's visit of the statement at these turns.

@@ -4,10 +4,10 @@ ghost use Rattle.std.specs.Prelude.{◌≡◌, ◌++◌, [], true, if◌then◌e
 ghost use Rattle.loop_tree.specs.View.{bounds_in, nodes_of, test_of, tree_of, trees_in};
 ghost use Rattle.scop_syntax.specs.View.{program_of};
 ghost use Rattle.c_printer.specs.Forms.{loop_name, names_in};
-ghost use Rattle.standings.specs.View.{standing_of};
+ghost use Rattle.scop_syntax.specs.StandingView.{standing_of};
 ghost use Rattle.c_printer.specs.Nodes.{closing_text, head_text, node_text, nodes_text, pragma_text, tests_text};
 ghost use Rattle.c_printer.specs.Nodes.{text_of};
-ghost use Rattle.standings.specs.Standings.{standings_of};
+ghost use Rattle.scop_syntax.specs.Standings.{standings_of};
 ghost use Rattle.c_printer.specs.Statements.{between};
 
 use crate::bounds::{put_bounds, put_tests};
@@ -18,7 +18,7 @@ use crate::texts::{copies, name_of_loop, put_between, put_repeated};
 use form_text::put_bytes;
 use loop_tree::{Guard, Loop, Node, Tree};
 use scop_syntax::tree::{Kernel, Name};
-use standings::{Standing, standings_of};
+use scop_syntax::standings::{Standing, standings_of};
 use std::alloc::{AllocError, Global};
 
 /// Puts a closing brace on its line.

@@ -2,11 +2,11 @@
 
 ghost use Rattle.std.specs.Prelude.{◌≡◌, Some, map, slice_get, IfOk};
 ghost use Rattle.scop_syntax.specs.View.{program_of};
-ghost use Rattle.standings.specs.View.{standing_of};
+ghost use Rattle.scop_syntax.specs.StandingView.{standing_of};
 ghost use Rattle.c_printer.specs.Reading.{body_at, read_givens, read_instance};
 ghost use Rattle.c_printer.specs.View.{form_in, form_part, node_in, turns_in, turns_part};
 ghost use Rattle.c_printer.specs.steps.Reading.{given_end, read_given, body_end, place_of};
-ghost use Rattle.standings.specs.Standings.{standings_of};
+ghost use Rattle.scop_syntax.specs.Standings.{standings_of};
 
 use crate::instances::names_of;
 use crate::part::{Read, strip_between};
@@ -16,7 +16,7 @@ use crate::values::put_statement;
 use form_text::{read_number, strip};
 use loop_tree::{Leaf, Node};
 use scop_syntax::tree::{Aff, Kernel, Loop, Name};
-use standings::Standing;
+use scop_syntax::standings::Standing;
 use std::alloc::{AllocError, Global};
 
 /// A turn, and the end of the iterator's definition.

@@ -5,14 +5,14 @@ ghost use Rattle.scop_syntax.specs.View.{program_of};
 ghost use Rattle.loop_tree.specs.Tree.{guard, loop, Trees};
 ghost use Rattle.loop_tree.specs.View.{bounds_in, test_of, trees_in};
 ghost use Rattle.c_printer.specs.Forms.{loop_name, names_in};
-ghost use Rattle.standings.specs.View.{standing_of};
+ghost use Rattle.scop_syntax.specs.StandingView.{standing_of};
 ghost use Rattle.c_printer.specs.Nodes.{text_of};
 ghost use Rattle.c_printer.specs.Printable.{AreNodes, IsNamed};
 ghost use Rattle.c_printer.specs.Reading.{printed_as, read_node, read_nodes, read_text};
 ghost use Rattle.c_printer.specs.View.{body_in, body_part, line_in, node_in, sides_part};
 ghost use Rattle.c_printer.specs.steps.Reading.{closed_as, closed_body, guard_from, loop_from, lower_end};
 ghost use Rattle.c_printer.specs.steps.Reading.{parallel_from, read_condition, read_line, upper_end};
-ghost use Rattle.standings.specs.Standings.{standings_of};
+ghost use Rattle.scop_syntax.specs.Standings.{standings_of};
 
 use crate::header::put_front;
 use crate::nodes::print;
@@ -26,7 +26,7 @@ use crate::texts::{copies, name_of_loop};
 use form_text::strip;
 use loop_tree::{Bounds, Guard, Loop, Node, Tree};
 use scop_syntax::tree::{Kernel, Name};
-use standings::{Standing, standings_of};
+use scop_syntax::standings::{Standing, standings_of};
 use std::alloc::{AllocError, Global};
 
 /// The line of a loop, behind its bounds.

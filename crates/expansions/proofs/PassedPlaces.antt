@@ -14,9 +14,9 @@ use Rattle.scop_syntax.specs.Values.{wrapped}
 use Rattle.scop_syntax.specs.Walk.{Instance, Visit, instance, walk_of}
 use Rattle.scop_syntax.specs.Writers.{last_of, last_writer}
 use Rattle.scop_syntax.proofs.Members.{in_from_place, nat_cases, there_is}
-use Rattle.stmt_table.specs.declared.table.Row.{Row}
-use Rattle.stmt_table.specs.declared.table.Table.{Table}
-use Rattle.stmt_table.proofs.Visits.{HasRow, WalkLaws, cell_told, reads_told, row_of}
+use Rattle.tile_table.specs.declared.table.Row.{Row}
+use Rattle.tile_table.specs.declared.table.Table.{Table}
+use Rattle.tile_table.proofs.Visits.{HasRow, WalkLaws, cell_told, reads_told, row_of}
 use Rattle.expansions.specs.Expansions.{AreSourcesOf, number_of}
 use Rattle.expansions.specs.steps.Marks.{AreKept, HasPassed, IsMarked, mark_of, read_marks}
 use Rattle.expansions.specs.steps.Passing.{CanPass, IsOnItsWay, ReadFew}

@@ -8,7 +8,7 @@ ghost use Rattle.loop_tree.specs.Conditions.{CanWalk};
 ghost use Rattle.loop_tree.specs.SpotView.{IsSpotOf, to_come};
 ghost use Rattle.loop_tree.specs.View.{trees_in};
 ghost use Rattle.loop_tree.specs.Walk.{visits};
-ghost use Rattle.stmt_table.specs.Tables.{IsTableOf};
+ghost use Rattle.tile_table.specs.Tables.{IsTableOf};
 ghost use Rattle.expansions.specs.Expansions.{AreSourcesOf};
 ghost use Rattle.expansions.specs.declared.sourcing.NoSources.TheVariants.{Copies as copies};
 ghost use Rattle.expansions.specs.steps.Marks.{HasPassed};
@@ -22,7 +22,7 @@ use scop_syntax::limit_laws::cells_lie_within_22_bits;
 use scop_syntax::tree::Kernel;
 use scop_syntax::walk_laws::{instances_are_those_of_statements, statements_are_numbered};
 use std::alloc::{AllocError, Global};
-use stmt_table::table::{Row, Table};
+use tile_table::table::{Row, Table};
 
 /// The sources of a walk's reads: those of place `j` are `most` numbers from the number `j * most` on, of its reads in the
 /// order of the text, each 0 where the read takes the initial value of its cell, or one more than the place of the walk

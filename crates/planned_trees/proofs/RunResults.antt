@@ -9,10 +9,10 @@ use Rattle.scop_syntax.specs.Tree.{Program}
 use Rattle.scop_syntax.specs.Walk.{Instance, instance, Visit, walk_of}
 use Rattle.scop_syntax.proofs.Members.{in_from_place, in_map, in_map_from, place_of, sorted_map}
 use Rattle.scop_syntax.proofs.Members.{sorted_places}
-use Rattle.conflict_orders.specs.Orders.{AreDistinct, IsOrderOf, KeepsConflicts}
-use Rattle.conflict_orders.proofs.SortedLists.{distinct_places, sorted_by_places, sorted_stands, sorted_unmapped}
-use Rattle.conflict_orders.proofs.SortedLists.{sorted_weaker, StandOnce, walked_distinct}
-use Rattle.conflict_orders.proofs.Precedence.{one_stands_before}
+use Rattle.scop_syntax.specs.ConflictOrders.{AreDistinct, IsOrderOf, KeepsConflicts}
+use Rattle.scop_syntax.proofs.SortedLists.{distinct_places, sorted_by_places, sorted_stands, sorted_unmapped}
+use Rattle.scop_syntax.proofs.SortedLists.{sorted_weaker, StandOnce, walked_distinct}
+use Rattle.scop_syntax.proofs.Precedence.{one_stands_before}
 use Rattle.loop_tree.specs.Plans.{AreInOrder, CarryOut, Conflict, Precedes, walked}
 use Rattle.loop_tree.specs.Runs.{MayRunAll}
 use Rattle.loop_tree.specs.Tiling.{Tiling, kept, tiled, order_of}

@@ -6,7 +6,7 @@ use Rattle.std.specs.Prelude.{◌↔◌, ◌+ℤ◌, ◌≤ℤ◌, ◌<ℤ◌}
 use Rattle.std.proofs.lemmas.Int.{ints}
 use Rattle.scop_syntax.specs.Members.{In, Sorted}
 use Rattle.scop_syntax.proofs.Members.{in_append, in_front, in_back, sorted_append}
-use Rattle.conflict_orders.proofs.SortedLists.{sorted_front, sorted_back, sorted_across}
+use Rattle.scop_syntax.proofs.SortedLists.{sorted_front, sorted_back, sorted_across}
 use Rattle.loop_tree.specs.Runs.{IsShuffle, Joins, RunsAlong}
 use Rattle.loop_tree.specs.Walk.{along}
 use Rattle.loop_tree.proofs.Lists.{in_along_from}

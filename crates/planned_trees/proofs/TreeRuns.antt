@@ -7,7 +7,7 @@ use Rattle.std.proofs.lemmas.Int.{ints}
 use Rattle.scop_syntax.specs.Members.{In, Sorted}
 use Rattle.scop_syntax.specs.Walk.{Instance, most_turns}
 use Rattle.scop_syntax.proofs.Members.{in_map, in_map_from, sorted_append, sorted_map}
-use Rattle.conflict_orders.proofs.SortedLists.{sorted_front, sorted_back, sorted_across, sorted_unmapped}
+use Rattle.scop_syntax.proofs.SortedLists.{sorted_front, sorted_back, sorted_across, sorted_unmapped}
 use Rattle.loop_tree.specs.Plans.{IsFree, AreFree}
 use Rattle.loop_tree.specs.Runs.{MayRun, MayRunAll}
 use Rattle.loop_tree.specs.Tree.{Tree, loop, guard, instance, Trees, none, more}

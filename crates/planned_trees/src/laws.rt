@@ -7,7 +7,7 @@ ghost use Rattle.scop_syntax.specs.Members.{In};
 ghost use Rattle.scop_syntax.specs.Reductions.{is_marked};
 ghost use Rattle.scop_syntax.specs.Tree.{Program};
 ghost use Rattle.scop_syntax.specs.Walk.{Instance, instance, Visit as Walked, walk_of};
-ghost use Rattle.conflict_orders.specs.Orders.{IsOrderOf};
+ghost use Rattle.scop_syntax.specs.ConflictOrders.{IsOrderOf};
 ghost use Rattle.loop_tree.specs.Conditions.{CanWalk};
 ghost use Rattle.loop_tree.specs.Plans.{CarryOut, walked};
 ghost use Rattle.loop_tree.specs.Runs.{MayRunAll};
@@ -17,7 +17,7 @@ ghost use Rattle.loop_tree.specs.Walk.{Visit, given, visits, walk_all};
 ghost use Rattle.planned_trees.specs.Executions.{AreVisitsOf};
 ghost use Rattle.planned_trees.specs.Trees.{AreEven, AreTreesOf, StandInOrder};
 
-use conflict_orders::laws::orders_of_walks_end_as_they_do;
+use scop_syntax::order_laws::orders_of_walks_end_as_they_do;
 use scop_syntax::limit_laws::values_lie_within_45_bits;
 use scop_syntax::walk_laws::{
     instances_are_those_of_statements, statements_are_numbered, walks_are_in_order,

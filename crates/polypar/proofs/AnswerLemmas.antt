@@ -15,9 +15,9 @@ use Rattle.io_ports.proofs.PutTexts.{take_then, whole_is_front, kept_is_nothing,
 use Rattle.scop_syntax.specs.declared.tree.Kernel.{Kernel}
 use Rattle.scop_syntax.specs.View.{program_of}
 use Rattle.scop_syntax.specs.Tree.{Program}
-use Rattle.kernel_plans.specs.Status.{Status}
-use Rattle.kernel_plans.specs.Status.TheVariants.{Done, Usage, Refused, BadData, Outside, ReadFault}
-use Rattle.kernel_plans.specs.Status.TheVariants.{WriteFault, NoMemory, Rejected}
+use Rattle.plan_search.specs.Status.{Status}
+use Rattle.plan_search.specs.Status.TheVariants.{Done, Usage, Refused, BadData, Outside, ReadFault}
+use Rattle.plan_search.specs.Status.TheVariants.{WriteFault, NoMemory, Rejected}
 use Rattle.command_line.specs.declared.command.Command.{Command}
 use Rattle.command_line.specs.declared.command.Command.TheVariants.{Run, OfKernel, Check, Gen}
 use Rattle.command_line.specs.declared.command.KernelCommand.{KernelCommand}
@@ -26,12 +26,12 @@ use Rattle.command_line.specs.declared.command.GeneratedKernel.{GeneratedKernel}
 use Rattle.command_line.specs.declared.command.RunOptions.{RunOptions}
 use Rattle.command_line.specs.Command.{IsTaken, command_of}
 use Rattle.polypar.specs.Case.{Accepted}
-use Rattle.kernel_plans.specs.Certifying.{IsCertificateText}
-use Rattle.kernel_plans.specs.Planning.{IsPlanText}
+use Rattle.plan_search.specs.Certifying.{IsCertificateText}
+use Rattle.plan_search.specs.Planning.{IsPlanText}
 use Rattle.polypar.specs.Sources.{IsSourcesText}
 use Rattle.polypar.specs.Told.{Told, IsTextAlone}
 use Rattle.polypar.specs.Deserves.{DeservesInput, DeservesFor, Deserves, AsksFor, Asks, IsReadBy}
-use Rattle.kernel_plans.specs.StatusText.{status_text}
+use Rattle.plan_search.specs.StatusText.{status_text}
 use Rattle.polypar.specs.KernelText.{IsTextFor}
 use Rattle.polypar.specs.Promises.{WritesTold, CutsTold, AreUntouched, AnswersFor, AnswersCommand, AnswersWords}
 use Rattle.polypar.specs.Promises.{IsReadOn, TellsStatus}

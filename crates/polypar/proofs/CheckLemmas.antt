@@ -20,7 +20,7 @@ use Rattle.plan_check.specs.declared.kinds.CheckStop.{CheckStop}
 use Rattle.plan_check.specs.declared.kinds.CheckStop.TheVariants as stop
 use Rattle.plan_check.specs.declared.kinds.FaultKind.{FaultKind}
 use Rattle.plan_check.specs.declared.kinds.FaultKind.TheVariants as fault
-use Rattle.kernel_plans.specs.Status.{Status}
+use Rattle.plan_search.specs.Status.{Status}
 use Rattle.polypar.specs.Told.{text_alone}
 use Rattle.polypar.specs.Promises.{AnswersCertificate, AnswersKernel, WritesTold, CutsTold}
 

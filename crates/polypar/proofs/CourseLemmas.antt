@@ -4,21 +4,21 @@ use Rattle.std.proofs.Common.{◌∷◌, ◌==◌, All, Option, None, Some, leng
 use Rattle.std.specs.Prelude.{MatchOption, ⊤}
 use Rattle.std.proofs.lemmas.List.Elements.{All-cons, All-nil}
 use Rattle.scop_syntax.specs.Tree.{Program}
-use Rattle.kernel_plans.specs.Flow.{IsResolved}
-use Rattle.kernel_runs.specs.Expansions.{AreSourcesOf}
-use Rattle.kernel_runs.specs.Sources.{Sources}
+use Rattle.plan_search.specs.Flow.{IsResolved}
+use Rattle.tile_runs.specs.Expansions.{AreSourcesOf}
+use Rattle.tile_runs.specs.Sources.{Sources}
 use Rattle.loop_tree.specs.Tiling.{Tiling, kept, tiled}
 use Rattle.loop_tree.specs.TilingView.{tiling_of}
 use Rattle.loop_tree.specs.Tree.{Trees}
 use Rattle.loop_tree.specs.View.{trees_in}
-use Rattle.kernel_plans.specs.UnexpandedLine.{UnexpandedLine}
+use Rattle.plan_search.specs.UnexpandedLine.{UnexpandedLine}
 use Rattle.command_line.specs.declared.command.RunOptions.{RunOptions}
-use Rattle.kernel_plans.specs.Planned.{AreExpanded, ArePlanned, AreSourcesTold, IsExpandedPlan, IsPlanned, added_in}
-use Rattle.kernel_plans.specs.Planned.{is_tiled}
-use Rattle.kernel_plans.specs.declared.plans.Planned.{Planned}
-use Rattle.kernel_plans.specs.ReadSource.{ReadSource}
-use Rattle.kernel_plans.specs.ReadSource.TheVariants as source
-use Rattle.kernel_plans.specs.Trees.{AreFlowTreesOf, AreTreesOf}
+use Rattle.plan_search.specs.Planned.{AreExpanded, ArePlanned, AreSourcesTold, IsExpandedPlan, IsPlanned, added_in}
+use Rattle.plan_search.specs.Planned.{is_tiled}
+use Rattle.plan_search.specs.declared.plans.Planned.{Planned}
+use Rattle.plan_search.specs.ReadSource.{ReadSource}
+use Rattle.plan_search.specs.ReadSource.TheVariants as source
+use Rattle.plan_search.specs.Trees.{AreFlowTreesOf, AreTreesOf}
 use Rattle.polypar.specs.Expanding.{CanExpand, GoesBy, GoesIf, first_unresolved}
 use Rattle.polypar.specs.Expanding.{marks_by}
 use Rattle.polypar.specs.declared.expanding.Course.{Course}

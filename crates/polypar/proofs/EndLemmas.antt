@@ -8,9 +8,9 @@ use Rattle.io_ports.specs.Writes.{SinkShows}
 use Rattle.scop_syntax.specs.View.{program_of}
 use Rattle.scop_syntax.specs.Tree.{Program}
 use Rattle.scop_parser.specs.Spelling.{SpellsProgram}
-use Rattle.kernel_plans.specs.Status.{Status}
-use Rattle.kernel_plans.specs.Status.TheVariants.{Done, Usage, Refused, BadData, Outside, ReadFault}
-use Rattle.kernel_plans.specs.Status.TheVariants.{WriteFault, NoMemory, Rejected}
+use Rattle.plan_search.specs.Status.{Status}
+use Rattle.plan_search.specs.Status.TheVariants.{Done, Usage, Refused, BadData, Outside, ReadFault}
+use Rattle.plan_search.specs.Status.TheVariants.{WriteFault, NoMemory, Rejected}
 use Rattle.command_line.specs.declared.command.Command.{Command}
 use Rattle.command_line.specs.declared.command.Command.TheVariants.{Run, OfKernel, Check, Gen}
 use Rattle.command_line.specs.declared.command.GeneratedKernel.{GeneratedKernel}

@@ -4,7 +4,7 @@ use Rattle.iteration_domains.specs.Model.{KernelModel, model_of}
 use Rattle.scop_syntax.specs.Tree.{Program}
 use Rattle.command_line.specs.declared.command.KernelCommand.{KernelCommand}
 use Rattle.command_line.specs.declared.command.KernelCommand.TheVariants.{Schedule}
-use Rattle.kernel_plans.specs.Planning.{IsPlanOf}
+use Rattle.plan_search.specs.Planning.{IsPlanOf}
 use Rattle.polypar.specs.declared.told.Told as code
 use Rattle.polypar.specs.Told.{told_of, IsTextAlone}
 use Rattle.polypar.specs.KernelText.{IsTextFor}

@@ -1,9 +1,9 @@
 -- `schedule`, `deps`, `certify` and `check` have no lines.
 use Rattle.std.proofs.Common.{◌≡◌, ◌∙◌, sym, subst, ap, refl, inl, inr, ℕ, List, [], ◌∷◌, ◌++◌, Option}
 use Rattle.io_ports.specs.Writes.{SinkShows}
-use Rattle.kernel_plans.specs.Status.{Status}
-use Rattle.kernel_plans.specs.Status.TheVariants.{Done, Usage, Refused, BadData, Outside, ReadFault}
-use Rattle.kernel_plans.specs.Status.TheVariants.{WriteFault, NoMemory, Rejected}
+use Rattle.plan_search.specs.Status.{Status}
+use Rattle.plan_search.specs.Status.TheVariants.{Done, Usage, Refused, BadData, Outside, ReadFault}
+use Rattle.plan_search.specs.Status.TheVariants.{WriteFault, NoMemory, Rejected}
 use Rattle.command_line.specs.declared.command.Command.TheVariants.{OfKernel, Check}
 use Rattle.command_line.specs.declared.command.KernelCommand.TheVariants.{Schedule, Deps, Certify}
 use Rattle.command_line.specs.Command.{command_of}

@@ -12,11 +12,11 @@ use Rattle.loop_tree.specs.Tree.{Trees}
 use Rattle.command_line.specs.declared.command.RunOptions.{RunOptions}
 use Rattle.command_line.specs.declared.command.Sync.{Sync}
 use Rattle.command_line.specs.declared.command.Sync.TheVariants.{Tiles, Waves}
-use Rattle.kernel_plans.specs.Counting.{HasTiles, HasWaves}
-use Rattle.kernel_plans.specs.UnexpandedLine.{UnexpandedLine}
-use Rattle.kernel_plans.specs.Planned.{added_in}
-use Rattle.kernel_plans.specs.TilesText.{tiles_text}
-use Rattle.kernel_runs.specs.Counting.{IsReleaseOf}
+use Rattle.plan_search.specs.Counting.{HasTiles, HasWaves}
+use Rattle.plan_search.specs.UnexpandedLine.{UnexpandedLine}
+use Rattle.plan_search.specs.Planned.{added_in}
+use Rattle.plan_search.specs.TilesText.{tiles_text}
+use Rattle.tile_runs.specs.Counting.{IsReleaseOf}
 use Rattle.polypar.specs.Expanding.{GoesBy, is_unmarked, marks_by}
 use Rattle.polypar.specs.Runs.{IsPlanTold, are_released, edges_line, release_line, unexpanded_line}
 

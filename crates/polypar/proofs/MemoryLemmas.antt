@@ -3,10 +3,10 @@ use Rattle.std.proofs.Common.{◌≡◌, ◌⊎◌, sym, subst, ap, refl, ℕ, t
 use Rattle.io_ports.specs.Faults.{Rose, none_to_come}
 use Rattle.io_ports.specs.Writes.{IsWithin, HasRoom}
 use Rattle.io_ports.specs.Memory.{SourceState, source_shows, SinkState, sink_shows}
-use Rattle.kernel_plans.specs.Status.{Status}
-use Rattle.kernel_plans.specs.Status.TheVariants.{NoMemory}
+use Rattle.plan_search.specs.Status.{Status}
+use Rattle.plan_search.specs.Status.TheVariants.{NoMemory}
 use Rattle.polypar.specs.Deserves.{Deserves, Asks}
-use Rattle.kernel_plans.specs.StatusText.{status_text}
+use Rattle.plan_search.specs.StatusText.{status_text}
 use Rattle.polypar.specs.Answered.{Answered, CountsStay}
 use Rattle.polypar.specs.InMemory.{NeverFail, Holds, HoldsText, HoldsLine}
 

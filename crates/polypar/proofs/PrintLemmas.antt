@@ -6,14 +6,14 @@ use Rattle.loop_tree.specs.Marks.{FlatAll}
 use Rattle.loop_tree.specs.Shape.{NestAllTo, TreesAreOf, TreesAreOver, TreesAreUpTo}
 use Rattle.loop_tree.specs.Tiling.{Tiling}
 use Rattle.loop_tree.specs.Tree.{Trees}
-use Rattle.kernel_plans.specs.Trees.{AreTreesOf}
+use Rattle.plan_search.specs.Trees.{AreTreesOf}
 use Rattle.c_printer.specs.Printable.{AreNodes}
 use Rattle.polypar.specs.declared.told.Told as code
 use Rattle.polypar.specs.Told.{Told, IsHeld, told_of}
 use Rattle.polypar.specs.Promises.{AnswersMade, AnswersTold}
-use Rattle.kernel_plans.specs.Status.{Status}
-use Rattle.kernel_plans.specs.Status.TheVariants.{Done, Usage, Refused, BadData, Outside, ReadFault}
-use Rattle.kernel_plans.specs.Status.TheVariants.{WriteFault, NoMemory, Rejected}
+use Rattle.plan_search.specs.Status.{Status}
+use Rattle.plan_search.specs.Status.TheVariants.{Done, Usage, Refused, BadData, Outside, ReadFault}
+use Rattle.plan_search.specs.Status.TheVariants.{WriteFault, NoMemory, Rejected}
 
 -- the code's lines and text lie in memory
 pub held : (t : code.Told) → IsHeld (told_of t)

@@ -6,8 +6,8 @@ use Rattle.scop_parser.specs.Spelling.{SpellsProgram}
 use Rattle.scop_parser.specs.Names.{HasFreeNames}
 use Rattle.loop_tree.specs.Tiling.{Tiling}
 use Rattle.loop_tree.specs.Tree.{Trees}
-use Rattle.kernel_plans.specs.Trees.{AreTreesOf}
-use Rattle.kernel_plans.specs.Planned.{ArePlanned}
+use Rattle.plan_search.specs.Trees.{AreTreesOf}
+use Rattle.plan_search.specs.Planned.{ArePlanned}
 use Rattle.c_printer.specs.Naming.{HasWords}
 use Rattle.c_printer.specs.Nodes.{text_of}
 use Rattle.c_printer.specs.Printable.{AreNodes, IsNamed}

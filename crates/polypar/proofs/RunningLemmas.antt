@@ -6,14 +6,14 @@ use Rattle.scop_syntax.specs.Limits.{HasParameters}
 use Rattle.scop_syntax.specs.Reductions.{is_marked}
 use Rattle.scop_syntax.specs.Tree.{Program}
 use Rattle.scop_syntax.specs.Walk.{instance, Visit as Walked, walk_of}
-use Rattle.conflict_orders.specs.Orders.{IsOrderOf}
+use Rattle.scop_syntax.specs.ConflictOrders.{IsOrderOf}
 use Rattle.loop_tree.specs.Plans.{CarryOut, walked}
 use Rattle.loop_tree.specs.Runs.{MayRunAll}
 use Rattle.loop_tree.specs.Tiling.{Tiling}
 use Rattle.loop_tree.specs.Tree.{Trees}
 use Rattle.loop_tree.specs.Walk.{Visit, given, visits, walk_all}
-use Rattle.kernel_plans.specs.Executions.{AreVisitsOf}
-use Rattle.kernel_plans.specs.Trees.{AreEven, AreTreesOf, StandInOrder}
+use Rattle.plan_search.specs.Executions.{AreVisitsOf}
+use Rattle.plan_search.specs.Trees.{AreEven, AreTreesOf, StandInOrder}
 use Rattle.polypar.specs.Told.{Told}
 use Rattle.polypar.specs.Emitting.{ReadsAsLoops}
 use Rattle.polypar.specs.Running.{RunKernel, RunsKernel}

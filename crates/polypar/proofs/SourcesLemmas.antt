@@ -13,13 +13,13 @@ use Rattle.scop_syntax.specs.Writers.{last_writer}
 use Rattle.scop_syntax.proofs.Members.{in_front, in_back, in_from_place, place_of}
 use Rattle.iteration_domains.specs.Instances.{IsInstanceOf}
 use Rattle.iteration_domains.specs.Model.{Modelled, KernelModel, model_of}
-use Rattle.kernel_plans.specs.Pairs.{TouchesAt}
-use Rattle.kernel_plans.specs.Way.TheVariants.{Later}
-use Rattle.kernel_plans.specs.ReadSources.{reads_from, reads_of_statement, reads_in, reads_of, AreSources, NameLastWriters}
-use Rattle.kernel_plans.specs.Told.{AreTold}
-use Rattle.kernel_plans.specs.ReadSource.{ReadSource}
-use Rattle.kernel_plans.specs.ReadSource.TheVariants as source
-use Rattle.kernel_plans.specs.DepsText.{deps_text}
+use Rattle.plan_search.specs.Pairs.{TouchesAt}
+use Rattle.plan_search.specs.Way.TheVariants.{Later}
+use Rattle.plan_search.specs.ReadSources.{reads_from, reads_of_statement, reads_in, reads_of, AreSources, NameLastWriters}
+use Rattle.plan_search.specs.Told.{AreTold}
+use Rattle.plan_search.specs.ReadSource.{ReadSource}
+use Rattle.plan_search.specs.ReadSource.TheVariants as source
+use Rattle.plan_search.specs.DepsText.{deps_text}
 use Rattle.polypar.specs.Sources.{IsSourcesText, IsSourceAt, NamesIfResolved, TellsLastWrites}
 
 -- the text that a call gives, where it is that of the sources of the model's reads

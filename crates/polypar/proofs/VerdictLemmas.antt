@@ -17,8 +17,8 @@ use Rattle.data_lines.specs.Naming.{line_of}
 use Rattle.data_text.specs.Cases.{Said, Says, data_said}
 use Rattle.data_text.specs.Described.{Describes}
 use Rattle.plan_check.specs.Judged.{judged}
-use Rattle.kernel_plans.specs.Status.{Status}
-use Rattle.kernel_plans.specs.Status.TheVariants.{Done, Usage, Outside, Refused, BadData, Rejected}
+use Rattle.plan_search.specs.Status.{Status}
+use Rattle.plan_search.specs.Status.TheVariants.{Done, Usage, Outside, Refused, BadData, Rejected}
 use Rattle.clap.specs.Words.{fault_of, subcommand_of}
 use Rattle.clap.specs.Kinds.{Kinds}
 use Rattle.command_line.specs.declared.command.Command.{Command}

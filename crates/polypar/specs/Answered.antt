@@ -5,16 +5,16 @@ use Rattle.io_ports.specs.Faults.{Rose}
 use Rattle.io_ports.specs.Bytes.{IsAllOf, GainsFront}
 use Rattle.io_ports.specs.Reads.{SourceShows, IsSteady}
 use Rattle.io_ports.specs.Writes.{SinkShows, HasRoom}
-use Rattle.kernel_plans.specs.Status.{Status}
-use Rattle.kernel_plans.specs.Status.TheVariants.{Done, Usage, BadData, ReadFault, WriteFault, NoMemory}
+use Rattle.plan_search.specs.Status.{Status}
+use Rattle.plan_search.specs.Status.TheVariants.{Done, Usage, BadData, ReadFault, WriteFault, NoMemory}
 use Rattle.scop_syntax.specs.Tree.{Program}
 use Rattle.scop_parser.specs.Spelling.{SpellsProgram}
 use Rattle.polypar.specs.Case.{Accepted, asked_text, Spelled}
 use Rattle.polypar.specs.Checking.{IsGoodAlways, yes_text}
 use Rattle.plan_check.specs.Judged.{SaysPlan}
 use Rattle.plan_check.specs.Plans.{Plan}
-use Rattle.kernel_plans.specs.Certifying.{IsCertificateText}
-use Rattle.kernel_plans.specs.Planning.{IsPlanText}
+use Rattle.plan_search.specs.Certifying.{IsCertificateText}
+use Rattle.plan_search.specs.Planning.{IsPlanText}
 use Rattle.polypar.specs.Sources.{IsSourcesText}
 use Rattle.polypar.specs.Emitting.{IsLoopsText}
 use Rattle.polypar.specs.Runs.{AreRunLines, IsSummaryText}
@@ -26,7 +26,7 @@ use Rattle.command_line.specs.Command.{IsRunCommand, IsScheduleCommand, IsDepsCo
 use Rattle.command_line.specs.Command.{IsCertifyCommand, IsCheckCommand}
 use Rattle.polypar.specs.Cut.{kernel_part, data_part}
 use Rattle.polypar.specs.Deserves.{Deserves, Asks, IsReadBy}
-use Rattle.kernel_plans.specs.StatusText.{status_text}
+use Rattle.plan_search.specs.StatusText.{status_text}
 
 -- an accepted input was read, and exactly the text of the arrays that it asks for was printed; `err` has gained exactly
 -- the line of a kept order, if it is kept, and the report, where one is asked for

@@ -5,7 +5,7 @@ use Rattle.loop_tree.specs.Tiling.{Tiling}
 use Rattle.loop_tree.specs.Tree.{Trees}
 use Rattle.c_printer.specs.Nodes.{text_of}
 use Rattle.c_printer.specs.Reading.{read_text}
-use Rattle.kernel_plans.specs.Planned.{ArePlanned}
+use Rattle.plan_search.specs.Planned.{ArePlanned}
 use Rattle.polypar.specs.Told.{Told}
 
 -- `out` has the text of loop trees that for all parameters in 0..=65536 carry out the plan, tiled or kept; `err` the

@@ -7,18 +7,18 @@ use Rattle.scop_syntax.specs.Reductions.{marks}
 use Rattle.scop_syntax.specs.Tree.{Program}
 use Rattle.scop_syntax.specs.Walk.{walk_of}
 use Rattle.iteration_domains.specs.Model.{model_of}
-use Rattle.kernel_plans.specs.SourceStop.{SourceStop}
-use Rattle.kernel_plans.specs.SourceStop.TheVariants as stop
+use Rattle.plan_search.specs.SourceStop.{SourceStop}
+use Rattle.plan_search.specs.SourceStop.TheVariants as stop
 use Rattle.loop_tree.specs.Tiling.{Tiling}
 use Rattle.loop_tree.specs.Tree.{Trees}
-use Rattle.kernel_plans.specs.UnexpandedLine.{UnexpandedLine}
-use Rattle.kernel_plans.specs.UnexpandedLine.TheVariants as line
+use Rattle.plan_search.specs.UnexpandedLine.{UnexpandedLine}
+use Rattle.plan_search.specs.UnexpandedLine.TheVariants as line
 use Rattle.command_line.specs.declared.command.RunOptions.{RunOptions}
-use Rattle.kernel_plans.specs.Planned.{AreExpanded, ArePlanned, AreSourcesTold, is_tiled}
-use Rattle.kernel_plans.specs.ReadSources.{AreSources, reads_of}
-use Rattle.kernel_plans.specs.ReadSource.{ReadSource}
-use Rattle.kernel_plans.specs.ReadSource.TheVariants as source
-use Rattle.kernel_plans.specs.Way.TheVariants.{Later}
+use Rattle.plan_search.specs.Planned.{AreExpanded, ArePlanned, AreSourcesTold, is_tiled}
+use Rattle.plan_search.specs.ReadSources.{AreSources, reads_of}
+use Rattle.plan_search.specs.ReadSource.{ReadSource}
+use Rattle.plan_search.specs.ReadSource.TheVariants as source
+use Rattle.plan_search.specs.Way.TheVariants.{Later}
 
 -- the arrays that are marked: where sums may be made in any order, those that the program's statements only add to
 abbrev pub marks_by : RunOptions → Program → List ℕ

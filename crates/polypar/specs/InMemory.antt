@@ -2,8 +2,8 @@
 use Rattle.std.specs.Prelude.{◌≡◌, ℕ, ◌+◌, ◌≤◌, List, [], length, Option, Some}
 use Rattle.io_ports.specs.Memory.{SourceState, SinkState}
 use Rattle.scop_syntax.specs.Tree.{Program}
-use Rattle.kernel_plans.specs.Status.{Status}
-use Rattle.kernel_plans.specs.StatusText.{status_text}
+use Rattle.plan_search.specs.Status.{Status}
+use Rattle.plan_search.specs.StatusText.{status_text}
 use Rattle.polypar.specs.Told.{Told}
 use Rattle.polypar.specs.Deserves.{Asks}
 use Rattle.polypar.specs.Answered.{NamesOf}

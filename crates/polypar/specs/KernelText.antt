@@ -3,8 +3,8 @@ use Rattle.scop_syntax.specs.Tree.{Program}
 use Rattle.command_line.specs.declared.command.KernelCommand.{KernelCommand}
 use Rattle.command_line.specs.declared.command.KernelCommand.TheVariants.{Schedule, Deps, Emit, Certify}
 use Rattle.polypar.specs.Told.{Told, IsTextAlone}
-use Rattle.kernel_plans.specs.Certifying.{IsCertificateText}
-use Rattle.kernel_plans.specs.Planning.{IsPlanText}
+use Rattle.plan_search.specs.Certifying.{IsCertificateText}
+use Rattle.plan_search.specs.Planning.{IsPlanText}
 use Rattle.polypar.specs.Sources.{IsSourcesText}
 use Rattle.polypar.specs.Emitting.{IsLoopsText}
 

@@ -14,12 +14,12 @@ pub mod Sources
 pub mod Told
 pub mod steps
 -- Passed on: what this crate's contracts are told in.
-pub use Rattle.conflict_orders.specs.Orders
-pub use Rattle.kernel_plans.specs.Certificates
-pub use Rattle.kernel_plans.specs.Certifying
-pub use Rattle.kernel_plans.specs.Executions
-pub use Rattle.kernel_plans.specs.Planned
-pub use Rattle.kernel_plans.specs.Planning
-pub use Rattle.kernel_plans.specs.Schedules
-pub use Rattle.kernel_plans.specs.Trees
-pub use Rattle.kernel_runs.specs.Counting
+pub use Rattle.scop_syntax.specs.ConflictOrders
+pub use Rattle.plan_search.specs.Certificates
+pub use Rattle.plan_search.specs.Certifying
+pub use Rattle.plan_search.specs.Executions
+pub use Rattle.plan_search.specs.Planned
+pub use Rattle.plan_search.specs.Planning
+pub use Rattle.plan_search.specs.Schedules
+pub use Rattle.plan_search.specs.Trees
+pub use Rattle.tile_runs.specs.Counting

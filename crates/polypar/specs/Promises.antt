@@ -9,10 +9,10 @@ use Rattle.io_ports.specs.Writes.{SinkShows, HasRoom, Takes, CutsOff}
 use Rattle.scop_syntax.specs.Tree.{Program}
 use Rattle.scop_syntax.specs.Execution.{IsInside}
 use Rattle.data_text.specs.Cases.{Says}
-use Rattle.kernel_plans.specs.Status.{Status}
-use Rattle.kernel_plans.specs.Status.TheVariants.{Done, Usage, BadData, Outside, ReadFault, WriteFault}
-use Rattle.kernel_plans.specs.Status.TheVariants.{NoMemory, Rejected}
-use Rattle.kernel_plans.specs.StatusText.{status_text}
+use Rattle.plan_search.specs.Status.{Status}
+use Rattle.plan_search.specs.Status.TheVariants.{Done, Usage, BadData, Outside, ReadFault, WriteFault}
+use Rattle.plan_search.specs.Status.TheVariants.{NoMemory, Rejected}
+use Rattle.plan_search.specs.StatusText.{status_text}
 use Rattle.command_line.specs.declared.command.Command.{Command}
 use Rattle.command_line.specs.declared.command.Command.TheVariants.{Run, OfKernel, Check, Gen}
 use Rattle.command_line.specs.declared.command.KernelCommand.{KernelCommand}

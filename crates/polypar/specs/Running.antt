@@ -5,13 +5,13 @@ use Rattle.scop_syntax.specs.Execution.{IsInside, IsShaped, exec, layout, perfor
 use Rattle.scop_syntax.specs.Limits.{HasParameters}
 use Rattle.scop_syntax.specs.Tree.{Program}
 use Rattle.scop_syntax.specs.Walk.{instance, Visit as Walked, walk_of}
-use Rattle.conflict_orders.specs.Orders.{IsOrderOf}
+use Rattle.scop_syntax.specs.ConflictOrders.{IsOrderOf}
 use Rattle.loop_tree.specs.Plans.{AreFree, Conflict, walked}
 use Rattle.loop_tree.specs.Runs.{MayRunAll}
 use Rattle.loop_tree.specs.Tree.{Trees}
 use Rattle.loop_tree.specs.Walk.{Visit, given, visits, walk_all}
-use Rattle.kernel_plans.specs.Executions.{AreVisitsOf}
-use Rattle.kernel_plans.specs.Trees.{StandInOrder}
+use Rattle.plan_search.specs.Executions.{AreVisitsOf}
+use Rattle.plan_search.specs.Trees.{StandInOrder}
 use Rattle.c_printer.specs.Reading.{read_text}
 
 -- trees that run the kernel at these parameters

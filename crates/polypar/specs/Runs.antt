@@ -9,14 +9,14 @@ use Rattle.scop_syntax.specs.Walk.{walk_of}
 use Rattle.loop_tree.specs.Plans.{walked}
 use Rattle.loop_tree.specs.Tiling.{Tiling}
 use Rattle.loop_tree.specs.Tree.{Trees}
-use Rattle.kernel_plans.specs.Counting.{HasTiles, HasWaves}
-use Rattle.kernel_runs.specs.Counting.{IsReleaseOf}
+use Rattle.plan_search.specs.Counting.{HasTiles, HasWaves}
+use Rattle.tile_runs.specs.Counting.{IsReleaseOf}
 use Rattle.kernel_gen.specs.Cases.{contents, params, program}
 use Rattle.kernel_gen.specs.Summary.{summary_text}
 use Rattle.kernel_gen.specs.Totals.{cells_in, sum_of}
-use Rattle.kernel_plans.specs.UnexpandedText.{unexpanded_text}
-use Rattle.kernel_plans.specs.UnexpandedLine.{UnexpandedLine}
-use Rattle.kernel_plans.specs.TilesText.{edges_text, tiles_text, waves_edges_text, waves_reduce_text}
+use Rattle.plan_search.specs.UnexpandedText.{unexpanded_text}
+use Rattle.plan_search.specs.UnexpandedLine.{UnexpandedLine}
+use Rattle.plan_search.specs.TilesText.{edges_text, tiles_text, waves_edges_text, waves_reduce_text}
 use Rattle.command_line.specs.declared.command.GeneratedKernel.{GeneratedKernel}
 use Rattle.command_line.specs.declared.command.RunOptions.{RunOptions}
 use Rattle.command_line.specs.declared.command.Sync.{Sync}

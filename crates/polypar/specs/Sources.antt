@@ -8,14 +8,14 @@ use Rattle.scop_syntax.specs.Tree.{Program}
 use Rattle.scop_syntax.specs.Walk.{Visit, walk_of}
 use Rattle.scop_syntax.specs.Writers.{last_writer}
 use Rattle.iteration_domains.specs.Model.{model_of}
-use Rattle.kernel_plans.specs.Pairs.{TouchesAt}
-use Rattle.kernel_plans.specs.ReadSources.{reads_of, AreSources, NameLastWriters}
-use Rattle.kernel_plans.specs.Places.{Names}
-use Rattle.kernel_plans.specs.Way.TheVariants.{Later}
-use Rattle.kernel_plans.specs.Told.{AreTold}
-use Rattle.kernel_plans.specs.ReadSource.{ReadSource}
-use Rattle.kernel_plans.specs.ReadSource.TheVariants as source
-use Rattle.kernel_plans.specs.DepsText.{deps_text}
+use Rattle.plan_search.specs.Pairs.{TouchesAt}
+use Rattle.plan_search.specs.ReadSources.{reads_of, AreSources, NameLastWriters}
+use Rattle.plan_search.specs.Places.{Names}
+use Rattle.plan_search.specs.Way.TheVariants.{Later}
+use Rattle.plan_search.specs.Told.{AreTold}
+use Rattle.plan_search.specs.ReadSource.{ReadSource}
+use Rattle.plan_search.specs.ReadSource.TheVariants as source
+use Rattle.plan_search.specs.DepsText.{deps_text}
 
 -- the text is that of the sources of the program's reads, by statement and read: each is the end of the run over the
 -- read's candidates, each of which may make so many moves, where it is resolved it names the last writers, and it is

@@ -4,12 +4,12 @@ ghost use Rattle.std.specs.Prelude.{◌≡◌, IfOk};
 ghost use Rattle.scop_syntax.specs.Kernel.{IsKernel};
 ghost use Rattle.scop_syntax.specs.View.{program_of};
 ghost use Rattle.iteration_domains.specs.Model.{model_of};
-ghost use Rattle.kernel_plans.specs.Certifying.{IsCertificateText};
+ghost use Rattle.plan_search.specs.Certifying.{IsCertificateText};
 ghost use Rattle.polypar.specs.Told.{told_of, IsTextAlone};
 
 use crate::told::Told;
 use iteration_domains::Model;
-use kernel_plans::certificate_text;
+use plan_search::certificate_text;
 use scop_syntax::tree::Kernel;
 use std::alloc::{AllocError, Global};
 

@@ -5,20 +5,20 @@ ghost use Rattle.scop_syntax.specs.Execution.{IsInside, IsShaped, exec, layout};
 ghost use Rattle.scop_syntax.specs.Limits.{WithinLimits};
 ghost use Rattle.scop_syntax.specs.View.{program_of};
 ghost use Rattle.command_line.specs.Command.{AreSized};
-ghost use Rattle.kernel_plans.specs.TilesText.{tiles_text};
+ghost use Rattle.plan_search.specs.TilesText.{tiles_text};
 ghost use Rattle.polypar.specs.Expanding.{marks_by};
 ghost use Rattle.polypar.specs.Runs.{IsPlanTold, are_released, edges_line, release_line, unexpanded_line};
 
 use crate::expanding::{Course, course_of};
 use command_line::{RunOptions, Sync};
 use data_text::Case;
-use kernel_plans::{
+use plan_search::{
     UnexpandedLine, edges_text, tiles_text, unexpanded_text, waves_edges_text, waves_reduce_text,
 };
-use kernel_runs::{Counts, Workers, run_case};
+use tile_runs::{Counts, Workers, run_case};
 use scop_syntax::reduction_laws::marks_are_the_reduced_arrays;
 use scop_syntax::tree::Kernel;
-use standings::marked_arrays;
+use scop_syntax::marking::marked_arrays;
 use std::alloc::{AllocError, Global};
 
 /// What a run leaves to tell: the lines of its plan, and how many tiles and waves that has, and how many pairs of tiles.

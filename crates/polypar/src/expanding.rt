@@ -7,20 +7,20 @@ ghost use Rattle.scop_syntax.specs.Execution.{IsInside, layout};
 ghost use Rattle.scop_syntax.specs.Kernel.{IsKernel};
 ghost use Rattle.scop_syntax.specs.Limits.{WithinLimits};
 ghost use Rattle.scop_syntax.specs.View.{program_of};
-ghost use Rattle.kernel_runs.specs.Expansions.{AreSourcesOf};
+ghost use Rattle.tile_runs.specs.Expansions.{AreSourcesOf};
 ghost use Rattle.iteration_domains.specs.Model.{model_of};
 ghost use Rattle.command_line.specs.Command.{AreSized};
-ghost use Rattle.kernel_plans.specs.Planned.{AreSourcesTold};
+ghost use Rattle.plan_search.specs.Planned.{AreSourcesTold};
 ghost use Rattle.polypar.specs.Expanding.{line_of_stop, marks_by};
 ghost use Rattle.polypar.specs.steps.Courses.{HasNoCopies, IsCourse, IsExpansion, IsFirstLine};
 
 use command_line::RunOptions;
 use data_text::Case;
 use iteration_domains::Model;
-use kernel_plans::{
+use plan_search::{
     Planned, ReadSource, SourceStop, UnexpandedLine, last_writes, planned, planned_by_flow,
 };
-use kernel_runs::{NoSources, Sources, sources_of};
+use tile_runs::{NoSources, Sources, sources_of};
 use pip_solver::Stop;
 use scop_syntax::tree::Kernel;
 use std::alloc::{AllocError, Global};

@@ -15,8 +15,8 @@ use crate::told::Told;
 use command_line::{GeneratedKernel, RunOptions, Sync};
 use io_ports::Sink;
 use kernel_gen::{cells_in, generated, sum_of, summary};
-use kernel_plans::Status;
-use kernel_runs::Workers;
+use plan_search::Status;
+use tile_runs::Workers;
 use std::alloc::{AllocError, Global};
 
 /// Runs a generated kernel by waves and without copies: what that leaves to tell, without a report, how many cells its

@@ -1,7 +1,7 @@
 //! A whole call over ports in memory, as tests make it.
 
 ghost use Rattle.std.specs.Prelude.{◌≡◌, ◌⊎◌, map, string_bytes};
-ghost use Rattle.kernel_plans.specs.Status.{Status};
+ghost use Rattle.plan_search.specs.Status.{Status};
 ghost use Rattle.io_ports.specs.Memory.{source_shows};
 ghost use Rattle.command_line.specs.Command.{command_of};
 ghost use Rattle.polypar.specs.Deserves.{Deserves, IsReadBy};
@@ -9,7 +9,7 @@ ghost use Rattle.polypar.specs.InMemory.{NeverFail, HoldsText, HoldsLine};
 
 use crate::plain::plain_command;
 use io_ports::{MemSink, MemSource};
-use kernel_plans::Status;
+use plan_search::Status;
 use std::alloc::Global;
 
 /// Calls `plain_command` over ports in memory that fail at no call. Where they have room, the status is the one

@@ -12,8 +12,8 @@ ghost use Rattle.scop_syntax.specs.Widths.{HoldWidths};
 ghost use Rattle.scop_parser.specs.Spelling.{SpellsProgram};
 ghost use Rattle.data_text.specs.Cases.{Says};
 ghost use Rattle.data_text.specs.Written.{case_text};
-ghost use Rattle.kernel_plans.specs.Status.TheVariants.{Done};
-ghost use Rattle.kernel_plans.specs.Status.{Status};
+ghost use Rattle.plan_search.specs.Status.TheVariants.{Done};
+ghost use Rattle.plan_search.specs.Status.{Status};
 ghost use Rattle.polypar.specs.Answered.{Answered, HasLines, PrintsText, PrintsTold};
 ghost use Rattle.command_line.specs.Command.{IsCertifyCommand, IsCheckCommand, IsDepsCommand, IsEmitCommand};
 ghost use Rattle.command_line.specs.Command.{IsScheduleCommand};
@@ -26,7 +26,7 @@ use c_printer::{
 };
 use data_text::written_cases_are_read_back;
 use iteration_domains::domain_laws::{accesses_touch_the_cells, domains_hold_the_instances};
-use kernel_plans::{loops_end_as_the_source_does, trees_keep_conflicts_in_order};
+use plan_search::{loops_end_as_the_source_does, trees_keep_conflicts_in_order};
 use scop_parser::laws::{spelled_names_are_words, spelled_programs_are_kernels};
 
 /// The text of the arrays of a kernel that a text spells, behind a line for each parameter, says these parameters and

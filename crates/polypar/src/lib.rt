@@ -34,8 +34,8 @@ pub use plain::{command_by, deserved_once, plain_command, polypar};
 pub use run::LONGEST_INPUT;
 
 // Passed on: what goes with this crate's contracts.
-pub use kernel_plans::{
+pub use plan_search::{
     DataRefusal, FaultKind, Kept, Outside, Refusal, RefusalKind, Schedule, Status, Stuck, covers,
     hull_tree, schedule_of, tiled_tree, trees_of_plans_can_be_walked,
 };
-pub use kernel_runs::{OneWorker, Workers};
+pub use tile_runs::{OneWorker, Workers};

@@ -12,7 +12,7 @@ ghost use Rattle.polypar.specs.Emitting.{IsLoopsText};
 use crate::told::Told;
 use c_printer::print;
 use iteration_domains::Model;
-use kernel_plans::planned;
+use plan_search::planned;
 use scop_syntax::tree::Kernel;
 use std::alloc::{AllocError, Global};
 

@@ -2,9 +2,9 @@
 
 ghost use Rattle.std.specs.Prelude.{◌≡◌, ◌≤◌, ℕ, IfErr, IfOk, List, length, map, string_bytes, option_map};
 ghost use Rattle.scop_syntax.specs.View.{program_of};
-ghost use Rattle.kernel_runs.specs.Plans.{HasRest, IsPlan, shape_of};
-ghost use Rattle.kernel_runs.specs.Running.{AreExecuted};
-ghost use Rattle.kernel_plans.specs.Status.{Status};
+ghost use Rattle.tile_runs.specs.Plans.{HasRest, IsPlan, shape_of};
+ghost use Rattle.tile_runs.specs.Running.{AreExecuted};
+ghost use Rattle.plan_search.specs.Status.{Status};
 ghost use Rattle.polypar.specs.Deserves.{Deserves, IsVerdict};
 ghost use Rattle.command_line.specs.Command.{HasSize};
 ghost use Rattle.polypar.specs.Promises.{AnswersCommand, AnswersWords, Ends, TellsStatus};
@@ -15,8 +15,8 @@ use crate::run::{Ending, run};
 use command_line::{Command, CommandStop, command_of};
 use data_text::{said_once, texts_say_what_lines_describe};
 use io_ports::{Failed, Gate, Sink, Source};
-use kernel_plans::{Status, status_line};
-use kernel_runs::{By, OneWorker, Plan, Workers, run_on_threads};
+use plan_search::{Status, status_line};
+use tile_runs::{By, OneWorker, Plan, Workers, run_on_threads};
 use scop_parser::laws::{
     faults_leave_no_program, spelled_programs_are_kernels, texts_have_one_first_fault,
     texts_spell_a_program_or_have_a_fault, texts_spell_one_program,

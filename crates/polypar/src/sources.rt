@@ -9,7 +9,7 @@ ghost use Rattle.polypar.specs.Told.{told_of, IsTextAlone};
 
 use crate::told::Told;
 use iteration_domains::Model;
-use kernel_plans::{deps_text, last_writes};
+use plan_search::{deps_text, last_writes};
 use scop_syntax::tree::Kernel;
 use std::alloc::{AllocError, Global};
 

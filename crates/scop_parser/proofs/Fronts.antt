@@ -1,10 +1,10 @@
 -- The first token with which no text goes on is one.
 use Rattle.std.proofs.Common.{◌≡◌, ℕ, ◌≤◌, List, [], ◌∷◌, ◌++◌, length, refl, sym, subst, append_assoc, arith}
-use Rattle.expression_grammar.specs.Token.{Token}
-use Rattle.expression_grammar.specs.Tree.{Tree}
-use Rattle.kernel_grammar.specs.Kernel.{Step, counted, counts, assigned, Head, branch, loop, Item, block, empty, assign}
-use Rattle.kernel_grammar.specs.Kernel.{headed, Items, none, more, Parameter, number, array, Fits, AllFit, StepFits}
-use Rattle.kernel_grammar.specs.Kernel.{HeadFits, ItemFits, ItemsFit, ParameterFits, ParametersFit, Spells, IsFront}
+use Rattle.scop_expressions.specs.Token.{Token}
+use Rattle.scop_expressions.specs.Tree.{Tree}
+use Rattle.scop_grammar.specs.Kernel.{Step, counted, counts, assigned, Head, branch, loop, Item, block, empty, assign}
+use Rattle.scop_grammar.specs.Kernel.{headed, Items, none, more, Parameter, number, array, Fits, AllFit, StepFits}
+use Rattle.scop_grammar.specs.Kernel.{HeadFits, ItemFits, ItemsFit, ParameterFits, ParametersFit, Spells, IsFront}
 
 -- what fits fits wider limits
 pub fits-more : (d n e m : ℕ) (t : Tree) → d ≤ e → n ≤ m → Fits d n t → Fits e m t

@@ -3,13 +3,13 @@ use Rattle.std.proofs.Common.{◌≡◌, ◌∙◌, ap, subst, refl, ℕ, zero, 
 use Rattle.std.proofs.Common.{length, map, slice_get, inl, inr, arith}
 use Rattle.std.specs.Prelude.{All, Some}
 use Rattle.std.proofs.lemmas.List.Elements.{All-nil, All-cons, All-head, All-map, All-tail}
-use Rattle.expression_grammar.specs.Tree as expression
-use Rattle.expression_grammar.specs.Token.{Token}
-use Rattle.expression_grammar.specs.Token.TheVariants as token
-use Rattle.kernel_grammar.specs.Kernel.{Element, spelled, Step, branch, loop, Item, block, empty, assign, headed, Items}
-use Rattle.kernel_grammar.specs.Kernel.{none, more, Kernel, begins, ends, item_elements, all_elements, head_elements}
-use Rattle.kernel_grammar.specs.Kernel.{parameter_elements, other_parameters, declarations, kernel_elements}
-use Rattle.kernel_grammar.proofs.Parses.{spelled_append}
+use Rattle.scop_expressions.specs.Tree as expression
+use Rattle.scop_expressions.specs.Token.{Token}
+use Rattle.scop_expressions.specs.Token.TheVariants as token
+use Rattle.scop_grammar.specs.Kernel.{Element, spelled, Step, branch, loop, Item, block, empty, assign, headed, Items}
+use Rattle.scop_grammar.specs.Kernel.{none, more, Kernel, begins, ends, item_elements, all_elements, head_elements}
+use Rattle.scop_grammar.specs.Kernel.{parameter_elements, other_parameters, declarations, kernel_elements}
+use Rattle.scop_grammar.proofs.Parses.{spelled_append}
 use Rattle.scop_lexer.specs.Bytes.{Text}
 use Rattle.scop_lexer.specs.Words.{IsName}
 use Rattle.scop_roles.specs.Faults.{told, judged}

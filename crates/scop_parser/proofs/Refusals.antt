@@ -7,10 +7,10 @@ use Rattle.scop_lexer.specs.Lines.{line_behind, column_behind}
 use Rattle.scop_lexer.specs.declared.token.Fault.{Fault as TokenFault}
 use Rattle.scop_lexer.specs.declared.token.Token.{Token as Lexeme}
 use Rattle.scop_lexer.proofs.Splits.{one-list, no-fault, one-fault}
-use Rattle.expression_grammar.specs.Token.{Token}
-use Rattle.expression_grammar.specs.Grammar.{told_at}
-use Rattle.kernel_grammar.specs.Kernel.{IsFront}
-use Rattle.kernel_grammar.specs.Promises.{IsUnfit, IsMisplaced, IsUnended, IsTooDeep}
+use Rattle.scop_expressions.specs.Token.{Token}
+use Rattle.scop_expressions.specs.Grammar.{told_at}
+use Rattle.scop_grammar.specs.Kernel.{IsFront}
+use Rattle.scop_grammar.specs.Promises.{IsUnfit, IsMisplaced, IsUnended, IsTooDeep}
 use Rattle.scop_roles.specs.declared.fault.Fault.{Fault}
 use Rattle.scop_roles.specs.Faults.{first}
 use Rattle.scop_parser.specs.declared.refusal.Refusal.{Refusal}

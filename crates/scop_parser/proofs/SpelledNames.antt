@@ -8,8 +8,8 @@ use Rattle.scop_lexer.specs.Stands.{stands_at}
 use Rattle.scop_lexer.specs.Tokens.{IsToken, AreTokens}
 use Rattle.scop_lexer.specs.declared.stand.Stand.TheVariants.{Lexeme}
 use Rattle.scop_lexer.specs.declared.token.Token.{Token}
-use Rattle.expression_grammar.specs.Token.TheVariants as token
-use Rattle.kernel_grammar.specs.Kernel.{Kernel, kernel_elements, spelled}
+use Rattle.scop_expressions.specs.Token.TheVariants as token
+use Rattle.scop_grammar.specs.Kernel.{Kernel, kernel_elements, spelled}
 use Rattle.scop_syntax.specs.Tree.{Program}
 use Rattle.scop_units.specs.Words.{Words, grammar_tokens, spelling_of, words_of}
 use Rattle.scop_units.specs.Names.{SpellNames, header_names}

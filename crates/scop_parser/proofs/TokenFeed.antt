@@ -4,19 +4,19 @@ use Rattle.std.proofs.Common.{subst, append_assoc, append-nil, arith}
 use Rattle.std.specs.Prelude.{Result, Ok, Err}
 use Rattle.std.proofs.Math.ListN.{get_or-map}
 use Rattle.std.proofs.lemmas.List.{drop_all, length-map}
-use Rattle.expression_grammar.specs.declared.reader.Stop.{Stop}
-use Rattle.expression_grammar.specs.declared.reader.Stop.TheVariants as fault
-use Rattle.expression_grammar.specs.Token.{Token}
-use Rattle.kernel_grammar.specs.declared.reader.Text.{Text as Parts}
-use Rattle.kernel_grammar.specs.declared.table.Want.{Want}
-use Rattle.kernel_grammar.specs.declared.table.Want.TheVariants as want
-use Rattle.kernel_grammar.specs.Claims.{IsAnswer}
-use Rattle.kernel_grammar.specs.Kernel.{Kernel, Piece, Spells, kernel_elements, pieces}
-use Rattle.kernel_grammar.specs.Machine.{Spot, first_spot, Answer, turn, run, goes_on, whole, answer, read}
-use Rattle.kernel_grammar.specs.Turns.{behind, Feeds, Gives, IsStop}
-use Rattle.kernel_grammar.proofs.FrontPieces.{feeds_behind, run_front, whole_front}
-use Rattle.kernel_grammar.proofs.MachineAnswers.{read_answers, spelled_read}
-use Rattle.kernel_grammar.proofs.MachineLoop.{Runs, runs_first, runs_left, runs_on, feeds_on, gives_fault, tells_stop}
+use Rattle.scop_expressions.specs.declared.reader.Stop.{Stop}
+use Rattle.scop_expressions.specs.declared.reader.Stop.TheVariants as fault
+use Rattle.scop_expressions.specs.Token.{Token}
+use Rattle.scop_grammar.specs.declared.reader.Text.{Text as Parts}
+use Rattle.scop_grammar.specs.declared.table.Want.{Want}
+use Rattle.scop_grammar.specs.declared.table.Want.TheVariants as want
+use Rattle.scop_grammar.specs.Claims.{IsAnswer}
+use Rattle.scop_grammar.specs.Kernel.{Kernel, Piece, Spells, kernel_elements, pieces}
+use Rattle.scop_grammar.specs.Machine.{Spot, first_spot, Answer, turn, run, goes_on, whole, answer, read}
+use Rattle.scop_grammar.specs.Turns.{behind, Feeds, Gives, IsStop}
+use Rattle.scop_grammar.proofs.FrontPieces.{feeds_behind, run_front, whole_front}
+use Rattle.scop_grammar.proofs.MachineAnswers.{read_answers, spelled_read}
+use Rattle.scop_grammar.proofs.MachineLoop.{Runs, runs_first, runs_left, runs_on, feeds_on, gives_fault, tells_stop}
 use Rattle.scop_lexer.specs.Bytes.{Text}
 use Rattle.scop_lexer.specs.Tokens.{token_at, tokens_at}
 use Rattle.scop_lexer.specs.declared.token.Token.{Token as Lexeme}

@@ -7,21 +7,21 @@ use Rattle.scop_lexer.specs.Bytes.{Text}
 use Rattle.scop_lexer.specs.declared.token.Token.{Token}
 use Rattle.scop_lexer.specs.declared.token.Fault.{Fault as TokenFault}
 use Rattle.scop_lexer.specs.Tokens.{HasTokens, HasFault}
-use Rattle.kernel_grammar.specs.Kernel.{Piece, pieces, Kernel, kernel_elements, Spells}
+use Rattle.scop_grammar.specs.Kernel.{Piece, pieces, Kernel, kernel_elements, Spells}
 use Rattle.scop_lexer.proofs.Splits.{one-list, no-fault, one-holds}
-use Rattle.expression_grammar.specs.Token.{Token as Kind}
-use Rattle.expression_grammar.specs.Grammar.{told_at}
-use Rattle.expression_grammar.specs.declared.reader.Stop.{Stop}
-use Rattle.expression_grammar.specs.declared.reader.Stop.TheVariants as stop
-use Rattle.kernel_grammar.specs.Kernel.{IsFront}
-use Rattle.kernel_grammar.specs.Turns.{IsStop}
-use Rattle.kernel_grammar.specs.declared.table.Want.{Want}
-use Rattle.kernel_grammar.specs.declared.table.Want.TheVariants as want
-use Rattle.kernel_grammar.specs.Machine.{Spot, first_spot, End, goes_on, stopped_at, deep_at, run as run_machine}
-use Rattle.kernel_grammar.specs.Machine.{whole as whole_answer, answer as machine_answer}
-use Rattle.kernel_grammar.specs.Claims.{IsAnswer}
-use Rattle.kernel_grammar.proofs.MachineAnswers.{one_reading, read_answers}
-use Rattle.kernel_grammar.proofs.WiderLimits.{stop-misplaced}
+use Rattle.scop_expressions.specs.Token.{Token as Kind}
+use Rattle.scop_expressions.specs.Grammar.{told_at}
+use Rattle.scop_expressions.specs.declared.reader.Stop.{Stop}
+use Rattle.scop_expressions.specs.declared.reader.Stop.TheVariants as stop
+use Rattle.scop_grammar.specs.Kernel.{IsFront}
+use Rattle.scop_grammar.specs.Turns.{IsStop}
+use Rattle.scop_grammar.specs.declared.table.Want.{Want}
+use Rattle.scop_grammar.specs.declared.table.Want.TheVariants as want
+use Rattle.scop_grammar.specs.Machine.{Spot, first_spot, End, goes_on, stopped_at, deep_at, run as run_machine}
+use Rattle.scop_grammar.specs.Machine.{whole as whole_answer, answer as machine_answer}
+use Rattle.scop_grammar.specs.Claims.{IsAnswer}
+use Rattle.scop_grammar.proofs.MachineAnswers.{one_reading, read_answers}
+use Rattle.scop_grammar.proofs.WiderLimits.{stop-misplaced}
 use Rattle.scop_syntax.specs.Tree.{Program}
 use Rattle.scop_roles.specs.declared.fault.Fault.{Fault}
 use Rattle.scop_roles.specs.Faults.{first, first_of, precedes}

@@ -5,7 +5,7 @@ use Rattle.std.specs.Prelude.{All, Option, Some, None}
 use Rattle.std.proofs.lemmas.Bool.{false≢true}
 use Rattle.std.proofs.lemmas.List.Elements.{All-append, All-cons, All-nil, All-push}
 use Rattle.std.proofs.lemmas.Slice.Eq.{bytes_eq-Decides}
-use Rattle.kernel_grammar.specs.Kernel.{Parameter, number, array, Kernel, parameter_elements}
+use Rattle.scop_grammar.specs.Kernel.{Parameter, number, array, Kernel, parameter_elements}
 use Rattle.scop_lexer.specs.Bytes.{Text}
 use Rattle.scop_syntax.specs.Tree.{Declaration}
 use Rattle.scop_roles.specs.declared.fault.Kind.TheVariants as kind

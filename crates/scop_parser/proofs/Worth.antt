@@ -16,11 +16,11 @@ use Rattle.scop_lexer.specs.Tokens.{IsToken, AreTokens, HasTokens}
 use Rattle.scop_lexer.specs.declared.stand.Stand.{Stand}
 use Rattle.scop_lexer.specs.declared.stand.Stand.TheVariants as stand
 use Rattle.scop_lexer.specs.declared.token.FaultKind.TheVariants as wrong
-use Rattle.expression_grammar.specs.Base.{Base}
-use Rattle.expression_grammar.specs.Base.TheVariants.{Decimal, Hexadecimal}
-use Rattle.expression_grammar.specs.Suffix.{Suffix}
-use Rattle.expression_grammar.specs.Suffix.TheVariants.{Absent, Present}
-use Rattle.expression_grammar.specs.Token.{Token as Kind}
+use Rattle.scop_expressions.specs.Base.{Base}
+use Rattle.scop_expressions.specs.Base.TheVariants.{Decimal, Hexadecimal}
+use Rattle.scop_expressions.specs.Suffix.{Suffix}
+use Rattle.scop_expressions.specs.Suffix.TheVariants.{Absent, Present}
+use Rattle.scop_expressions.specs.Token.{Token as Kind}
 use Rattle.scop_lexer.specs.declared.token.Token.{Token}
 use Rattle.scop_units.specs.Words.{worth_of, words_of, HasWorth}
 

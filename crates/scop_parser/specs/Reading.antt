@@ -2,7 +2,7 @@
 use Rattle.std.specs.Prelude.{List, ⊤}
 use Rattle.scop_lexer.specs.Bytes.{Text}
 use Rattle.scop_lexer.specs.declared.token.Token.{Token}
-use Rattle.kernel_grammar.specs.Kernel.{Kernel, Spells}
+use Rattle.scop_grammar.specs.Kernel.{Kernel, Spells}
 use Rattle.scop_pass.specs.declared.pass.Stop.{Stop as PassStop}
 use Rattle.scop_parser.specs.declared.reader.ReadKernelError.{ReadKernelError}
 use Rattle.scop_parser.specs.declared.reader.ReadKernelError.TheVariants.{Refused, NoMemory}

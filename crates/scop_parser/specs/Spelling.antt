@@ -8,9 +8,9 @@ use Rattle.scop_lexer.specs.declared.token.Token.{Token}
 use Rattle.scop_lexer.specs.declared.token.Fault.{Fault as TokenFault}
 use Rattle.scop_lexer.specs.declared.token.FaultKind.{FaultKind}
 use Rattle.scop_lexer.specs.declared.token.FaultKind.TheVariants as lexical
-use Rattle.kernel_grammar.specs.Kernel.{Kernel, Spells}
-use Rattle.expression_grammar.specs.Token.{Token as GrammarToken}
-use Rattle.kernel_grammar.specs.Promises.{IsMisplaced, IsUnended, IsTooDeep}
+use Rattle.scop_grammar.specs.Kernel.{Kernel, Spells}
+use Rattle.scop_expressions.specs.Token.{Token as GrammarToken}
+use Rattle.scop_grammar.specs.Promises.{IsMisplaced, IsUnended, IsTooDeep}
 use Rattle.scop_roles.specs.declared.fault.Kind.{Kind as RefusalKind}
 use Rattle.scop_roles.specs.declared.fault.Kind.TheVariants as kind
 use Rattle.scop_roles.specs.declared.fault.Fault.{Fault}

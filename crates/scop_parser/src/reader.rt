@@ -2,9 +2,9 @@
 //! they spell. Of the tokens only their starts are kept, of the kernel's parts one at a time: the tokens are read again
 //! by the grammar, and once more with each part judged.
 ghost use Rattle.std.specs.Prelude.{◌≡◌, ◌≤◌, IfErr, IfOk, length};
-ghost use Rattle.expression_grammar.specs.declared.reader.Stop.TheVariants as grammar_stop;
-ghost use Rattle.kernel_grammar.specs.Kernel.{Kernel as GrammarKernel, Spells};
-ghost use Rattle.kernel_grammar.specs.Turns.{IsStop};
+ghost use Rattle.scop_expressions.specs.declared.reader.Stop.TheVariants as grammar_stop;
+ghost use Rattle.scop_grammar.specs.Kernel.{Kernel as GrammarKernel, Spells};
+ghost use Rattle.scop_grammar.specs.Turns.{IsStop};
 ghost use Rattle.scop_lexer.specs.Tokens.{AreBetween, HasTokens, RefusesTokens, StopsWithin, token_at};
 ghost use Rattle.scop_syntax.specs.Kernel.{IsKernel};
 ghost use Rattle.scop_syntax.specs.View.{program_of};
@@ -18,9 +18,9 @@ ghost use Rattle.scop_parser.specs.Spelling.{IsFirstFault, SpellsProgram, token_
 
 use crate::laws::spelled_programs_are_kernels;
 use crate::refusal::{Refusal, RefusalKind};
-use expression_grammar::reader::Stop as GrammarStop;
-use expression_grammar::token::Token;
-use kernel_grammar::reader::KernelReader;
+use scop_expressions::reader::Stop as GrammarStop;
+use scop_expressions::token::Token;
+use scop_grammar::reader::KernelReader;
 use scop_lexer::{FaultKind, Stop as TokenStop, position, starts, token_at};
 use scop_pass::pass::{Pass, Stop as PassStop};
 use scop_syntax::tree::Kernel;

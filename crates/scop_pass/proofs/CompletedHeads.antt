@@ -9,7 +9,7 @@ use Rattle.scop_pass.specs.Machine.{Frame, block, guarded, looped, idle, State, 
 use Rattle.scop_pass.specs.Machine.{step, without_loop}
 use Rattle.scop_pass.specs.Passing.{Comes, Steps, frames_of}
 use Rattle.scop_units.specs.Words.{Words}
-use Rattle.kernel_grammar.specs.Kernel.{Piece}
+use Rattle.scop_grammar.specs.Kernel.{Piece}
 use Rattle.scop_pass.specs.declared.frames.Frame.{Frame as CodeFrame}
 use Rattle.scop_pass.specs.declared.pass.Stop.{Stop}
 use Rattle.std.specs.Prelude.{nat_le, nat_lt, slice_get}

@@ -4,13 +4,13 @@ use Rattle.std.proofs.Common.{◌≡◌, ℕ, ◌+◌, ◌<◌, ◌≤◌, ◌==
 use Rattle.std.proofs.Common.{Option, Some, None, refl, sym, ap, subst, ◌∙◌, append_assoc, length-append, arith}
 use Rattle.std.specs.Prelude.{⊤, if◌then◌else◌}
 use Rattle.std.proofs.lemmas.List.{append-nil}
-use Rattle.expression_grammar.specs.Assign.{Assign}
-use Rattle.expression_grammar.specs.Count.{Count}
-use Rattle.expression_grammar.specs.Tree.{Tree, tokens_of, size, written}
-use Rattle.expression_grammar.specs.Width.{Width}
-use Rattle.kernel_grammar.specs.declared.part.Mark.{Mark}
-use Rattle.kernel_grammar.specs.declared.part.Mark.TheVariants as kept
-use Rattle.kernel_grammar.specs.Kernel.{Element, sign, expression, Piece, mark_at, nodes_from, pieces, spelled}
+use Rattle.scop_expressions.specs.Assign.{Assign}
+use Rattle.scop_expressions.specs.Count.{Count}
+use Rattle.scop_expressions.specs.Tree.{Tree, tokens_of, size, written}
+use Rattle.scop_expressions.specs.Width.{Width}
+use Rattle.scop_grammar.specs.declared.part.Mark.{Mark}
+use Rattle.scop_grammar.specs.declared.part.Mark.TheVariants as kept
+use Rattle.scop_grammar.specs.Kernel.{Element, sign, expression, Piece, mark_at, nodes_from, pieces, spelled}
 use Rattle.scop_roles.specs.declared.fault.Fault.{Fault}
 use Rattle.scop_roles.specs.declared.fault.Kind.TheVariants as kind
 use Rattle.scop_roles.specs.declared.formula.Role.TheVariants as role

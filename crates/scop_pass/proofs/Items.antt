@@ -3,10 +3,10 @@ use Rattle.std.proofs.Common.{◌≡◌, ℕ, ◌+◌, ◌-◌, List, [], ◌∷
 use Rattle.std.proofs.Common.{arith}
 use Rattle.std.proofs.lemmas.List.{append-nil}
 use Rattle.std.proofs.Math.Seq.{take-append_seam}
-use Rattle.expression_grammar.specs.Tree.{size}
-use Rattle.kernel_grammar.specs.Kernel.{expression, pieces, Head, branch, loop, Item, block, empty, assign, headed}
-use Rattle.kernel_grammar.specs.Kernel.{Items, none, more, head_elements, place_elements, item_elements, all_elements}
-use Rattle.kernel_grammar.specs.Kernel.{assign_sign, ends, semicolon, ItemFits, ItemsFit}
+use Rattle.scop_expressions.specs.Tree.{size}
+use Rattle.scop_grammar.specs.Kernel.{expression, pieces, Head, branch, loop, Item, block, empty, assign, headed}
+use Rattle.scop_grammar.specs.Kernel.{Items, none, more, head_elements, place_elements, item_elements, all_elements}
+use Rattle.scop_grammar.specs.Kernel.{assign_sign, ends, semicolon, ItemFits, ItemsFit}
 use Rattle.scop_units.specs.Bytes.{Text}
 use Rattle.scop_syntax.specs.Tree.{Tree}
 use Rattle.scop_syntax.specs.Tree as scop

@@ -3,13 +3,13 @@ use Rattle.std.proofs.Common.{◌≡◌, ℕ, ◌+◌, ◌<◌, ◌≤◌, ◌^�
 use Rattle.std.proofs.Common.{None, inl, inr, sym, ap, ◌∙◌, append_assoc, length-append, arith}
 use Rattle.std.specs.Prelude.{◌⊎◌}
 use Rattle.std.proofs.lemmas.List.{map-append, take_more}
-use Rattle.expression_grammar.specs.Tree.{tokens_of, size, written}
-use Rattle.expression_grammar.specs.declared.node.Node.{Node}
-use Rattle.kernel_grammar.specs.declared.part.Mark.{Mark}
-use Rattle.kernel_grammar.specs.declared.part.Part.{Part}
-use Rattle.kernel_grammar.specs.Kernel.{Element, sign, expression, spelled, Kernel, KernelFits, kernel_elements, Piece}
-use Rattle.kernel_grammar.specs.Kernel.{pieces, mark_at, nodes_from}
-use Rattle.kernel_grammar.specs.Turns.{piece_of, pieces_of}
+use Rattle.scop_expressions.specs.Tree.{tokens_of, size, written}
+use Rattle.scop_expressions.specs.declared.node.Node.{Node}
+use Rattle.scop_grammar.specs.declared.part.Mark.{Mark}
+use Rattle.scop_grammar.specs.declared.part.Part.{Part}
+use Rattle.scop_grammar.specs.Kernel.{Element, sign, expression, spelled, Kernel, KernelFits, kernel_elements, Piece}
+use Rattle.scop_grammar.specs.Kernel.{pieces, mark_at, nodes_from}
+use Rattle.scop_grammar.specs.Turns.{piece_of, pieces_of}
 use Rattle.scop_roles.specs.declared.fault.Fault.{Fault}
 use Rattle.scop_roles.specs.Faults.{first}
 use Rattle.scop_roles.specs.Resolving.{IsWritten}

@@ -1,10 +1,10 @@
 -- The pass over the pieces of an item finds the item's faults and its trees of the program.
 use Rattle.std.proofs.Common.{◌≡◌, ℕ, ◌+◌, true, false, List, [], ◌∷◌, ◌++◌, length, refl, sym, ap, ◌∙◌, length-append}
-use Rattle.expression_grammar.specs.Token.TheVariants as token
-use Rattle.expression_grammar.specs.Tree.{Tree, size, tokens_of, written, IsPlace}
-use Rattle.expression_grammar.specs.Tree as tree
-use Rattle.kernel_grammar.specs.Kernel.{Element, plain, expression, Piece, nodes_from, pieces, Step, counted, counts}
-use Rattle.kernel_grammar.specs.Kernel.{assigned, Head, branch, loop, head_elements, step_elements, place_elements}
+use Rattle.scop_expressions.specs.Token.TheVariants as token
+use Rattle.scop_expressions.specs.Tree.{Tree, size, tokens_of, written, IsPlace}
+use Rattle.scop_expressions.specs.Tree as tree
+use Rattle.scop_grammar.specs.Kernel.{Element, plain, expression, Piece, nodes_from, pieces, Step, counted, counts}
+use Rattle.scop_grammar.specs.Kernel.{assigned, Head, branch, loop, head_elements, step_elements, place_elements}
 use Rattle.scop_roles.specs.Formula.{Formula, index, formula}
 use Rattle.scop_units.specs.Words.{Words}
 use Rattle.scop_units.specs.Scopes.{look}

@@ -1,7 +1,7 @@
 -- The pieces of elements one after another.
 use Rattle.std.proofs.Common.{◌≡◌, ℕ, ◌+◌, List, [], ◌∷◌, ◌++◌, sym, ap, ◌∙◌, append_assoc, length-append, arith}
-use Rattle.expression_grammar.specs.Tree.{size, tokens_of, written}
-use Rattle.kernel_grammar.specs.Kernel.{Element, sign, expression, Piece, nodes_from, pieces, marked, spelled}
+use Rattle.scop_expressions.specs.Tree.{size, tokens_of, written}
+use Rattle.scop_grammar.specs.Kernel.{Element, sign, expression, Piece, nodes_from, pieces, marked, spelled}
 use Rattle.scop_units.specs.Judging.{width}
 
 pub pieces-at : (a b : ℕ) (es : List Element) → a ≡ b → pieces a es ≡ pieces b es

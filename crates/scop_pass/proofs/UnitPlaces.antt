@@ -3,11 +3,11 @@ use Rattle.std.proofs.Common.{◌≡◌, ℕ, zero, suc, ◌+◌, ◌<◌, ◌�
 use Rattle.std.proofs.Common.{Some, None, refl, sym, subst, length-append, arith, rules}
 use Rattle.std.specs.Prelude.{All, ⊤, slice_get, not}
 use Rattle.std.proofs.lemmas.List.Elements.{All-head, All-tail}
-use Rattle.expression_grammar.specs.Assign.{Assign}
-use Rattle.expression_grammar.specs.Assign.TheVariants as assigns
-use Rattle.expression_grammar.specs.Token.TheVariants as token
-use Rattle.expression_grammar.specs.Tree.{Tree, tokens_of, size, written}
-use Rattle.expression_grammar.specs.Tree as tree
+use Rattle.scop_expressions.specs.Assign.{Assign}
+use Rattle.scop_expressions.specs.Assign.TheVariants as assigns
+use Rattle.scop_expressions.specs.Token.TheVariants as token
+use Rattle.scop_expressions.specs.Tree.{Tree, tokens_of, size, written}
+use Rattle.scop_expressions.specs.Tree as tree
 use Rattle.scop_roles.specs.declared.fault.Fault.{Fault}
 use Rattle.scop_roles.specs.declared.fault.Kind.{Kind}
 use Rattle.scop_roles.specs.declared.fault.Kind.TheVariants as kind

@@ -1,12 +1,12 @@
 -- The pass over a kernel's pieces, which needs no tree: what is in scope, the faults so far, the open blocks and heads,
 -- and the trees of the innermost one. An item that is complete completes the heads that it stands under.
 use Rattle.std.specs.Prelude.{ℕ, ◌+◌, ◌-◌, true, false, List, [], ◌∷◌, ◌++◌, length, map, take, Option, Some, None}
-use Rattle.expression_grammar.specs.Assign.{Assign}
-use Rattle.expression_grammar.specs.Count.{Count}
-use Rattle.expression_grammar.specs.Width.{Width}
-use Rattle.kernel_grammar.specs.Kernel.{Piece, mark_at, nodes_from}
-use Rattle.kernel_grammar.specs.declared.part.Mark.{Mark}
-use Rattle.kernel_grammar.specs.declared.part.Mark.TheVariants as kept
+use Rattle.scop_expressions.specs.Assign.{Assign}
+use Rattle.scop_expressions.specs.Count.{Count}
+use Rattle.scop_expressions.specs.Width.{Width}
+use Rattle.scop_grammar.specs.Kernel.{Piece, mark_at, nodes_from}
+use Rattle.scop_grammar.specs.declared.part.Mark.{Mark}
+use Rattle.scop_grammar.specs.declared.part.Mark.TheVariants as kept
 use Rattle.scop_units.specs.Bytes.{Text}
 use Rattle.scop_syntax.specs.Tree.{Declaration, Test, Head, Tree, Program}
 use Rattle.scop_syntax.specs.Tree as scop

@@ -1,7 +1,7 @@
 -- What the code's pass stands for, and what its steps do to the machine's state.
 use Rattle.std.specs.Prelude.{◌≡◌, ◌≤◌, ◌^◌, ◌⊎◌, ⊤, true, false, List, [], ◌∷◌, ◌++◌, map, replicate, reverse, Option}
 use Rattle.std.specs.Prelude.{Some, None, Result, Ok, Err, Bool}
-use Rattle.kernel_grammar.specs.Kernel.{Kernel, KernelFits, kernel_elements, Piece, pieces, mark_at, nodes_from}
+use Rattle.scop_grammar.specs.Kernel.{Kernel, KernelFits, kernel_elements, Piece, pieces, mark_at, nodes_from}
 use Rattle.scop_syntax.specs.View.{program_of, test_of, tree_of}
 use Rattle.scop_syntax.specs.declared.tree.Kernel.{Kernel as CodeKernel}
 use Rattle.scop_units.specs.Judging.{faults_of, width}

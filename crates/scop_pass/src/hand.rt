@@ -14,8 +14,8 @@ ghost use Rattle.scop_units.specs.View.{scope_of, words_in};
 
 use crate::pass::{Pass, Stop};
 use crate::pending::{Begun, Hand, Pending, Sides, StepRead};
-use expression_grammar::token::Count;
-use kernel_grammar::part::Mark;
+use scop_expressions::token::Count;
+use scop_grammar::part::Mark;
 use scop_roles::formula::{Formula, Names, with_subscript};
 use scop_units::loops::Change;
 use scop_units::units::Stored;

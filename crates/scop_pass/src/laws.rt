@@ -1,7 +1,7 @@
 //! Laws of the pass, as contracts of functions that do nothing.
 ghost use Rattle.std.specs.Prelude.{◌≡◌, ◌++◌, ◌∷◌, ℕ, List, Some};
-ghost use Rattle.kernel_grammar.specs.Kernel.{Kernel, KernelFits, Piece, kernel_elements, mark_at, pieces};
-ghost use Rattle.kernel_grammar.specs.declared.part.Mark.{Mark};
+ghost use Rattle.scop_grammar.specs.Kernel.{Kernel, KernelFits, Piece, kernel_elements, mark_at, pieces};
+ghost use Rattle.scop_grammar.specs.declared.part.Mark.{Mark};
 ghost use Rattle.scop_roles.specs.declared.fault.Fault.{Fault};
 ghost use Rattle.scop_roles.specs.Faults.{first};
 ghost use Rattle.scop_units.specs.Words.{Words};

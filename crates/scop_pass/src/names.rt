@@ -1,7 +1,7 @@
 //! Names that are declared, and arrays with their extents.
 
 ghost use Rattle.std.specs.Prelude.{◌≡◌, ◌++◌, ◌∷◌, [], map};
-ghost use Rattle.kernel_grammar.specs.Kernel.{mark_at};
+ghost use Rattle.scop_grammar.specs.Kernel.{mark_at};
 ghost use Rattle.scop_roles.specs.Formula.{formula_of};
 ghost use Rattle.scop_pass.specs.Machine.{declared, expects, named, numbered, ranked};
 ghost use Rattle.scop_pass.specs.Machine as machine;
@@ -12,8 +12,8 @@ ghost use Rattle.scop_units.specs.View.{scope_of, words_in};
 use crate::lists::{push, push_formula, push_name};
 use crate::pass::{Pass, Stop, checked};
 use crate::pending::{Hand, Pending};
-use expression_grammar::token::Width;
-use kernel_grammar::part::Mark;
+use scop_expressions::token::Width;
+use scop_grammar::part::Mark;
 use scop_roles::formula::Formula;
 use scop_units::scope::copied;
 use scop_units::units::{array_fault, array_of, kernel_name_fault, name_fault, number_fault};

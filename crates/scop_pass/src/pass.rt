@@ -3,9 +3,9 @@
 //! pass over pieces, which goes on behind faults.
 
 ghost use Rattle.std.specs.Prelude.{◌≡◌, ◌++◌, IfOk, List, length, map};
-ghost use Rattle.kernel_grammar.specs.Kernel.{Kernel as GrammarKernel, KernelFits, Piece, kernel_elements, mark_at};
-ghost use Rattle.kernel_grammar.specs.Kernel.{nodes_from, pieces};
-ghost use Rattle.kernel_grammar.specs.Turns.{piece_of, pieces_of};
+ghost use Rattle.scop_grammar.specs.Kernel.{Kernel as GrammarKernel, KernelFits, Piece, kernel_elements, mark_at};
+ghost use Rattle.scop_grammar.specs.Kernel.{nodes_from, pieces};
+ghost use Rattle.scop_grammar.specs.Turns.{piece_of, pieces_of};
 ghost use Rattle.scop_syntax.specs.View.{program_of, tree_of, trees_of};
 ghost use Rattle.scop_roles.specs.declared.fault.Fault.{Fault};
 ghost use Rattle.scop_roles.specs.Faults.{first};
@@ -21,8 +21,8 @@ ghost use Rattle.scop_units.specs.View.{scope_of, scope_within, words_in};
 use crate::frames::Frame;
 use crate::laws::{passes_may_stop_at_a_fault, passes_may_stop_at_an_array};
 use crate::pending::{Hand, Pending, inner_of};
-use expression_grammar::node::Node;
-use kernel_grammar::part::{Mark, Part};
+use scop_expressions::node::Node;
+use scop_grammar::part::{Mark, Part};
 use scop_roles::fault::Fault;
 use scop_roles::formula::{Formula, resolve};
 use scop_syntax::tree::{Item, Kernel, Name};

@@ -4,7 +4,7 @@ ghost use Rattle.std.specs.Prelude.{◌≡◌};
 ghost use Rattle.scop_pass.specs.Machine.{inner_of};
 ghost use Rattle.scop_pass.specs.Passing.{hand_of, pending_of};
 
-use expression_grammar::token::{Assign, Count, Width};
+use scop_expressions::token::{Assign, Count, Width};
 use scop_roles::formula::Formula;
 
 // A loop's head up to its name.

@@ -8,13 +8,13 @@ use Rattle.whole_numbers.specs.Affine.{Affine, multiple_of_form}
 use Rattle.whole_numbers.specs.Lists.{sums, multiples}
 use Rattle.whole_numbers.proofs.Dot.{length-zeros, length-sums, length-multiples, sums-nil}
 use Rattle.whole_numbers.proofs.Sizes.{abs_sum}
-use Rattle.expression_grammar.specs.Op.{Op}
-use Rattle.expression_grammar.specs.Op.TheVariants as op
-use Rattle.expression_grammar.specs.declared.token.Sign.{Sign}
-use Rattle.expression_grammar.specs.declared.token.Sign.TheVariants as sign
-use Rattle.expression_grammar.specs.Suffix.TheVariants as suffix
-use Rattle.expression_grammar.specs.Width.{Width}
-use Rattle.expression_grammar.specs.Width.TheVariants as width
+use Rattle.scop_expressions.specs.Op.{Op}
+use Rattle.scop_expressions.specs.Op.TheVariants as op
+use Rattle.scop_expressions.specs.declared.token.Sign.{Sign}
+use Rattle.scop_expressions.specs.declared.token.Sign.TheVariants as sign
+use Rattle.scop_expressions.specs.Suffix.TheVariants as suffix
+use Rattle.scop_expressions.specs.Width.{Width}
+use Rattle.scop_expressions.specs.Width.TheVariants as width
 use Rattle.scop_syntax.specs.Tree.{Access, Expression, affine, Narrowing, implied, converted, Test}
 use Rattle.scop_syntax.specs.Cells.{reads_of}
 use Rattle.scop_syntax.specs.Kernel.{IsForm, IsAffine, IsAccess, IsNarrowed, IsExpression, IsComparison}

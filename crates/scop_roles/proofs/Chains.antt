@@ -4,7 +4,7 @@ use Rattle.std.proofs.Common.{◌≡◌, ℕ, ◌+◌, ◌-◌, ◌<◌, ◌≤�
 use Rattle.std.proofs.Common.{fold, get_or, drop-cons, add-one, ap, sym, subst, ◌∙◌, refl, arith, append_assoc}
 use Rattle.std.proofs.lemmas.List.{drop_all}
 use Rattle.whole_numbers.specs.Affine.{Affine}
-use Rattle.expression_grammar.specs.Op.{Op}
+use Rattle.scop_expressions.specs.Op.{Op}
 use Rattle.scop_roles.specs.Formula.{Formula, index, binary, place, meaning_of, subscripts}
 use Rattle.scop_roles.specs.Faults.{first, place_faults}
 use Rattle.scop_roles.specs.Values.{subscript_forms, read_places}

@@ -3,13 +3,13 @@ use Rattle.std.proofs.Common.{◌≡◌, ℕ, zero, suc, ◌+◌, ◌<◌, ◌�
 use Rattle.std.proofs.Common.{ap, sym, ◌∙◌, arith, append_assoc, length-append, add-one, drop-cons}
 use Rattle.std.specs.Prelude.{⊤}
 use Rattle.std.proofs.lemmas.List.{append-nil}
-use Rattle.expression_grammar.specs.Tree.{Tree, constant, name, group, index, bare_call, call, unary, cast, binary}
-use Rattle.expression_grammar.specs.Tree.{written, size}
-use Rattle.expression_grammar.specs.Op.{Op}
-use Rattle.expression_grammar.specs.declared.token.Sign.{Sign}
-use Rattle.expression_grammar.specs.Width.{Width}
-use Rattle.expression_grammar.specs.declared.node.Node.{Node}
-use Rattle.expression_grammar.specs.declared.node.Node.TheVariants as node
+use Rattle.scop_expressions.specs.Tree.{Tree, constant, name, group, index, bare_call, call, unary, cast, binary}
+use Rattle.scop_expressions.specs.Tree.{written, size}
+use Rattle.scop_expressions.specs.Op.{Op}
+use Rattle.scop_expressions.specs.declared.token.Sign.{Sign}
+use Rattle.scop_expressions.specs.Width.{Width}
+use Rattle.scop_expressions.specs.declared.node.Node.{Node}
+use Rattle.scop_expressions.specs.declared.node.Node.TheVariants as node
 use Rattle.scop_roles.specs.Formula as f
 use Rattle.scop_roles.specs.Formula.{Formula, Lookup, formula}
 use Rattle.scop_roles.specs.Resolving.{built, top, formula_of_nodes, place_of}

@@ -7,9 +7,9 @@ use Rattle.std.specs.declared.alloc.AllocError.{AllocError}
 use Rattle.whole_numbers.specs.Affine.{Affine}
 use Rattle.scop_syntax.specs.Tree.{Expression, affine, read, implied, converted, Test}
 use Rattle.scop_syntax.specs.Tree as scop
-use Rattle.expression_grammar.specs.Op.{Op}
-use Rattle.expression_grammar.specs.declared.token.Sign.{Sign}
-use Rattle.expression_grammar.specs.Width.{Width}
+use Rattle.scop_expressions.specs.Op.{Op}
+use Rattle.scop_expressions.specs.declared.token.Sign.{Sign}
+use Rattle.scop_expressions.specs.Width.{Width}
 use Rattle.scop_roles.specs.declared.formula.Role.TheVariants as role
 use Rattle.scop_roles.specs.Formula.{Formula, index, unary, cast, binary}
 use Rattle.scop_roles.specs.Forms.{is_sum_or_product, is_shift, is_and, is_signed, has_name, is_narrow, form}

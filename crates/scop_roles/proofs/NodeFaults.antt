@@ -2,11 +2,11 @@
 use Rattle.std.proofs.Common.{◌≡◌, ℕ, zero, suc, ◌==◌, Bool, true, false, ◌&&◌, ◌||◌, ◌++◌, Option, Some, None, inl}
 use Rattle.std.proofs.Common.{inr, ap, sym, ◌∙◌, refl, add-one, arith}
 use Rattle.std.specs.Prelude.{◌⊎◌, if◌then◌else◌}
-use Rattle.expression_grammar.specs.Op.{Op}
-use Rattle.expression_grammar.specs.Op.TheVariants as op
-use Rattle.expression_grammar.specs.declared.token.Sign.{Sign}
-use Rattle.expression_grammar.specs.declared.token.Sign.TheVariants as sign
-use Rattle.expression_grammar.specs.Width.{Width}
+use Rattle.scop_expressions.specs.Op.{Op}
+use Rattle.scop_expressions.specs.Op.TheVariants as op
+use Rattle.scop_expressions.specs.declared.token.Sign.{Sign}
+use Rattle.scop_expressions.specs.declared.token.Sign.TheVariants as sign
+use Rattle.scop_expressions.specs.Width.{Width}
 use Rattle.scop_roles.specs.declared.fault.Fault.{Fault}
 use Rattle.scop_roles.specs.declared.fault.Kind.{Kind}
 use Rattle.scop_roles.specs.declared.fault.Kind.TheVariants as kind

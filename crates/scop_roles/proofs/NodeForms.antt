@@ -3,8 +3,8 @@ use Rattle.std.proofs.Common.{◌≡◌, ◌≢◌, ℕ, Bool, true, false, ◌&
 use Rattle.std.proofs.Common.{◌∙◌, refl, length, arith}
 use Rattle.std.specs.Prelude.{if◌then◌else◌, ◌⊎◌, not}
 use Rattle.whole_numbers.specs.Affine.{Affine}
-use Rattle.expression_grammar.specs.Op.{Op}
-use Rattle.expression_grammar.specs.declared.token.Sign.TheVariants as sign
+use Rattle.scop_expressions.specs.Op.{Op}
+use Rattle.scop_expressions.specs.declared.token.Sign.TheVariants as sign
 use Rattle.scop_roles.specs.declared.fault.Fault.{Fault}
 use Rattle.scop_roles.specs.declared.fault.Kind.{Kind}
 use Rattle.scop_roles.specs.declared.fault.Kind.TheVariants as kind

@@ -3,12 +3,12 @@ use Rattle.std.proofs.Common.{◌≡◌, ℕ, Bool, true, false, ◌&&◌, ◌||
 use Rattle.std.proofs.Common.{refl, arith}
 use Rattle.std.proofs.lemmas.Bool.{and_parts}
 use Rattle.std.specs.Prelude.{if◌then◌else◌, not}
-use Rattle.expression_grammar.specs.Op.{Op}
-use Rattle.expression_grammar.specs.Op.TheVariants as op
-use Rattle.expression_grammar.specs.declared.token.Sign.{Sign}
-use Rattle.expression_grammar.specs.declared.token.Sign.TheVariants as sign
-use Rattle.expression_grammar.specs.Suffix.TheVariants as suffix
-use Rattle.expression_grammar.specs.Width.{Width}
+use Rattle.scop_expressions.specs.Op.{Op}
+use Rattle.scop_expressions.specs.Op.TheVariants as op
+use Rattle.scop_expressions.specs.declared.token.Sign.{Sign}
+use Rattle.scop_expressions.specs.declared.token.Sign.TheVariants as sign
+use Rattle.scop_expressions.specs.Suffix.TheVariants as suffix
+use Rattle.scop_expressions.specs.Width.{Width}
 use Rattle.scop_roles.specs.declared.fault.Fault.{Fault}
 use Rattle.scop_roles.specs.declared.fault.Kind.{Kind}
 use Rattle.scop_roles.specs.declared.fault.Kind.TheVariants as kind

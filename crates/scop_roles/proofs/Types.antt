@@ -2,15 +2,15 @@
 use Rattle.std.proofs.Common.{◌≡◌, ℕ, ◌+◌, ◌<◌, Bool, true, false, ◌&&◌, ◌||◌, ◌++◌, List, Some, None, sym, subst, refl}
 use Rattle.std.proofs.Common.{◌∙◌, ap₂, arith, slice_index_or}
 use Rattle.std.specs.Prelude.{if◌then◌else◌}
-use Rattle.expression_grammar.specs.Op.{Op}
-use Rattle.expression_grammar.specs.Op.TheVariants as op
-use Rattle.expression_grammar.specs.declared.token.Sign.{Sign}
-use Rattle.expression_grammar.specs.declared.token.Sign.TheVariants as sign
-use Rattle.expression_grammar.specs.Suffix.TheVariants as suffix
-use Rattle.expression_grammar.specs.Width.{Width}
-use Rattle.expression_grammar.specs.Width.TheVariants as width
-use Rattle.expression_grammar.specs.Tree.{Tree, size}
-use Rattle.expression_grammar.specs.Tree as tree
+use Rattle.scop_expressions.specs.Op.{Op}
+use Rattle.scop_expressions.specs.Op.TheVariants as op
+use Rattle.scop_expressions.specs.declared.token.Sign.{Sign}
+use Rattle.scop_expressions.specs.declared.token.Sign.TheVariants as sign
+use Rattle.scop_expressions.specs.Suffix.TheVariants as suffix
+use Rattle.scop_expressions.specs.Width.{Width}
+use Rattle.scop_expressions.specs.Width.TheVariants as width
+use Rattle.scop_expressions.specs.Tree.{Tree, size}
+use Rattle.scop_expressions.specs.Tree as tree
 use Rattle.scop_syntax.specs.Tree.{Expression, affine, implied, converted}
 use Rattle.scop_syntax.specs.Tree as scop
 use Rattle.scop_syntax.specs.Widths.{bits, is_narrow as has_type, IsTypedAs, IsTyped}

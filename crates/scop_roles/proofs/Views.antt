@@ -1,10 +1,10 @@
 -- The formulas that the code's values stand for, at each kind.
 use Rattle.std.proofs.Common.{◌≡◌, ℕ, Vec, Global, map, fold, ap, sym, ◌∙◌}
 use Rattle.std.specs.Global.{Box}
-use Rattle.expression_grammar.specs.Op.{Op}
-use Rattle.expression_grammar.specs.Op.TheVariants as op
-use Rattle.expression_grammar.specs.declared.token.Sign.{Sign}
-use Rattle.expression_grammar.specs.Width.{Width}
+use Rattle.scop_expressions.specs.Op.{Op}
+use Rattle.scop_expressions.specs.Op.TheVariants as op
+use Rattle.scop_expressions.specs.declared.token.Sign.{Sign}
+use Rattle.scop_expressions.specs.Width.{Width}
 use Rattle.scop_roles.specs.declared.formula.Meaning.{Meaning}
 use Rattle.scop_roles.specs.declared.formula.Argument.{Argument}
 use Rattle.scop_roles.specs.declared.formula.Formula.{Formula as Code}

@@ -4,12 +4,12 @@ use Rattle.std.proofs.Common.{◌≡◌, ℕ, ◌^◌, ◌<◌, Bool, true, fals
 use Rattle.std.proofs.Common.{refl, arith}
 use Rattle.std.specs.Prelude.{not, nat_le}
 use Rattle.std.proofs.lemmas.Bool.{and_parts, or_parts}
-use Rattle.expression_grammar.specs.Op.{Op}
-use Rattle.expression_grammar.specs.Op.TheVariants as op
-use Rattle.expression_grammar.specs.declared.token.Sign.TheVariants as sign
-use Rattle.expression_grammar.specs.Base.{Base}
-use Rattle.expression_grammar.specs.Base.TheVariants as base
-use Rattle.expression_grammar.specs.Suffix.TheVariants as suffix
+use Rattle.scop_expressions.specs.Op.{Op}
+use Rattle.scop_expressions.specs.Op.TheVariants as op
+use Rattle.scop_expressions.specs.declared.token.Sign.TheVariants as sign
+use Rattle.scop_expressions.specs.Base.{Base}
+use Rattle.scop_expressions.specs.Base.TheVariants as base
+use Rattle.scop_expressions.specs.Suffix.TheVariants as suffix
 use Rattle.scop_syntax.specs.Tree.{converted}
 use Rattle.scop_syntax.specs.Kernel.{IsNarrowed}
 use Rattle.scop_roles.specs.declared.fault.Kind.{Kind}

@@ -2,11 +2,11 @@
 -- counts: the one at the least place, at one place the one of the least kind.
 use Rattle.std.specs.Prelude.{ℕ, ◌^◌, Bool, true, false, ◌==◌, ◌&&◌, ◌||◌, not, if◌then◌else◌, nat_le, nat_lt, List, []}
 use Rattle.std.specs.Prelude.{◌∷◌, ◌++◌, Option, Some, None}
-use Rattle.expression_grammar.specs.Op.{Op}
-use Rattle.expression_grammar.specs.Op.TheVariants as op
-use Rattle.expression_grammar.specs.declared.token.Sign.{Sign}
-use Rattle.expression_grammar.specs.declared.token.Sign.TheVariants as sign
-use Rattle.expression_grammar.specs.Suffix.TheVariants as suffix
+use Rattle.scop_expressions.specs.Op.{Op}
+use Rattle.scop_expressions.specs.Op.TheVariants as op
+use Rattle.scop_expressions.specs.declared.token.Sign.{Sign}
+use Rattle.scop_expressions.specs.declared.token.Sign.TheVariants as sign
+use Rattle.scop_expressions.specs.Suffix.TheVariants as suffix
 use Rattle.scop_roles.specs.declared.fault.Kind.{Kind}
 use Rattle.scop_roles.specs.declared.fault.Kind.TheVariants as kind
 use Rattle.scop_roles.specs.declared.fault.Fault.{Fault}

@@ -4,15 +4,15 @@ use Rattle.std.specs.Prelude.{negsuc, unsigned_abs, set}
 use Rattle.std.specs.List.{list_all}
 use Rattle.whole_numbers.specs.Affine.{Affine, form_of, sum_of_forms, multiple_of_form}
 use Rattle.whole_numbers.specs.Lists.{zeros}
-use Rattle.expression_grammar.specs.Op.{Op}
-use Rattle.expression_grammar.specs.Op.TheVariants as op
-use Rattle.expression_grammar.specs.declared.token.Sign.{Sign}
-use Rattle.expression_grammar.specs.declared.token.Sign.TheVariants as sign
-use Rattle.expression_grammar.specs.Base.{Base}
-use Rattle.expression_grammar.specs.Base.TheVariants as base
-use Rattle.expression_grammar.specs.Suffix.TheVariants as suffix
-use Rattle.expression_grammar.specs.Width.{Width}
-use Rattle.expression_grammar.specs.Width.TheVariants as width
+use Rattle.scop_expressions.specs.Op.{Op}
+use Rattle.scop_expressions.specs.Op.TheVariants as op
+use Rattle.scop_expressions.specs.declared.token.Sign.{Sign}
+use Rattle.scop_expressions.specs.declared.token.Sign.TheVariants as sign
+use Rattle.scop_expressions.specs.Base.{Base}
+use Rattle.scop_expressions.specs.Base.TheVariants as base
+use Rattle.scop_expressions.specs.Suffix.TheVariants as suffix
+use Rattle.scop_expressions.specs.Width.{Width}
+use Rattle.scop_expressions.specs.Width.TheVariants as width
 use Rattle.scop_roles.specs.declared.formula.Meaning.{Meaning}
 use Rattle.scop_roles.specs.declared.formula.Meaning.TheVariants as meaning
 use Rattle.scop_roles.specs.Formula.{Formula, constant, name, index, unary, cast, binary, meaning_of}

@@ -2,12 +2,12 @@
 -- token among the tokens of the text.
 use Rattle.std.specs.Prelude.{ℕ, ◌+◌}
 use Rattle.std.specs.List.{fold}
-use Rattle.expression_grammar.specs.Op.{Op}
-use Rattle.expression_grammar.specs.Op.TheVariants as op
-use Rattle.expression_grammar.specs.declared.token.Sign.{Sign}
-use Rattle.expression_grammar.specs.Suffix.{Suffix}
-use Rattle.expression_grammar.specs.Width.{Width}
-use Rattle.expression_grammar.specs.Tree as tree
+use Rattle.scop_expressions.specs.Op.{Op}
+use Rattle.scop_expressions.specs.Op.TheVariants as op
+use Rattle.scop_expressions.specs.declared.token.Sign.{Sign}
+use Rattle.scop_expressions.specs.Suffix.{Suffix}
+use Rattle.scop_expressions.specs.Width.{Width}
+use Rattle.scop_expressions.specs.Tree as tree
 use Rattle.scop_roles.specs.declared.formula.Meaning.{Meaning}
 use Rattle.scop_roles.specs.declared.formula.Meaning.TheVariants as meaning
 use Rattle.scop_roles.specs.declared.formula.Argument.{Argument as CodeArgument}

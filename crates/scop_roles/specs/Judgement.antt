@@ -4,7 +4,7 @@ use Rattle.std.specs.Prelude.{◌≡◌, ℕ, zero, suc, ◌≢◌, Bool, true, 
 use Rattle.std.specs.Prelude.{⊤}
 use Rattle.whole_numbers.specs.Affine.{Affine}
 use Rattle.scop_syntax.specs.Kernel.{IsAffine}
-use Rattle.expression_grammar.specs.Op.{Op}
+use Rattle.scop_expressions.specs.Op.{Op}
 use Rattle.scop_roles.specs.declared.fault.Fault.{Fault}
 use Rattle.scop_roles.specs.declared.fault.Kind.{Kind}
 use Rattle.scop_roles.specs.declared.fault.Kind.TheVariants as kind

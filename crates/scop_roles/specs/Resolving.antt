@@ -1,11 +1,11 @@
 -- Nodes in postfix order read by a stack of formulas: the formula that they make.
 use Rattle.std.specs.Prelude.{◌≡◌, ℕ, ◌+◌, ◌^◌, ◌≤◌, List, [], ◌∷◌, map, reverse}
 use Rattle.std.specs.List.{fold}
-use Rattle.expression_grammar.specs.Tree.{Tree, written, size}
-use Rattle.expression_grammar.specs.declared.node.Node.{Node}
-use Rattle.expression_grammar.specs.declared.node.Node.TheVariants as node
-use Rattle.expression_grammar.specs.Base.TheVariants as base
-use Rattle.expression_grammar.specs.Suffix.TheVariants as suffix
+use Rattle.scop_expressions.specs.Tree.{Tree, written, size}
+use Rattle.scop_expressions.specs.declared.node.Node.{Node}
+use Rattle.scop_expressions.specs.declared.node.Node.TheVariants as node
+use Rattle.scop_expressions.specs.Base.TheVariants as base
+use Rattle.scop_expressions.specs.Suffix.TheVariants as suffix
 use Rattle.scop_roles.specs.declared.formula.Formula.{Formula as CodeFormula}
 use Rattle.scop_roles.specs.Formula.{Formula, constant, name, index, bare_call, call, unary, cast, binary, Lookup}
 use Rattle.scop_roles.specs.Formula.{place, meaning_of, formula_of}

@@ -6,12 +6,12 @@ use Rattle.scop_syntax.specs.Tree.{Access, Operator, plus, minus, times, bits_an
 use Rattle.scop_syntax.specs.Tree.{affine, negated, complemented, shifted_left, shifted_right, Narrowing, explicit}
 use Rattle.scop_syntax.specs.Tree.{implied, converted, narrowed, Test, at_least, equal}
 use Rattle.scop_syntax.specs.Tree as scop
-use Rattle.expression_grammar.specs.Op.{Op}
-use Rattle.expression_grammar.specs.Op.TheVariants as op
-use Rattle.expression_grammar.specs.declared.token.Sign.{Sign}
-use Rattle.expression_grammar.specs.declared.token.Sign.TheVariants as sign
-use Rattle.expression_grammar.specs.Width.{Width}
-use Rattle.expression_grammar.specs.Width.TheVariants as width
+use Rattle.scop_expressions.specs.Op.{Op}
+use Rattle.scop_expressions.specs.Op.TheVariants as op
+use Rattle.scop_expressions.specs.declared.token.Sign.{Sign}
+use Rattle.scop_expressions.specs.declared.token.Sign.TheVariants as sign
+use Rattle.scop_expressions.specs.Width.{Width}
+use Rattle.scop_expressions.specs.Width.TheVariants as width
 use Rattle.scop_roles.specs.declared.formula.Meaning.{Meaning}
 use Rattle.scop_roles.specs.declared.formula.Meaning.TheVariants as meaning
 use Rattle.scop_roles.specs.declared.formula.Role.TheVariants as role

@@ -1,14 +1,14 @@
 //! Expressions without parentheses, each name looked up, each node with the place of its token.
 ghost use Rattle.std.specs.Prelude.{◌≡◌, ◌+◌, ◌==◌, ◌<◌, ◌^◌, ◌∷◌, IfOk, OnOk, map};
-ghost use Rattle.expression_grammar.specs.Op.TheVariants as op;
+ghost use Rattle.scop_expressions.specs.Op.TheVariants as op;
 ghost use Rattle.std.specs.List.{fold};
 ghost use Rattle.scop_roles.specs.Formula.{Lookup, argument_of, bare_call, binary, call, cast, formula_of};
 ghost use Rattle.scop_roles.specs.Formula.{index, meaning_of, place, subscripts, unary, with_argument};
 ghost use Rattle.scop_roles.specs.Resolving.{IsWritten, below, built, formula_of_nodes, held, place_of, top};
 
 use crate::pairs::{boxed, in_box, push_behind};
-use expression_grammar::node::Node;
-use expression_grammar::token::{Base, Op, Sign, Suffix, Width};
+use scop_expressions::node::Node;
+use scop_expressions::token::{Base, Op, Sign, Suffix, Width};
 use std::alloc::{AllocError, Global};
 use std::mem;
 

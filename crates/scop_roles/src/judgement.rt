@@ -13,7 +13,7 @@ use crate::fault::Fault;
 use crate::formula::{Argument, Formula, Role};
 use crate::nodes::{of_bare_call, of_call, of_cast, of_constant, of_index, of_name, of_unary};
 use crate::sides::of_binary;
-use expression_grammar::token::Op;
+use scop_expressions::token::Op;
 use scop_syntax::tree::Aff;
 use std::alloc::{AllocError, Global};
 

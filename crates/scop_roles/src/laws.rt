@@ -1,6 +1,6 @@
 //! Laws of faults, roles and values, as contracts of functions that do nothing.
 ghost use Rattle.std.specs.Prelude.{◌+◌, ◌++◌, ◌<◌, ◌≡◌, ◌≤◌, ℕ, All, Bool, List, None, Option, length};
-ghost use Rattle.expression_grammar.specs.Tree.{Tree, size};
+ghost use Rattle.scop_expressions.specs.Tree.{Tree, size};
 ghost use Rattle.scop_syntax.specs.Cells.{reads_of};
 ghost use Rattle.scop_syntax.specs.Kernel.{IsAccess, IsAffine, IsComparison, IsExpression, test_form};
 ghost use Rattle.scop_syntax.specs.Widths.{IsTyped};

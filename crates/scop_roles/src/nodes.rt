@@ -1,6 +1,6 @@
 //! What is known of a constant or a name, and of a subscript, a call, a sign or a cast from what is known of its parts.
 ghost use Rattle.std.specs.Prelude.{◌&&◌, ◌≡◌, ℕ, IfOk};
-ghost use Rattle.expression_grammar.specs.Width.{Width};
+ghost use Rattle.scop_expressions.specs.Width.{Width};
 ghost use Rattle.scop_roles.specs.declared.formula.Role.TheVariants as role;
 ghost use Rattle.scop_roles.specs.Faults.{called, faults, first, first_of, told};
 ghost use Rattle.scop_roles.specs.Forms.{has_name, is_long, is_signed, keeps_type};
@@ -18,7 +18,7 @@ use crate::roles::{
     is_narrow_width, is_number, is_plain, keeps_type, named, operand_role, own_call, own_cast,
     own_constant, own_index, own_name, own_unary, rank,
 };
-use expression_grammar::token::{Sign, Suffix, Width};
+use scop_expressions::token::{Sign, Suffix, Width};
 use scop_syntax::tree::Aff;
 use std::alloc::{AllocError, Global};
 

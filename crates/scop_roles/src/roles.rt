@@ -9,13 +9,13 @@ ghost use Rattle.scop_roles.specs.Forms.{is_and, is_comparison, is_minus, is_num
 ghost use Rattle.scop_roles.specs.Forms.{greatest, is_joining, is_long, is_narrow_array, is_narrow_width};
 ghost use Rattle.scop_roles.specs.Forms.{is_sum_or_product, keeps_type, makes_narrow};
 ghost use Rattle.scop_roles.specs.Judgement.{own_joined};
-ghost use Rattle.expression_grammar.specs.Width.{Width};
+ghost use Rattle.scop_expressions.specs.Width.{Width};
 ghost use Rattle.scop_roles.specs.declared.fault.Kind.TheVariants as kind;
 ghost use Rattle.scop_roles.specs.declared.formula.Meaning.{Meaning};
 
 use crate::fault::{Kind, only_where};
 use crate::formula::{Meaning, Role};
-use expression_grammar::token::{Base, Op, Sign, Suffix, Width};
+use scop_expressions::token::{Base, Op, Sign, Suffix, Width};
 
 /// The largest constant of an affine form, in absolute value.
 pub const MOST_CONSTANT: u64 = 1 << 20;

@@ -13,7 +13,7 @@ use crate::formula::Role;
 use crate::judgement::{Faults, Judgement};
 use crate::pairs::both;
 use crate::roles::{is_product, is_sum_or_product, makes_narrow, own_joined, side_role};
-use expression_grammar::token::Op;
+use scop_expressions::token::Op;
 use scop_syntax::tree::Aff;
 use std::alloc::{AllocError, Global};
 

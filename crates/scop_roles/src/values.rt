@@ -24,7 +24,7 @@ use crate::roles::{
     is_and, is_between, is_long_constant, is_minus, is_narrow_array, is_narrow_width, is_number,
     is_plain, is_shift, is_sum_or_product, keeps_type, makes_narrow,
 };
-use expression_grammar::token::{Op, Sign, Width};
+use scop_expressions::token::{Op, Sign, Width};
 use scop_syntax::tree::{Access, Aff, Expr, Narrowing, Operator, Test};
 use std::alloc::{AllocError, Global};
 

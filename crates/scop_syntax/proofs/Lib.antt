@@ -22,3 +22,12 @@ pub mod ReducedArrays
 pub mod WrappedSums
 pub mod FallingLoop
 pub mod NarrowValues
+pub mod Precedence
+pub mod SortedLists
+mod Commutation
+mod SameContents
+mod CoverOrders
+pub mod GatheredStatements
+pub mod Heads
+pub mod Marked
+pub mod NamedArrays

@@ -17,3 +17,7 @@ pub mod Widths
 pub mod Failures
 pub mod Fits
 pub mod Examples
+pub mod ConflictOrders
+pub mod Standings
+pub mod StandingView
+pub mod steps

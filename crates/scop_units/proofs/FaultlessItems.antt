@@ -2,11 +2,11 @@
 use Rattle.std.proofs.Common.{◌≡◌, ℕ, suc, ◌+◌, ◌-◌, ◌<◌, ◌≤◌, Bool, true, false, if◌then◌else◌, List, [], ◌∷◌, ◌++◌}
 use Rattle.std.proofs.Common.{length, map, refl, ap, subst, ◌∙◌, arith, length-append, All, bytes_eq}
 use Rattle.std.specs.Prelude.{Option, Some, None, ⊤, slice_index_or}
-use Rattle.expression_grammar.specs.Assign.{Assign}
-use Rattle.expression_grammar.specs.Tree.{size}
-use Rattle.expression_grammar.specs.Tree as expression
-use Rattle.kernel_grammar.specs.Kernel.{Step, Head, branch, loop, Item, block, empty, assign, headed, Items, none, more}
-use Rattle.kernel_grammar.specs.Kernel.{item_elements, head_elements}
+use Rattle.scop_expressions.specs.Assign.{Assign}
+use Rattle.scop_expressions.specs.Tree.{size}
+use Rattle.scop_expressions.specs.Tree as expression
+use Rattle.scop_grammar.specs.Kernel.{Step, Head, branch, loop, Item, block, empty, assign, headed, Items, none, more}
+use Rattle.scop_grammar.specs.Kernel.{item_elements, head_elements}
 use Rattle.scop_lexer.specs.Bytes.{Text}
 use Rattle.scop_syntax.specs.Kernel.{IsComparison, test_form, IsHead, IsTree, AreTrees, KeepsWidths, KeepWidths}
 use Rattle.scop_syntax.specs.Tree.{Tree}

@@ -7,8 +7,8 @@ use Rattle.std.proofs.lemmas.List.Elements.{All-nil, All-cons, All-map}
 use Rattle.whole_numbers.specs.Affine.{Affine}
 use Rattle.whole_numbers.specs.Lists.{zeros}
 use Rattle.whole_numbers.proofs.Dot.{length-zeros}
-use Rattle.expression_grammar.specs.Tree.{Tree, size}
-use Rattle.kernel_grammar.specs.Kernel.{Parameter, number, array, Kernel, parameter_elements}
+use Rattle.scop_expressions.specs.Tree.{Tree, size}
+use Rattle.scop_grammar.specs.Kernel.{Parameter, number, array, Kernel, parameter_elements}
 use Rattle.scop_syntax.specs.Kernel.{AreAtMost, IsAffine, IsDeclaration, AreTrees, KeepWidths, ranks_of, narrow_arrays}
 use Rattle.scop_syntax.specs.Kernel.{IsKernel}
 use Rattle.scop_syntax.specs.Members.{In, Sorted}

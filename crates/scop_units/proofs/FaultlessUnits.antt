@@ -4,10 +4,10 @@ use Rattle.std.proofs.Common.{refl, sym, ap, subst, arith, All, nat_le, nat_lt, 
 use Rattle.std.specs.Prelude.{Option, Some, None, ◌&&◌, slice_index_or}
 use Rattle.std.proofs.lemmas.Bool.{and_parts, leb-true, ltb-false}
 use Rattle.std.proofs.lemmas.Bool.Decides.{nat_tests}
-use Rattle.expression_grammar.specs.Tree.{Tree}
-use Rattle.expression_grammar.specs.Assign.{Assign}
-use Rattle.expression_grammar.specs.Assign.TheVariants as assigns
-use Rattle.expression_grammar.specs.Suffix.TheVariants as suffix
+use Rattle.scop_expressions.specs.Tree.{Tree}
+use Rattle.scop_expressions.specs.Assign.{Assign}
+use Rattle.scop_expressions.specs.Assign.TheVariants as assigns
+use Rattle.scop_expressions.specs.Suffix.TheVariants as suffix
 use Rattle.scop_syntax.specs.Kernel.{IsAffine, IsComparison, test_form, IsAccess, IsExpression, IsRight}
 use Rattle.scop_syntax.specs.Kernel.{IsStatement, HasWidth}
 use Rattle.scop_syntax.specs.Widths.{IsTyped}

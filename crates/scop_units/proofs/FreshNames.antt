@@ -4,7 +4,7 @@ use Rattle.std.proofs.Common.{length, map, refl, sym, ap, subst, inl, inr, â—ŒâŠ
 use Rattle.std.specs.Prelude.{Option, Some, None}
 use Rattle.std.proofs.lemmas.List.{map-append}
 use Rattle.std.proofs.lemmas.Slice.Eq.{bytes_eq-Decides}
-use Rattle.kernel_grammar.specs.Kernel.{Parameter, number, array, parameter_elements}
+use Rattle.scop_grammar.specs.Kernel.{Parameter, number, array, parameter_elements}
 use Rattle.scop_lexer.specs.Bytes.{Text}
 use Rattle.scop_syntax.specs.Members.{In}
 use Rattle.scop_roles.specs.declared.fault.Kind.TheVariants as kind

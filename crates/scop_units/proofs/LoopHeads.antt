@@ -13,11 +13,11 @@ use Rattle.whole_numbers.specs.Lists.{zeros, sums, multiples}
 use Rattle.whole_numbers.proofs.Dot.{length-multiples, length-zeros, length-sums, get_or-sums, get_or-multiples}
 use Rattle.whole_numbers.proofs.Dot.{get_or-zeros}
 use Rattle.whole_numbers.proofs.Ring.{mul_zero_right}
-use Rattle.expression_grammar.specs.Assign.TheVariants as assigns
-use Rattle.expression_grammar.specs.Count.TheVariants as counts
-use Rattle.expression_grammar.specs.Op.{Op}
-use Rattle.expression_grammar.specs.Op.TheVariants as op
-use Rattle.expression_grammar.specs.declared.token.Sign.TheVariants as sign
+use Rattle.scop_expressions.specs.Assign.TheVariants as assigns
+use Rattle.scop_expressions.specs.Count.TheVariants as counts
+use Rattle.scop_expressions.specs.Op.{Op}
+use Rattle.scop_expressions.specs.Op.TheVariants as op
+use Rattle.scop_expressions.specs.declared.token.Sign.TheVariants as sign
 use Rattle.scop_syntax.specs.Kernel.{AreAtMost, IsAffine, IsCondition, IsHead}
 use Rattle.scop_syntax.proofs.Limits.{at_most_at}
 use Rattle.scop_roles.specs.declared.fault.Fault.{Fault}

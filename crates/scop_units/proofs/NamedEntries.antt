@@ -2,7 +2,7 @@
 use Rattle.std.proofs.Common.{◌≡◌, ℕ, Bool, true, false, List, [], ◌∷◌, fold, ap, sym, ◌∙◌, refl}
 use Rattle.std.specs.Prelude.{◌||◌}
 use Rattle.std.specs.List.{list_any}
-use Rattle.expression_grammar.specs.Op.TheVariants as op
+use Rattle.scop_expressions.specs.Op.TheVariants as op
 use Rattle.scop_roles.specs.Formula.{Formula, index, binary, with_argument}
 use Rattle.scop_units.specs.Loops.{names_entry}
 

@@ -3,10 +3,10 @@ use Rattle.std.proofs.Common.{◌≡◌, ℕ, ◌+◌, Bool, true, false, if◌t
 use Rattle.std.proofs.Common.{sym, ap, subst, ◌∙◌, append_assoc, append-nil, bytes_eq}
 use Rattle.std.specs.Prelude.{Option, Some, None}
 use Rattle.std.proofs.lemmas.List.{map-append}
-use Rattle.expression_grammar.specs.Tree as expression
-use Rattle.kernel_grammar.specs.Kernel.{Step, branch, loop, Item, block, empty, assign, headed, Items, none, more}
-use Rattle.kernel_grammar.specs.Kernel.{Parameter, number, array, Kernel, item_elements, head_elements}
-use Rattle.kernel_grammar.specs.Kernel.{parameter_elements}
+use Rattle.scop_expressions.specs.Tree as expression
+use Rattle.scop_grammar.specs.Kernel.{Step, branch, loop, Item, block, empty, assign, headed, Items, none, more}
+use Rattle.scop_grammar.specs.Kernel.{Parameter, number, array, Kernel, item_elements, head_elements}
+use Rattle.scop_grammar.specs.Kernel.{parameter_elements}
 use Rattle.scop_lexer.specs.Bytes.{Text}
 use Rattle.scop_syntax.specs.Members.{In}
 use Rattle.scop_syntax.specs.Tree.{Tree, Declaration}

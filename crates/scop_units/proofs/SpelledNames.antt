@@ -3,11 +3,11 @@ use Rattle.std.proofs.Common.{◌≡◌, ◌∙◌, ap, subst, refl, ℕ, suc, �
 use Rattle.std.proofs.Common.{arith}
 use Rattle.std.specs.Prelude.{All, slice_get, Some}
 use Rattle.std.proofs.lemmas.List.Elements.{All-nil, All-cons, All-append, All-map}
-use Rattle.expression_grammar.specs.Token.{Token}
-use Rattle.expression_grammar.specs.Token.TheVariants as token
-use Rattle.kernel_grammar.specs.Kernel.{Element, spelled, Parameter, number, array, Kernel, parameter_elements}
-use Rattle.kernel_grammar.specs.Kernel.{other_parameters, kernel_elements, begins, ends, declarations, all_elements}
-use Rattle.kernel_grammar.proofs.Parses.{spelled_append}
+use Rattle.scop_expressions.specs.Token.{Token}
+use Rattle.scop_expressions.specs.Token.TheVariants as token
+use Rattle.scop_grammar.specs.Kernel.{Element, spelled, Parameter, number, array, Kernel, parameter_elements}
+use Rattle.scop_grammar.specs.Kernel.{other_parameters, kernel_elements, begins, ends, declarations, all_elements}
+use Rattle.scop_grammar.proofs.Parses.{spelled_append}
 use Rattle.scop_lexer.specs.Words.{IsName}
 use Rattle.scop_syntax.specs.Tree.{Declaration}
 use Rattle.scop_units.specs.Words.{Words}

@@ -1,12 +1,12 @@
 -- The faults of a kernel that is grammatical: of its names, its expressions in their roles, its loops and its limits,
 -- by recursion on its tree, each part at the place of its first token. Items without a statement are judged too.
 use Rattle.std.specs.Prelude.{ℕ, zero, suc, ◌+◌, Bool, true, false, List, [], ◌∷◌, ◌++◌, length}
-use Rattle.expression_grammar.specs.Assign.{Assign}
-use Rattle.expression_grammar.specs.Tree.{Tree, size}
-use Rattle.kernel_grammar.specs.Kernel.{Element, spelled, Step, counted, counts, assigned, Head, branch, loop, Item}
-use Rattle.kernel_grammar.specs.Kernel.{block, empty, assign, headed, Items, none, more, Parameter, number, array}
-use Rattle.kernel_grammar.specs.Kernel.{Kernel, item_elements, head_elements, parameter_elements, other_parameters}
-use Rattle.kernel_grammar.specs.Kernel.{declarations}
+use Rattle.scop_expressions.specs.Assign.{Assign}
+use Rattle.scop_expressions.specs.Tree.{Tree, size}
+use Rattle.scop_grammar.specs.Kernel.{Element, spelled, Step, counted, counts, assigned, Head, branch, loop, Item}
+use Rattle.scop_grammar.specs.Kernel.{block, empty, assign, headed, Items, none, more, Parameter, number, array}
+use Rattle.scop_grammar.specs.Kernel.{Kernel, item_elements, head_elements, parameter_elements, other_parameters}
+use Rattle.scop_grammar.specs.Kernel.{declarations}
 use Rattle.scop_roles.specs.declared.fault.Fault.{Fault}
 use Rattle.scop_roles.specs.declared.formula.Role.TheVariants as role
 use Rattle.scop_roles.specs.Formula.{Formula, Lookup, formula, name}

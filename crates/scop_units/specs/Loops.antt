@@ -6,11 +6,11 @@ use Rattle.whole_numbers.specs.Affine.{Affine}
 use Rattle.scop_lexer.specs.Bytes.{Text}
 use Rattle.scop_syntax.specs.Tree.{Head}
 use Rattle.scop_syntax.specs.Kernel.{test_form}
-use Rattle.expression_grammar.specs.Assign.{Assign}
-use Rattle.expression_grammar.specs.Assign.TheVariants as assign
-use Rattle.expression_grammar.specs.Count.{Count}
-use Rattle.expression_grammar.specs.Count.TheVariants as count
-use Rattle.expression_grammar.specs.Op.TheVariants as op
+use Rattle.scop_expressions.specs.Assign.{Assign}
+use Rattle.scop_expressions.specs.Assign.TheVariants as assign
+use Rattle.scop_expressions.specs.Count.{Count}
+use Rattle.scop_expressions.specs.Count.TheVariants as count
+use Rattle.scop_expressions.specs.Op.TheVariants as op
 use Rattle.scop_roles.specs.declared.fault.Kind.TheVariants as kind
 use Rattle.scop_roles.specs.declared.fault.Fault.{Fault}
 use Rattle.scop_roles.specs.declared.formula.Meaning.{Meaning}

@@ -3,8 +3,8 @@
 use Rattle.std.specs.Prelude.{◌≡◌, ◌≢◌, ℕ, List, [], ◌∷◌, ◌++◌, map, slice_get, Some, ⊤}
 use Rattle.scop_lexer.specs.Bytes.{Text}
 use Rattle.scop_lexer.specs.Words.{IsName}
-use Rattle.expression_grammar.specs.Token.{Token}
-use Rattle.expression_grammar.specs.Token.TheVariants.{Name}
+use Rattle.scop_expressions.specs.Token.{Token}
+use Rattle.scop_expressions.specs.Token.TheVariants.{Name}
 use Rattle.scop_syntax.specs.Members.{In, Sorted}
 use Rattle.scop_syntax.specs.Tree.{Tree, loop, guard, statement, Trees, none, more, Declaration, Program}
 use Rattle.scop_units.specs.Words.{Words}

@@ -1,9 +1,9 @@
 -- The program that a kernel without faults stands for: items without a statement leave nothing, and extents are forms
 -- in all parameters.
 use Rattle.std.specs.Prelude.{ℕ, ◌+◌, List, [], ◌∷◌, ◌++◌, length, map}
-use Rattle.kernel_grammar.specs.Kernel.{Head, branch, loop, Item, block, empty, assign, headed, Items, none, more}
-use Rattle.kernel_grammar.specs.Kernel.{Parameter, number, array, Kernel, item_elements, head_elements}
-use Rattle.kernel_grammar.specs.Kernel.{parameter_elements}
+use Rattle.scop_grammar.specs.Kernel.{Head, branch, loop, Item, block, empty, assign, headed, Items, none, more}
+use Rattle.scop_grammar.specs.Kernel.{Parameter, number, array, Kernel, item_elements, head_elements}
+use Rattle.scop_grammar.specs.Kernel.{parameter_elements}
 use Rattle.scop_syntax.specs.Tree.{Declaration, Program}
 use Rattle.scop_syntax.specs.Tree as scop
 use Rattle.scop_syntax.specs.View.{trees_of}

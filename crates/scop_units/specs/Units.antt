@@ -3,9 +3,9 @@ use Rattle.std.specs.Prelude.{ℕ, ◌-◌, Bool, true, false, ◌&&◌, not, na
 use Rattle.std.specs.Prelude.{slice_get, Option, Some, None}
 use Rattle.whole_numbers.specs.Affine.{Affine, form_of}
 use Rattle.whole_numbers.specs.Lists.{zeros}
-use Rattle.expression_grammar.specs.Assign.{Assign}
-use Rattle.expression_grammar.specs.Assign.TheVariants as assigns
-use Rattle.expression_grammar.specs.Width.{Width}
+use Rattle.scop_expressions.specs.Assign.{Assign}
+use Rattle.scop_expressions.specs.Assign.TheVariants as assigns
+use Rattle.scop_expressions.specs.Width.{Width}
 use Rattle.scop_syntax.specs.Tree.{Operator, plus, minus, times, bits_and, bits_or, bits_xor, implied, converted, Right}
 use Rattle.scop_syntax.specs.Tree.{assigned, combined, combined_narrow, moved_left, moved_left_narrow, moved_right}
 use Rattle.scop_syntax.specs.Tree.{Statement, Declaration}

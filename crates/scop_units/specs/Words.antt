@@ -4,7 +4,7 @@ use Rattle.std.specs.Prelude.{ℕ, ◌-◌, ◌<◌, ◌^◌, List, [], length, 
 use Rattle.std.specs.Prelude.{None}
 use Rattle.scop_lexer.specs.Bytes.{Text}
 use Rattle.scop_lexer.specs.declared.token.Token.{Token as Lexeme}
-use Rattle.expression_grammar.specs.Token.{Token}
+use Rattle.scop_expressions.specs.Token.{Token}
 
 -- what tokens are in the grammar
 abbrev pub grammar_tokens : List Lexeme → List Token

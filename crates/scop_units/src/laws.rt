@@ -1,6 +1,6 @@
 //! Laws of kernels without faults, as contracts of functions that do nothing.
 ghost use Rattle.std.specs.Prelude.{◌≡◌, [], All};
-ghost use Rattle.kernel_grammar.specs.Kernel.{Kernel, kernel_elements, spelled};
+ghost use Rattle.scop_grammar.specs.Kernel.{Kernel, kernel_elements, spelled};
 ghost use Rattle.scop_lexer.specs.Words.{IsName};
 ghost use Rattle.scop_syntax.specs.Kernel.{IsKernel};
 ghost use Rattle.scop_units.specs.Words.{HasWorth, Words};

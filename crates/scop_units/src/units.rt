@@ -16,7 +16,7 @@ ghost use Rattle.scop_units.specs.View.{scope_of, stored_of, words_in};
 
 use crate::scope::{Scope, copied, is_reserved};
 use crate::words::Words;
-use expression_grammar::token::{Assign, Width};
+use scop_expressions::token::{Assign, Width};
 use scop_roles::fault::{Fault, Kind, first_of};
 use scop_roles::formula::{Formula, Meaning, Role, has_subscripts, meaning_of, place};
 use scop_roles::judgement::{fault, form, place_fault};

@@ -1,7 +1,7 @@
 //! An expression whose nodes are worked out by hand.
 
-use expression_grammar::reader::read;
-use expression_grammar::token::{Base, Op, Suffix, Token};
+use scop_expressions::reader::read;
+use scop_expressions::token::{Base, Op, Suffix, Token};
 use std::alloc::Global;
 
 const NAME: Token = Token::Name;

@@ -10,7 +10,7 @@ use Rattle.loop_tree.specs.contracts.tree.Tree as Tree
 use Rattle.scop_syntax.proofs.tree.Expr.TheLaws.TheKnot as expressions
 use Rattle.scop_syntax.proofs.tree.Item.TheLaws.TheKnot as items
 use Rattle.scop_syntax.specs.contracts.tree.Kernel as Kernel
-use Rattle.stmt_table.specs.contracts.table.Table as Table
+use Rattle.tile_table.specs.contracts.table.Table as Table
 use Rattle.tile_list.specs.contracts.list.TileList as TileList
 use Rattle.tile_core.specs.contracts.expansion.Expansion as Expansion
 use Rattle.tile_core.specs.contracts.plan.Plan as Plan

@@ -4,11 +4,11 @@ use Rattle.std.proofs.Common.{◌≡◌, ◌∙◌, ℕ, ℤ, suc, ◌+◌, ◌<
 use Rattle.std.specs.Prelude.{slice_get}
 use Rattle.std.proofs.lemmas.List.{length-map}
 use Rattle.scop_syntax.specs.Walk.{Instance}
-use Rattle.stmt_table.specs.Codes.{value_by}
-use Rattle.stmt_table.specs.Desks.{HasSameRoom, IsLaid}
-use Rattle.stmt_table.specs.declared.desk.Desk.{Desk}
-use Rattle.stmt_table.specs.declared.table.Row.{Row}
-use Rattle.stmt_table.proofs.Desks.{room_stays, same_room_chain}
+use Rattle.tile_table.specs.Codes.{value_by}
+use Rattle.tile_table.specs.Desks.{HasSameRoom, IsLaid}
+use Rattle.tile_table.specs.declared.desk.Desk.{Desk}
+use Rattle.tile_table.specs.declared.table.Row.{Row}
+use Rattle.tile_table.proofs.Desks.{room_stays, same_room_chain}
 use Rattle.tile_core.specs.Plans.{places_in, plain_shape}
 use Rattle.tile_core.specs.Ranks.{place_in}
 use Rattle.tile_core.specs.declared.plan.Plan.{Plan}

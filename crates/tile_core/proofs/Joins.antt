@@ -8,11 +8,11 @@ use Rattle.scop_syntax.specs.View.{instance_of}
 use Rattle.scop_syntax.specs.Walk.{Instance}
 use Rattle.scop_syntax.specs.declared.instance.Instance.{Instance as CodeInstance}
 use Rattle.loop_tree.specs.declared.stretch.Stretch.{Stretch}
-use Rattle.stmt_table.specs.Codes.{leaves_at}
-use Rattle.stmt_table.specs.Joins.{IsJoinAt, joined_by}
-use Rattle.stmt_table.specs.declared.join.JoinLanes.{JoinLanes}
-use Rattle.stmt_table.specs.declared.lane.Lane.{Lane}
-use Rattle.stmt_table.specs.declared.table.Row.{Row}
+use Rattle.tile_table.specs.Codes.{leaves_at}
+use Rattle.tile_table.specs.Joins.{IsJoinAt, joined_by}
+use Rattle.tile_table.specs.declared.join.JoinLanes.{JoinLanes}
+use Rattle.tile_table.specs.declared.lane.Lane.{Lane}
+use Rattle.tile_table.specs.declared.table.Row.{Row}
 use Rattle.tile_core.specs.Plans.{places_in, plain_shape}
 use Rattle.tile_core.specs.Ranks.{place_in}
 use Rattle.tile_core.specs.Rows.{IsRowAt}

@@ -13,7 +13,7 @@ use Rattle.scop_syntax.specs.Tree.{Program}
 use Rattle.scop_syntax.specs.View.{instance_of}
 use Rattle.scop_syntax.specs.Walk.{Instance, Visit, instance}
 use Rattle.scop_syntax.proofs.Members.{in_from_place, in_map_from, there_is}
-use Rattle.conflict_orders.proofs.SortedLists.{StandOnce, walked_distinct}
+use Rattle.scop_syntax.proofs.SortedLists.{StandOnce, walked_distinct}
 use Rattle.loop_tree.specs.Tiling.{IsFlowPlan, IsGoodFor, IsInOrder}
 use Rattle.tile_list.specs.TilesView.{firsts_of, waves_of}
 use Rattle.tile_list.specs.declared.list.Tile.{Tile}

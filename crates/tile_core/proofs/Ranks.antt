@@ -12,9 +12,9 @@ use Rattle.scop_syntax.specs.Members.{In}
 use Rattle.scop_syntax.specs.Walk.{Instance}
 use Rattle.scop_syntax.proofs.Members.{in_from_place}
 use Rattle.scop_syntax.proofs.Statements.{one_instance}
-use Rattle.conflict_orders.specs.Orders.{AreDistinct}
-use Rattle.conflict_orders.proofs.SortedLists.{distinct_places}
-use Rattle.conflict_orders.proofs.Precedence.{in_less, parted}
+use Rattle.scop_syntax.specs.ConflictOrders.{AreDistinct}
+use Rattle.scop_syntax.proofs.SortedLists.{distinct_places}
+use Rattle.scop_syntax.proofs.Precedence.{in_less, parted}
 use Rattle.tile_core.specs.Ranks.{is_same, place_in}
 
 both_true : (a b : Bool) → a && b ≡ true → (a ≡ true) × (b ≡ true)

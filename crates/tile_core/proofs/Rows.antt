@@ -11,11 +11,11 @@ use Rattle.scop_syntax.specs.Reductions.{is_marked, loads}
 use Rattle.scop_syntax.specs.Tree.{Program, Statement}
 use Rattle.scop_syntax.specs.Walk.{Instance, Visit}
 use Rattle.scop_syntax.proofs.Members.{in_at, in_from_place}
-use Rattle.conflict_orders.proofs.SortedLists.{StandOnce}
-use Rattle.stmt_table.specs.Instances.{IsVisitOf}
-use Rattle.stmt_table.specs.declared.table.Row.{Row}
-use Rattle.stmt_table.proofs.Accesses.{touched_access}
-use Rattle.stmt_table.proofs.Visits.{HasRowBy, WalkLaws, adds_told, cell_told_by, reads_told, row_by, value_told}
+use Rattle.scop_syntax.proofs.SortedLists.{StandOnce}
+use Rattle.tile_table.specs.Instances.{IsVisitOf}
+use Rattle.tile_table.specs.declared.table.Row.{Row}
+use Rattle.tile_table.proofs.Accesses.{touched_access}
+use Rattle.tile_table.proofs.Visits.{HasRowBy, WalkLaws, adds_told, cell_told_by, reads_told, row_by, value_told}
 use Rattle.tile_events.specs.Flat.{read_by, value_by, written_by}
 use Rattle.tile_core.specs.Marks.{adds_to}
 use Rattle.tile_core.specs.Plans.{IsPlan, extents_in, places_in, program_in, walk_in}

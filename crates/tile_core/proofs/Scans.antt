@@ -11,8 +11,8 @@ use Rattle.scop_syntax.specs.Members.{In}
 use Rattle.scop_syntax.specs.Tree.{Program}
 use Rattle.scop_syntax.specs.Walk.{Instance, instance, Visit, walk_of}
 use Rattle.scop_syntax.proofs.Members.{in_from_place, nat_cases, sorted_places, there_is}
-use Rattle.conflict_orders.specs.Orders.{AreDistinct}
-use Rattle.conflict_orders.proofs.SortedLists.{sorted_weaker, StandOnce, walked_distinct}
+use Rattle.scop_syntax.specs.ConflictOrders.{AreDistinct}
+use Rattle.scop_syntax.proofs.SortedLists.{sorted_weaker, StandOnce, walked_distinct}
 use Rattle.loop_tree.specs.Plans.{AreInOrder, Precedes, walked}
 use Rattle.loop_tree.specs.Tiling.{IsInOrder, StandsBefore, Tiling, kept, tiled, order_of, tile_of, wave_of}
 use Rattle.loop_tree.proofs.Visits.{listed_same}

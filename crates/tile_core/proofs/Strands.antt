@@ -16,10 +16,10 @@ use Rattle.scop_syntax.specs.declared.instance.Instance.{Instance as CodeInstanc
 use Rattle.loop_tree.specs.declared.braid.Braid.{Braid}
 use Rattle.loop_tree.specs.declared.spot.Spot.{Spot}
 use Rattle.loop_tree.specs.declared.stretch.Stretch.{Stretch}
-use Rattle.stmt_table.specs.Desks.{HasRoomForAll, IsLaid}
-use Rattle.stmt_table.specs.declared.desk.Desk.{Desk}
-use Rattle.stmt_table.specs.declared.table.Row.{Row}
-use Rattle.stmt_table.specs.declared.table.Table.{Table}
+use Rattle.tile_table.specs.Desks.{HasRoomForAll, IsLaid}
+use Rattle.tile_table.specs.declared.desk.Desk.{Desk}
+use Rattle.tile_table.specs.declared.table.Row.{Row}
+use Rattle.tile_table.specs.declared.table.Table.{Table}
 use Rattle.tile_core.specs.Plans.{places_in, walk_shape}
 use Rattle.tile_core.specs.Rows.{IsRowAt}
 use Rattle.tile_core.specs.Stretches.{IsWoven, in_round}

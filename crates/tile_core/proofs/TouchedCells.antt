@@ -15,9 +15,9 @@ use Rattle.scop_syntax.specs.Statements.{Placed, Runs, statements_of, visit_of}
 use Rattle.scop_syntax.specs.Tree.{Access, Program}
 use Rattle.scop_syntax.specs.Walk.{Instance, Visit, instance, walk_of}
 use Rattle.scop_syntax.proofs.Members.{in_from_place, place_of, there_is}
-use Rattle.conflict_orders.proofs.SortedLists.{StandOnce}
-use Rattle.stmt_table.specs.Instances.{IsVisitOf}
-use Rattle.stmt_table.specs.Tables.{touched}
+use Rattle.scop_syntax.proofs.SortedLists.{StandOnce}
+use Rattle.tile_table.specs.Instances.{IsVisitOf}
+use Rattle.tile_table.specs.Tables.{touched}
 use Rattle.tile_events.specs.Flat.{read_by, written_by}
 use Rattle.tile_core.specs.Plans.{IsPlan, extents_in, places_in, program_in, walk_in}
 use Rattle.tile_core.specs.Ranks.{place_in}

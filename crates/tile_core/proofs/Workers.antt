@@ -15,7 +15,7 @@ use Rattle.loop_tree.specs.SpotView.{IsSpotOf, found_in, to_come}
 use Rattle.loop_tree.specs.View.{trees_in}
 use Rattle.loop_tree.specs.declared.spot.Spot.{Spot}
 use Rattle.loop_tree.proofs.Visits.{listed_same}
-use Rattle.stmt_table.specs.Desks.{HasRoomForAll}
+use Rattle.tile_table.specs.Desks.{HasRoomForAll}
 use Rattle.tile_list.specs.Tiles.{start_of}
 use Rattle.tile_list.specs.TilesView.{to_come_at}
 use Rattle.tile_list.specs.declared.list.Tile.{Tile}

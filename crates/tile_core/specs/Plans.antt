@@ -16,7 +16,7 @@ use Rattle.loop_tree.specs.Plans.{AreInOrder, walked}
 use Rattle.loop_tree.specs.Tiling.{IsFlowPlan, IsGoodFor, Tiling}
 use Rattle.loop_tree.specs.View.{trees_in}
 use Rattle.loop_tree.specs.Walk.{visits}
-use Rattle.stmt_table.specs.Tables.{IsTableBy}
+use Rattle.tile_table.specs.Tables.{IsTableBy}
 use Rattle.tile_list.specs.TilesView.{IsTileListOf, waves_of}
 use Rattle.tile_list.specs.declared.list.Tile.{Tile}
 use Rattle.tile_list.specs.declared.list.TileList.{TileList}

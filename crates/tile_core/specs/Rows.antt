@@ -3,8 +3,8 @@ use Rattle.std.specs.Prelude.{◌≡◌, ◌<◌, ◌≤◌, ℕ, suc, List, len
 use Rattle.whole_numbers.specs.Affine.{Affine, value_of}
 use Rattle.scop_syntax.specs.Values.{wrapped}
 use Rattle.scop_syntax.specs.Walk.{Instance}
-use Rattle.stmt_table.specs.Codes.{IsWellMade, value_by}
-use Rattle.stmt_table.specs.declared.table.Row.{Row}
+use Rattle.tile_table.specs.Codes.{IsWellMade, value_by}
+use Rattle.tile_table.specs.declared.table.Row.{Row}
 use Rattle.tile_core.specs.Plans.{places_in, plain_shape}
 use Rattle.tile_core.specs.Ranks.{place_in}
 use Rattle.tile_core.specs.declared.plan.Plan.{Plan}

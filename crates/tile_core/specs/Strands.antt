@@ -3,10 +3,10 @@ use Rattle.std.specs.Prelude.{◌≡◌, ◌+◌, ◌<◌, ◌≤◌, ℕ, List,
 use Rattle.scop_syntax.specs.Members.{In}
 use Rattle.loop_tree.specs.declared.braid.Braid.{Braid}
 use Rattle.loop_tree.specs.declared.stretch.Stretch.{Stretch}
-use Rattle.stmt_table.specs.Desks.{IsLaid}
-use Rattle.stmt_table.specs.declared.desk.Desk.{Desk}
-use Rattle.stmt_table.specs.declared.table.Row.{Row}
-use Rattle.stmt_table.specs.declared.table.Table.{Table}
+use Rattle.tile_table.specs.Desks.{IsLaid}
+use Rattle.tile_table.specs.declared.desk.Desk.{Desk}
+use Rattle.tile_table.specs.declared.table.Row.{Row}
+use Rattle.tile_table.specs.declared.table.Table.{Table}
 use Rattle.tile_core.specs.Plans.{places_in, walk_shape}
 use Rattle.tile_core.specs.Ranks.{place_in}
 use Rattle.tile_core.specs.Stretches.{in_round}

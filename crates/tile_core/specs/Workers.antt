@@ -7,9 +7,9 @@ use Rattle.scop_syntax.specs.declared.instance.Instance.{Instance}
 use Rattle.loop_tree.specs.SpotView.{IsSpotOf, to_come}
 use Rattle.loop_tree.specs.View.{trees_in}
 use Rattle.loop_tree.specs.declared.spot.Spot.{Spot}
-use Rattle.stmt_table.specs.Desks.{HasRoomForAll}
-use Rattle.stmt_table.specs.declared.desk.Desk.{Desk}
-use Rattle.stmt_table.specs.declared.table.Table.{Table}
+use Rattle.tile_table.specs.Desks.{HasRoomForAll}
+use Rattle.tile_table.specs.declared.desk.Desk.{Desk}
+use Rattle.tile_table.specs.declared.table.Table.{Table}
 use Rattle.tile_events.specs.Core as core
 use Rattle.tile_events.specs.Sound.{Holds}
 use Rattle.tile_core.specs.Plans.{deal_of, place_of, places_in, scan_in, shape_of, walk_shape}

@@ -1,8 +1,8 @@
 //! Instances of a tile whose code is a join, done on a row of cells by the lanes of their four cells.
 ghost use Rattle.std.specs.Prelude.{◌≡◌, ℕ, ℤ, List};
 ghost use Rattle.scop_syntax.specs.Walk.{Instance};
-ghost use Rattle.stmt_table.specs.Joins.{IsJoinAt};
-ghost use Rattle.stmt_table.specs.declared.table.Row.{Row as AnyRow};
+ghost use Rattle.tile_table.specs.Joins.{IsJoinAt};
+ghost use Rattle.tile_table.specs.declared.table.Row.{Row as AnyRow};
 ghost use Rattle.tile_core.specs.Plans.{places_in, plain_shape};
 ghost use Rattle.tile_core.specs.Ranks.{place_in};
 ghost use Rattle.tile_core.specs.declared.plan.Plan.{Plan as AnyPlan};
@@ -10,7 +10,7 @@ ghost use Rattle.tile_core.specs.steps.Acts.{after_instances, after_place};
 ghost use Rattle.tile_core.specs.steps.Joins.{AreJoinedFrom, AreWithin, IsJoinedAt, StandJoined};
 ghost use Rattle.whole_numbers.specs.Lists.{sums};
 
-use stmt_table::join::JoinLanes;
+use tile_table::join::JoinLanes;
 
 /// Does the instance at which the lanes of a join stand, and takes them one step on.
 #[inline]

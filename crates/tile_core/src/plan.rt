@@ -3,7 +3,7 @@
 ghost use Rattle.std.specs.Prelude.{◌≡◌, ◌+◌, ◌<◌, ◌≤◌, Some, get_or, length, slice_get, true};
 ghost use Rattle.scop_syntax.specs.Members.{In};
 ghost use Rattle.scop_syntax.specs.View.{instance_of};
-ghost use Rattle.stmt_table.specs.Desks.{HasRoomForAll};
+ghost use Rattle.tile_table.specs.Desks.{HasRoomForAll};
 ghost use Rattle.tile_core.specs.Rows.{IsRowAt};
 ghost use Rattle.tile_events.specs.Core.{needed_by};
 ghost use Rattle.tile_core.specs.Plans.{HaveRoom, IsPlan, place_of, places_in, shape_of, walk_shape};
@@ -13,8 +13,8 @@ use crate::plan_laws::{rows_tell_instances, walks_are_dealt};
 use loop_tree::Tree;
 use scop_syntax::instance::Instance;
 use scop_syntax::tree::Kernel;
-use stmt_table::desk::Desk;
-use stmt_table::table::{Row, Table};
+use tile_table::desk::Desk;
+use tile_table::table::{Row, Table};
 use tile_edges::TileEdges;
 use tile_list::{Tile, TileList};
 

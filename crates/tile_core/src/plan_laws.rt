@@ -12,7 +12,7 @@ ghost use Rattle.scop_syntax.specs.Execution.{
 };
 ghost use Rattle.scop_syntax.specs.Members.{In};
 ghost use Rattle.scop_syntax.specs.Walk.{Instance, Visit, instance};
-ghost use Rattle.stmt_table.specs.declared.table.Row.{Row};
+ghost use Rattle.tile_table.specs.declared.table.Row.{Row};
 ghost use Rattle.tile_edges.specs.Edges.{IsTileOf};
 ghost use Rattle.tile_events.specs.Copies.{AreSources, expanded};
 ghost use Rattle.tile_events.specs.Core.{State};

@@ -2,7 +2,7 @@
 //! as those instances of its tile leave them, each by the values that its reads find.
 ghost use Rattle.std.specs.Prelude.{◌≡◌, ◌≤◌, ℕ, ℤ, List, length, take};
 ghost use Rattle.scop_syntax.specs.Walk.{Instance};
-ghost use Rattle.stmt_table.specs.Desks.{HasSameRoom, IsLaid};
+ghost use Rattle.tile_table.specs.Desks.{HasSameRoom, IsLaid};
 ghost use Rattle.tile_core.specs.Plans.{IsPlan, places_in, plain_shape};
 ghost use Rattle.tile_core.specs.Ranks.{place_in};
 ghost use Rattle.tile_core.specs.Stretches.{IsAhead};
@@ -18,8 +18,8 @@ use crate::joining::do_joins;
 use crate::plan::Plan;
 use crate::plan_laws::rows_tell_instances;
 use crate::worker::Worker;
-use stmt_table::desk::Desk;
-use stmt_table::table::Row;
+use tile_table::desk::Desk;
+use tile_table::table::Row;
 
 /// What a cell holds that held `old`, after the value was added or stored.
 #[inline]

@@ -1,6 +1,6 @@
 //! Whole rounds of a braid that a worker has ahead, done on a row of cells by a desk for each strand.
 ghost use Rattle.std.specs.Prelude.{◌≡◌, ◌+◌, ◌*◌, ◌<◌, ◌≤◌, [], ℕ, length, suc};
-ghost use Rattle.stmt_table.specs.Desks.{HasRoomForAll};
+ghost use Rattle.tile_table.specs.Desks.{HasRoomForAll};
 ghost use Rattle.tile_core.specs.Plans.{IsPlan, plain_shape, walk_shape};
 ghost use Rattle.tile_core.specs.Strands.{AreLaid, HaveRows, IsLaidFor, IsRound, StandsInRound};
 ghost use Rattle.tile_core.specs.Stretches.{IsWoven};
@@ -13,8 +13,8 @@ use crate::plan_laws::rows_tell_instances;
 use crate::stretching::{do_ahead, do_laid};
 use crate::worker::Worker;
 use loop_tree::Stretch;
-use stmt_table::desk::Desk;
-use stmt_table::table::Table;
+use tile_table::desk::Desk;
+use tile_table::table::Table;
 
 /// Lays a desk for what a strand gives first.
 fn lay_strand(table: &Table, strand: &Stretch, desk: &mut Desk)

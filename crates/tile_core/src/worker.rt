@@ -7,7 +7,7 @@ ghost use Rattle.scop_syntax.specs.View.{instance_of};
 ghost use Rattle.loop_tree.specs.Braids.{IsBraid};
 ghost use Rattle.loop_tree.specs.SpotView.{IsSpotOf, to_come};
 ghost use Rattle.loop_tree.specs.Tree.{Trees};
-ghost use Rattle.stmt_table.specs.Desks.{HasRoomForAll};
+ghost use Rattle.tile_table.specs.Desks.{HasRoomForAll};
 ghost use Rattle.tile_events.specs.Core.{idle};
 ghost use Rattle.tile_events.specs.Sound.{Holds};
 ghost use Rattle.tile_core.specs.Plans.{IsPlan, place_of, places_in, shape_of, walk_shape};
@@ -22,8 +22,8 @@ use arrayvec::ArrayVec;
 use loop_tree::{Braid, Spot, Stretch};
 use scop_syntax::instance::Instance;
 use std::alloc::{AllocError, Global};
-use stmt_table::desk::Desk;
-use stmt_table::table::Table;
+use tile_table::desk::Desk;
+use tile_table::table::Table;
 use tile_list::laws::tiles_stand_one_behind_another;
 
 /// Reads that a statement may have.

@@ -28,9 +28,9 @@ use Rattle.tile_list.specs.declared.list.TileList.{TileList}
 use Rattle.tile_list.specs.steps.Stretching.{AllRowsFit, instance_at, steps_on}
 use Rattle.tile_list.proofs.Order.{one-sym, one-trans}
 use Rattle.tile_list.proofs.Stretches.{length-following, tile_along}
-use Rattle.stmt_table.specs.declared.table.Row.{Row}
-use Rattle.stmt_table.specs.declared.table.Table.{Table}
-use Rattle.stmt_table.proofs.Visits.{WalkLaws}
+use Rattle.tile_table.specs.declared.table.Row.{Row}
+use Rattle.tile_table.specs.declared.table.Table.{Table}
+use Rattle.tile_table.proofs.Visits.{WalkLaws}
 use Rattle.tile_edges.specs.Edges.{IsTileOf}
 use Rattle.tile_edges.specs.steps.Ahead.{LieIn, left_on, moved_on, steps_in, to_come_on, turns_in, turns_on}
 use Rattle.tile_edges.specs.steps.Finding.{IsFinder, IsPlaceOf}

@@ -14,8 +14,8 @@ use Rattle.loop_tree.specs.Plans.{AreInOrder, walked}
 use Rattle.loop_tree.specs.Tiling.{Tiling, kept, tiled}
 use Rattle.loop_tree.specs.Tree.{Trees}
 use Rattle.loop_tree.specs.Walk.{visits}
-use Rattle.stmt_table.specs.Tables.{IsTableOf}
-use Rattle.stmt_table.specs.declared.table.Table.{Table}
+use Rattle.tile_table.specs.Tables.{IsTableOf}
+use Rattle.tile_table.specs.declared.table.Table.{Table}
 use Rattle.tile_list.specs.Tiles.{CanTile}
 use Rattle.tile_list.specs.TilesView.{IsTileListOf}
 use Rattle.tile_list.specs.declared.list.TileList.{TileList}

@@ -14,9 +14,9 @@ use Rattle.scop_syntax.specs.Tree.{Program, Statement}
 use Rattle.scop_syntax.specs.Values.{wrapped}
 use Rattle.scop_syntax.specs.Walk.{Instance, Visit, instance, walk_of}
 use Rattle.scop_syntax.proofs.Members.{in_from_place, in_map, there_is}
-use Rattle.stmt_table.specs.declared.table.Row.{Row}
-use Rattle.stmt_table.specs.declared.table.Table.{Table}
-use Rattle.stmt_table.proofs.Visits.{HasRow, WalkLaws, cell_told, row_of}
+use Rattle.tile_table.specs.declared.table.Row.{Row}
+use Rattle.tile_table.specs.declared.table.Table.{Table}
+use Rattle.tile_table.proofs.Visits.{HasRow, WalkLaws, cell_told, row_of}
 use Rattle.loop_tree.specs.Tiling.{Tiling}
 use Rattle.tile_list.specs.declared.list.TileList.{TileList}
 use Rattle.tile_events.specs.Flat.{read_by, written_by}

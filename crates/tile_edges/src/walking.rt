@@ -6,8 +6,8 @@ ghost use Rattle.loop_tree.specs.Conditions.{CanWalk};
 ghost use Rattle.loop_tree.specs.SpotView.{to_come};
 ghost use Rattle.loop_tree.specs.TilingView.{tiling_of};
 ghost use Rattle.loop_tree.specs.View.{trees_in};
-ghost use Rattle.stmt_table.specs.Desks.{HasRoom, HasRoomForAll, IsLaid};
-ghost use Rattle.stmt_table.specs.declared.table.Row.{Row as GivenRow};
+ghost use Rattle.tile_table.specs.Desks.{HasRoom, HasRoomForAll, IsLaid};
+ghost use Rattle.tile_table.specs.declared.table.Row.{Row as GivenRow};
 ghost use Rattle.tile_list.specs.Tiles.{HasSize, RowsFit};
 ghost use Rattle.tile_edges.specs.Edges.{IsTileOf};
 ghost use Rattle.tile_edges.specs.steps.Ahead.{IsPassing, LieIn, to_come_on};
@@ -28,8 +28,8 @@ use scop_syntax::limit_laws::cells_lie_within_22_bits;
 use scop_syntax::tree::Kernel;
 use scop_syntax::walk_laws::{instances_are_those_of_statements, statements_are_numbered};
 use std::alloc::{AllocError, Global};
-use stmt_table::desk::Desk;
-use stmt_table::table::{Row, Table};
+use tile_table::desk::Desk;
+use tile_table::table::{Row, Table};
 use tile_list::TileList;
 
 /// As many pairs as there may be.

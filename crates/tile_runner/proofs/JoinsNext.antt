@@ -2,10 +2,10 @@
 use Rattle.std.proofs.Common.{◌≡◌, ◌+◌, ◌<◌, Bool, ℕ, ℤ, List, [], ◌∷◌, ◌++◌, Some, length, refl, subst, sym, arith}
 use Rattle.std.specs.Prelude.{slice_get}
 use Rattle.atomic_table.specs.declared.shared.Seat.{Seat}
-use Rattle.stmt_table.specs.Codes.{leaves_at}
-use Rattle.stmt_table.specs.Joins.{IsJoinAt, joined_by}
-use Rattle.stmt_table.specs.declared.join.JoinLanes.{JoinLanes}
-use Rattle.stmt_table.specs.declared.lane.Lane.{Lane}
+use Rattle.tile_table.specs.Codes.{leaves_at}
+use Rattle.tile_table.specs.Joins.{IsJoinAt, joined_by}
+use Rattle.tile_table.specs.declared.join.JoinLanes.{JoinLanes}
+use Rattle.tile_table.specs.declared.lane.Lane.{Lane}
 use Rattle.tile_core.specs.Plans.{IsPlan, plain_plan, walk_plan}
 use Rattle.tile_core.specs.Rows.{IsRowAt}
 use Rattle.tile_core.specs.declared.plan.Plan.{Plan}

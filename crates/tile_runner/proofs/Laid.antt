@@ -9,11 +9,11 @@ use Rattle.scop_syntax.specs.Members.{In}
 use Rattle.scop_syntax.specs.View.{instance_of}
 use Rattle.scop_syntax.specs.Walk.{Instance}
 use Rattle.scop_syntax.specs.declared.instance.Instance.{Instance as CodeInstance}
-use Rattle.stmt_table.specs.Codes.{value_by}
-use Rattle.stmt_table.specs.Desks.{HasSameRoom, IsLaid}
-use Rattle.stmt_table.specs.declared.desk.Desk.{Desk}
-use Rattle.stmt_table.specs.declared.table.Row.{Row}
-use Rattle.stmt_table.proofs.Desks.{room_stays, room_stays_for_all}
+use Rattle.tile_table.specs.Codes.{value_by}
+use Rattle.tile_table.specs.Desks.{HasSameRoom, IsLaid}
+use Rattle.tile_table.specs.declared.desk.Desk.{Desk}
+use Rattle.tile_table.specs.declared.table.Row.{Row}
+use Rattle.tile_table.proofs.Desks.{room_stays, room_stays_for_all}
 use Rattle.tile_events.specs.Plan as events
 use Rattle.tile_core.specs.Plans.{IsPlan, places_in, plain_plan, walk_plan, walk_shape}
 use Rattle.tile_core.specs.Ranks.{place_in}

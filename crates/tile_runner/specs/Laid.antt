@@ -3,11 +3,11 @@
 use Rattle.std.specs.Prelude.{◌≡◌, ◌+◌, ◌<◌, ◌≤◌, ℕ, ℤ, List, slice_get, Some}
 use Rattle.scop_syntax.specs.Members.{In}
 use Rattle.scop_syntax.specs.Walk.{Instance}
-use Rattle.stmt_table.specs.Desks.{HasRoom, IsLaid}
-use Rattle.stmt_table.specs.Joins.{IsJoinAt}
-use Rattle.stmt_table.specs.declared.desk.Desk.{Desk}
-use Rattle.stmt_table.specs.declared.join.JoinLanes.{JoinLanes}
-use Rattle.stmt_table.specs.declared.table.Row.{Row}
+use Rattle.tile_table.specs.Desks.{HasRoom, IsLaid}
+use Rattle.tile_table.specs.Joins.{IsJoinAt}
+use Rattle.tile_table.specs.declared.desk.Desk.{Desk}
+use Rattle.tile_table.specs.declared.join.JoinLanes.{JoinLanes}
+use Rattle.tile_table.specs.declared.table.Row.{Row}
 use Rattle.tile_core.specs.Plans.{places_in, walk_shape}
 use Rattle.tile_core.specs.Ranks.{place_in}
 use Rattle.tile_core.specs.Strands.{IsRound}

@@ -8,7 +8,7 @@ use Rattle.loop_tree.specs.Tree.{Bound, Bounds, only, besides, Test, Tree, loop,
 use Rattle.form_text.specs.Reading.{strip, when}
 use Rattle.c_printer.specs.Forms.{loop_name, names_in, spread}
 use Rattle.c_printer.specs.Nodes.{indent}
-use Rattle.standings.specs.Standings.{Standing}
+use Rattle.scop_syntax.specs.Standings.{Standing}
 use Rattle.c_printer.specs.Naming.{iterators_of}
 use Rattle.c_printer.specs.Statements.{statement_text}
 use Rattle.c_printer.specs.Reading.{is_narrow, turned_back, quotient, quotients, read_turn, read_lower, read_upper}

@@ -7,7 +7,7 @@ use Rattle.scop_syntax.specs.Execution.{IsCell, cell_number}
 use Rattle.scop_syntax.specs.Values.{wrapped}
 use Rattle.scop_syntax.specs.Walk.{Visit}
 use Rattle.scop_syntax.specs.Writers.{last_of, last_writer}
-use Rattle.stmt_table.specs.declared.table.Row.{Row}
+use Rattle.tile_table.specs.declared.table.Row.{Row}
 use Rattle.expansions.specs.Expansions.{number_of}
 use Rattle.expansions.specs.declared.sourcing.Pass.{Pass}
 

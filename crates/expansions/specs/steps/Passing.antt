@@ -4,9 +4,9 @@ use Rattle.scop_syntax.specs.Execution.{IsInside, layout}
 use Rattle.scop_syntax.specs.Limits.{WithinLimits}
 use Rattle.scop_syntax.specs.Tree.{Program}
 use Rattle.scop_syntax.specs.Walk.{Instance, instance, walk_of}
-use Rattle.stmt_table.specs.Tables.{IsTableOf}
-use Rattle.stmt_table.specs.declared.table.Row.{Row}
-use Rattle.stmt_table.specs.declared.table.Table.{Table}
+use Rattle.tile_table.specs.Tables.{IsTableOf}
+use Rattle.tile_table.specs.declared.table.Row.{Row}
+use Rattle.tile_table.specs.declared.table.Table.{Table}
 use Rattle.expansions.specs.Expansions.{AreSourcesOf}
 use Rattle.expansions.specs.steps.Marks.{AreKept}
 use Rattle.expansions.specs.declared.sourcing.Pass.{Pass}

@@ -2,18 +2,18 @@
 use Rattle.std.specs.Prelude.{◌≡◌, ℤ, true, false, List, [], All, MatchOption, Option, None, Some, is_some, ⊤}
 use Rattle.scop_syntax.specs.Limits.{HasParameters}
 use Rattle.scop_syntax.specs.Tree.{Program}
-use Rattle.kernel_plans.specs.Flow.{IsResolved}
-use Rattle.kernel_plans.specs.SourceStop.{SourceStop}
-use Rattle.kernel_runs.specs.Expansions.{AreSourcesOf}
+use Rattle.plan_search.specs.Flow.{IsResolved}
+use Rattle.plan_search.specs.SourceStop.{SourceStop}
+use Rattle.tile_runs.specs.Expansions.{AreSourcesOf}
 use Rattle.loop_tree.specs.TilingView.{tiling_of}
 use Rattle.loop_tree.specs.View.{trees_in}
 use Rattle.loop_tree.specs.Walk.{visits}
-use Rattle.kernel_plans.specs.UnexpandedLine.{UnexpandedLine}
+use Rattle.plan_search.specs.UnexpandedLine.{UnexpandedLine}
 use Rattle.command_line.specs.declared.command.RunOptions.{RunOptions}
-use Rattle.kernel_plans.specs.Planned.{AreSourcesTold, added_in}
-use Rattle.kernel_plans.specs.ReadSource.{ReadSource}
-use Rattle.kernel_plans.specs.Trees.{AreFlowTreesOf, AreTreesOf}
-use Rattle.kernel_plans.specs.Tiles.{CanTile}
+use Rattle.plan_search.specs.Planned.{AreSourcesTold, added_in}
+use Rattle.plan_search.specs.ReadSource.{ReadSource}
+use Rattle.plan_search.specs.Trees.{AreFlowTreesOf, AreTreesOf}
+use Rattle.plan_search.specs.Tiles.{CanTile}
 use Rattle.polypar.specs.Expanding.{GoesBy, IsSetAside, first_unresolved, line_of_stop, marks_by}
 use Rattle.polypar.specs.declared.expanding.Course.{Course}
 use Rattle.polypar.specs.declared.expanding.Expansion.{Expansion}

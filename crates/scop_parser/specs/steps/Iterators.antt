@@ -1,7 +1,7 @@
 -- What holds of the iterators of a program's loops, and of the names in scope where they are taken.
 use Rattle.std.specs.Prelude.{◌≡◌, true, ℕ, ◌+◌, List, slice_get, Some, All, ⊤}
-use Rattle.expression_grammar.specs.Token.TheVariants.{Name}
-use Rattle.kernel_grammar.specs.Kernel.{Element, spelled}
+use Rattle.scop_expressions.specs.Token.TheVariants.{Name}
+use Rattle.scop_grammar.specs.Kernel.{Element, spelled}
 use Rattle.scop_lexer.specs.Bytes.{Text}
 use Rattle.scop_lexer.specs.Words.{IsName}
 use Rattle.scop_syntax.specs.Tree.{Tree, loop, guard, statement, Trees, none, more}

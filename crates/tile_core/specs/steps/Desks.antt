@@ -3,9 +3,9 @@ use Rattle.std.specs.Prelude.{◌≡◌, ◌≤◌, ℕ, ℤ, List, length, slic
 use Rattle.whole_numbers.specs.Affine.{Affine, value_of}
 use Rattle.scop_syntax.specs.Values.{wrapped}
 use Rattle.scop_syntax.specs.Walk.{Instance}
-use Rattle.stmt_table.specs.Desks.{HasRoom, HasSameRoom, IsLaid}
-use Rattle.stmt_table.specs.declared.desk.Desk.{Desk}
-use Rattle.stmt_table.specs.declared.table.Row.{Row}
+use Rattle.tile_table.specs.Desks.{HasRoom, HasSameRoom, IsLaid}
+use Rattle.tile_table.specs.declared.desk.Desk.{Desk}
+use Rattle.tile_table.specs.declared.table.Row.{Row}
 use Rattle.tile_core.specs.Plans.{plain_shape}
 use Rattle.tile_core.specs.Rows.{IsRowAt}
 use Rattle.tile_core.specs.declared.plan.Plan.{Plan}

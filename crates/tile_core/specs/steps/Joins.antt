@@ -1,9 +1,9 @@
 -- The lanes of a join at an instance of a plan, and at the first of some that go on by equal steps.
 use Rattle.std.specs.Prelude.{◌≡◌, ◌+◌, ◌<◌, ◌≤◌, ℕ, ℤ, List, length}
 use Rattle.scop_syntax.specs.Walk.{Instance}
-use Rattle.stmt_table.specs.Joins.{IsJoinAt}
-use Rattle.stmt_table.specs.declared.join.JoinLanes.{JoinLanes}
-use Rattle.stmt_table.specs.declared.table.Row.{Row}
+use Rattle.tile_table.specs.Joins.{IsJoinAt}
+use Rattle.tile_table.specs.declared.join.JoinLanes.{JoinLanes}
+use Rattle.tile_table.specs.declared.table.Row.{Row}
 use Rattle.tile_core.specs.Plans.{places_in, plain_shape}
 use Rattle.tile_core.specs.Ranks.{place_in}
 use Rattle.tile_core.specs.Rows.{IsRowAt}

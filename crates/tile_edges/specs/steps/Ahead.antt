@@ -12,8 +12,8 @@ use Rattle.loop_tree.specs.Tiling.{Tiling}
 use Rattle.loop_tree.specs.Tree.{Trees}
 use Rattle.loop_tree.specs.declared.spot.Spot.{Spot}
 use Rattle.loop_tree.specs.declared.stretch.Stretch.{Stretch}
-use Rattle.stmt_table.specs.Desks.{HasRoomForAll}
-use Rattle.stmt_table.specs.declared.table.Table.{Table}
+use Rattle.tile_table.specs.Desks.{HasRoomForAll}
+use Rattle.tile_table.specs.declared.table.Table.{Table}
 use Rattle.tile_list.specs.declared.list.TileList.{TileList}
 use Rattle.tile_edges.specs.Edges.{IsTileOf}
 use Rattle.tile_edges.specs.steps.Finding.{IsFinder}

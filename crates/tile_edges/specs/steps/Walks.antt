@@ -6,15 +6,15 @@ use Rattle.scop_syntax.specs.Tree.{Program}
 use Rattle.scop_syntax.specs.Values.{wrapped}
 use Rattle.scop_syntax.specs.Walk.{Instance, instance, walk_of}
 use Rattle.loop_tree.specs.Tiling.{Tiling}
-use Rattle.stmt_table.specs.declared.table.Row.{Row}
+use Rattle.tile_table.specs.declared.table.Row.{Row}
 use Rattle.tile_list.specs.declared.list.TileList.{TileList}
 use Rattle.tile_events.specs.Flat.{read_by, value_by, written_by}
 use Rattle.tile_events.specs.Plan.{Plan, waves}
 use Rattle.scop_syntax.specs.Execution.{IsInside}
 use Rattle.scop_syntax.specs.Limits.{WithinLimits}
 use Rattle.scop_syntax.specs.Members.{In}
-use Rattle.stmt_table.specs.Tables.{IsTableOf}
-use Rattle.stmt_table.specs.declared.table.Table.{Table}
+use Rattle.tile_table.specs.Tables.{IsTableOf}
+use Rattle.tile_table.specs.declared.table.Table.{Table}
 use Rattle.tile_list.specs.Tiles.{HasSize, RowsFit}
 use Rattle.tile_edges.specs.Edges.{Holds, IsTileOf}
 use Rattle.tile_edges.specs.steps.Finding.{FirstsFit, HasTileOf, TilesRise}

@@ -7,7 +7,7 @@ use Rattle.form_text.specs.Reading.{strip, when}
 use Rattle.c_printer.specs.Reading.{body_at}
 use Rattle.c_printer.specs.View.{node_in}
 use Rattle.c_printer.specs.steps.Reading.{place_of}
-use Rattle.standings.specs.Standings.{standings_of}
+use Rattle.scop_syntax.specs.Standings.{standings_of}
 use Rattle.c_printer.proofs.BoundTexts.{placed}
 use Rattle.c_printer.proofs.read_instances.read_instance.Goals as goal
 

@@ -1,6 +1,6 @@
 use Rattle.std.proofs.Common.{◌≡◌, ◌<◌, ◌≤◌, ℕ, Some}
 use Rattle.std.specs.Prelude.{slice_get}
-use Rattle.stmt_table.specs.declared.table.Row.{Row}
+use Rattle.tile_table.specs.declared.table.Row.{Row}
 use Rattle.expansions.proofs.sourcing.most_reads.Given as goal
 
 abbrev pub invariant-loop-row : goal.invariant-loop-row

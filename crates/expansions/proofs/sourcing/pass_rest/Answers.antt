@@ -3,7 +3,7 @@ use Rattle.scop_syntax.specs.View.{instance_of, program_of}
 use Rattle.scop_syntax.specs.Walk.{Instance}
 use Rattle.loop_tree.specs.SpotView.{to_come}
 use Rattle.loop_tree.specs.View.{trees_in}
-use Rattle.stmt_table.proofs.Visits.{WalkLaws}
+use Rattle.tile_table.proofs.Visits.{WalkLaws}
 use Rattle.expansions.specs.steps.Marks.{HasPassed}
 use Rattle.expansions.specs.steps.Passing.{IsOnItsWay}
 use Rattle.expansions.proofs.PassedPlaces.{next_place, place_few, row_some, row_within, step_on}

@@ -1,7 +1,7 @@
 use Rattle.std.proofs.Common.{◌≡◌, ◌∙◌, List, [], refl, rules, subst}
 use Rattle.scop_syntax.specs.View.{program_of}
-use Rattle.stmt_table.specs.declared.table.Row.{Row}
-use Rattle.stmt_table.proofs.Visits.{WalkLaws}
+use Rattle.tile_table.specs.declared.table.Row.{Row}
+use Rattle.tile_table.proofs.Visits.{WalkLaws}
 use Rattle.expansions.specs.steps.Passing.{ReadFew}
 use Rattle.expansions.proofs.PassedPlaces.{all_passed, none_passed}
 use Rattle.expansions.proofs.sourcing.sources_of.Goals as goal

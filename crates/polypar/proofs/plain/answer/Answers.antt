@@ -1,6 +1,6 @@
 -- The words are a command, or none, or there was no memory.
 use Rattle.std.proofs.Common.{Err, ap, inl, inr, refl}
-use Rattle.kernel_plans.specs.Status.TheVariants.{NoMemory, Usage}
+use Rattle.plan_search.specs.Status.TheVariants.{NoMemory, Usage}
 use Rattle.polypar.proofs.EndLemmas.{command_ends, none_ends}
 use Rattle.polypar.proofs.plain.answer.Goals as goal
 

@@ -1,7 +1,7 @@
 -- An input that was read is answered, and one that was not read is answered too.
 use Rattle.std.proofs.Common.{◌≡◌, Err, None, ap, subst, sym}
 use Rattle.io_ports.specs.Bytes.{IsAllOf}
-use Rattle.kernel_plans.specs.Status.TheVariants.{NoMemory}
+use Rattle.plan_search.specs.Status.TheVariants.{NoMemory}
 use Rattle.polypar.specs.Deserves.{too_long}
 use Rattle.polypar.proofs.AnswerLemmas.{long_input, some_input}
 use Rattle.polypar.proofs.EndLemmas.{broken_ends, input_ends, unread_ends}

@@ -1,6 +1,6 @@
 use Rattle.std.proofs.Common.{rules, ◌≤◌, ◌^◌, ◌++◌, List, length, subst, sym, ap, ◌∙◌}
-use Rattle.kernel_grammar.specs.Kernel.{Piece}
-use Rattle.kernel_grammar.specs.Turns.{pieces_of}
+use Rattle.scop_grammar.specs.Kernel.{Piece}
+use Rattle.scop_grammar.specs.Turns.{pieces_of}
 use Rattle.scop_pass.specs.Machine.{first_state, run}
 use Rattle.scop_pass.specs.Passing.{ComeNext, state_of}
 use Rattle.scop_units.specs.View.{words_in}

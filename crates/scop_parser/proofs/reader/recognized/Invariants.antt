@@ -1,6 +1,6 @@
 -- The reader stands behind the tokens so far.
 use Rattle.std.proofs.Common.{List}
-use Rattle.kernel_grammar.specs.Kernel.{Piece}
+use Rattle.scop_grammar.specs.Kernel.{Piece}
 use Rattle.scop_units.specs.View.{tokens_in}
 use Rattle.scop_units.specs.Words.{grammar_tokens}
 use Rattle.scop_parser.proofs.TokenFeed.{Fed}

@@ -1,5 +1,5 @@
 use Rattle.std.proofs.Common.{◌∙◌, sym, ap}
-use Rattle.kernel_grammar.specs.Kernel.{kernel_elements}
+use Rattle.scop_grammar.specs.Kernel.{kernel_elements}
 use Rattle.scop_roles.specs.Faults.{first}
 use Rattle.scop_pass.proofs.Kernels.{run-faults}
 use Rattle.scop_pass.proofs.FaultOrder.{first-stays}

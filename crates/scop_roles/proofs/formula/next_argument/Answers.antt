@@ -1,6 +1,6 @@
 use Rattle.std.proofs.Common.{rules, ◌≡◌, [], ◌∷◌, ◌++◌, map, fold, ap, ap₂, ◌∙◌}
 use Rattle.std.specs.Box.{with_value}
-use Rattle.expression_grammar.specs.Op.TheVariants as op
+use Rattle.scop_expressions.specs.Op.TheVariants as op
 use Rattle.scop_roles.specs.Formula.{argument_of, formula_of, binary, with_argument}
 use Rattle.scop_roles.proofs.Views.{formula_commas}
 use Rattle.scop_roles.proofs.Chains.{made_more}

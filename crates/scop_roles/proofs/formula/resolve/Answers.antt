@@ -1,9 +1,9 @@
 use Rattle.std.proofs.Common.{rules, ◌<◌, ◌≤◌, [], length, fold, ap, sym, subst, ◌∙◌, arith}
 use Rattle.std.proofs.lemmas.List.{drop_all}
-use Rattle.expression_grammar.specs.Tree.{size}
-use Rattle.expression_grammar.specs.declared.node.Node.TheVariants as node
-use Rattle.expression_grammar.specs.Base.TheVariants as base
-use Rattle.expression_grammar.specs.Suffix.TheVariants as suffix
+use Rattle.scop_expressions.specs.Tree.{size}
+use Rattle.scop_expressions.specs.declared.node.Node.TheVariants as node
+use Rattle.scop_expressions.specs.Base.TheVariants as base
+use Rattle.scop_expressions.specs.Suffix.TheVariants as suffix
 use Rattle.scop_roles.specs.Resolving.{built, held, top}
 use Rattle.scop_roles.proofs.FormulaStack.{AreBelow, place_below, places_below, read_next}
 use Rattle.scop_roles.proofs.formula.resolve.Goals as goal

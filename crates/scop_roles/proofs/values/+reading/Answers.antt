@@ -1,5 +1,5 @@
 use Rattle.std.proofs.Common.{◌≡◌, [], ◌∷◌, ◌++◌, map, fold, ap, sym, subst, ◌∙◌, refl, arith}
-use Rattle.expression_grammar.specs.Op.TheVariants as op
+use Rattle.scop_expressions.specs.Op.TheVariants as op
 use Rattle.scop_roles.specs.Formula.{argument_of, formula_of, place, with_argument}
 use Rattle.scop_roles.specs.Values.{read_places}
 use Rattle.scop_roles.proofs.Views.{formula_index, formula_unary, formula_cast, formula_commas, formula_binary}

@@ -1,5 +1,5 @@
 use Rattle.std.proofs.Common.{rules, ◌≡◌, ◌≤◌, ◌∙◌, ◌+◌, ℕ, List, ap, arith, length, subst, suc}
-use Rattle.stmt_table.specs.Joins.{IsJoinAt}
+use Rattle.tile_table.specs.Joins.{IsJoinAt}
 use Rattle.tile_core.specs.Plans.{plain_shape}
 use Rattle.tile_core.specs.Stretches.{moved, turns_on}
 use Rattle.tile_core.specs.steps.Acts.{after_instances, after_place}

@@ -1,7 +1,7 @@
 use Rattle.std.proofs.Common.{◌≡◌, ℕ, ℤ, List}
 use Rattle.scop_syntax.specs.Walk.{Instance}
-use Rattle.stmt_table.specs.Joins.{IsJoinAt}
-use Rattle.stmt_table.specs.declared.table.Row.{Row}
+use Rattle.tile_table.specs.Joins.{IsJoinAt}
+use Rattle.tile_table.specs.declared.table.Row.{Row}
 use Rattle.tile_core.specs.Plans.{plain_shape}
 use Rattle.tile_core.specs.Stretches.{turns_on}
 use Rattle.tile_core.specs.declared.plan.Plan.{Plan}

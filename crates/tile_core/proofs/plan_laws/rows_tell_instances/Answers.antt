@@ -1,4 +1,4 @@
-use Rattle.stmt_table.proofs.Visits.{WalkLaws}
+use Rattle.tile_table.proofs.Visits.{WalkLaws}
 use Rattle.tile_core.specs.Plans.{extents_in, program_in}
 use Rattle.tile_core.proofs.Rows.{row_tells, row_within}
 use Rattle.tile_core.proofs.plan_laws.rows_tell_instances.Goals as goal

@@ -1,8 +1,8 @@
 use Rattle.std.proofs.Common.{rules, ◌≡◌, ◌≤◌, ◌∙◌, ◌+◌, ℕ, ℤ, List, ap, arith, length, subst, suc, take}
 use Rattle.scop_syntax.specs.View.{instance_of}
-use Rattle.stmt_table.specs.Desks.{IsLaid}
-use Rattle.stmt_table.proofs.Desks.{room_stays, same_room_chain}
-use Rattle.stmt_table.specs.Joins.{IsJoinAt}
+use Rattle.tile_table.specs.Desks.{IsLaid}
+use Rattle.tile_table.proofs.Desks.{room_stays, same_room_chain}
+use Rattle.tile_table.specs.Joins.{IsJoinAt}
 use Rattle.tile_core.specs.Plans.{plain_shape}
 use Rattle.tile_core.specs.Stretches.{moved, turns_on}
 use Rattle.tile_core.specs.declared.worker.Worker.{Worker}

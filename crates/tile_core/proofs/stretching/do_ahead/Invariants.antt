@@ -1,7 +1,7 @@
 use Rattle.std.proofs.Common.{◌≡◌, ℕ, Some, take}
 use Rattle.scop_syntax.specs.View.{instance_of}
 use Rattle.scop_syntax.specs.declared.instance.Instance.{Instance}
-use Rattle.stmt_table.specs.Desks.{HasSameRoom, IsLaid}
+use Rattle.tile_table.specs.Desks.{HasSameRoom, IsLaid}
 use Rattle.tile_core.specs.Plans.{plain_shape}
 use Rattle.tile_core.specs.Stretches.{turns_on}
 use Rattle.tile_core.specs.declared.worker.Stage.TheVariants.{Working}

@@ -1,6 +1,6 @@
 use Rattle.std.proofs.Common.{rules, ◌≡◌, ◌≤◌, ◌∙◌, ◌+◌, ◌<◌, ℕ, List, ap, arith, get_or, length, suc, take}
 use Rattle.std.specs.Vec.{with_item}
-use Rattle.stmt_table.proofs.Desks.{room_stays_for_all}
+use Rattle.tile_table.proofs.Desks.{room_stays_for_all}
 use Rattle.tile_core.specs.Plans.{plain_shape}
 use Rattle.tile_core.specs.Stretches.{in_round}
 use Rattle.tile_core.specs.declared.worker.Worker.{Worker}

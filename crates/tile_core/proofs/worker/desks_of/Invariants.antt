@@ -1,6 +1,6 @@
 use Rattle.std.proofs.Common.{◌≡◌, length}
 use Rattle.std.specs.Prelude.{All}
-use Rattle.stmt_table.specs.Desks.{HasRoomForAll}
+use Rattle.tile_table.specs.Desks.{HasRoomForAll}
 use Rattle.tile_core.proofs.worker.desks_of.Given as goal
 
 abbrev pub invariant-loop : goal.invariant-loop

@@ -3,8 +3,8 @@ use Rattle.scop_syntax.specs.View.{instance_of, program_of}
 use Rattle.loop_tree.specs.SpotView.{to_come}
 use Rattle.loop_tree.specs.TilingView.{tiling_of}
 use Rattle.loop_tree.specs.View.{trees_in}
-use Rattle.stmt_table.specs.Desks.{HasRoomForAll}
-use Rattle.stmt_table.proofs.Visits.{WalkLaws}
+use Rattle.tile_table.specs.Desks.{HasRoomForAll}
+use Rattle.tile_table.proofs.Visits.{WalkLaws}
 use Rattle.tile_edges.specs.steps.Walks.{cells_at}
 use Rattle.tile_edges.proofs.PassedPlaces.{can_take, cells_told, found_all, found_many, next_place, next_walked}
 use Rattle.tile_edges.proofs.PassedPlaces.{row_within, step_on}

@@ -1,7 +1,7 @@
 use Rattle.std.proofs.Common.{◌≡◌, ℤ, List, map, take}
 use Rattle.whole_numbers.specs.Affine.{value_of}
 use Rattle.scop_syntax.specs.Values.{wrapped}
-use Rattle.stmt_table.specs.Desks.{IsLaid}
+use Rattle.tile_table.specs.Desks.{IsLaid}
 use Rattle.tile_edges.proofs.walking.put_laid.Given as goal
 
 abbrev pub invariant-loop-access : goal.invariant-loop-access

@@ -2,9 +2,9 @@ use Rattle.std.proofs.Common.{◌≡◌, ◌∙◌, ◌+◌, arith, refl, rules,
 use Rattle.scop_syntax.specs.View.{program_of}
 use Rattle.loop_tree.specs.TilingView.{tiling_of}
 use Rattle.loop_tree.specs.View.{trees_in}
-use Rattle.stmt_table.specs.Desks.{IsLaid}
-use Rattle.stmt_table.proofs.Desks.{room_stays, room_stays_for_all}
-use Rattle.stmt_table.proofs.Visits.{WalkLaws}
+use Rattle.tile_table.specs.Desks.{IsLaid}
+use Rattle.tile_table.proofs.Desks.{room_stays, room_stays_for_all}
+use Rattle.tile_table.proofs.Visits.{WalkLaws}
 use Rattle.tile_edges.specs.steps.Ahead.{steps_in, to_come_on, turns_in}
 use Rattle.tile_edges.specs.steps.Walks.{IsOnItsWay}
 use Rattle.tile_edges.proofs.Ahead.{can_ahead, first_to_come, gone_ahead, row_ahead}

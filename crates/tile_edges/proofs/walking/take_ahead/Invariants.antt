@@ -2,7 +2,7 @@ use Rattle.std.proofs.Common.{◌≡◌}
 use Rattle.scop_syntax.specs.View.{program_of}
 use Rattle.loop_tree.specs.TilingView.{tiling_of}
 use Rattle.loop_tree.specs.View.{trees_in}
-use Rattle.stmt_table.specs.Desks.{HasRoomForAll, IsLaid}
+use Rattle.tile_table.specs.Desks.{HasRoomForAll, IsLaid}
 use Rattle.tile_edges.specs.steps.Ahead.{steps_in, to_come_on, turns_in}
 use Rattle.tile_edges.specs.steps.Walks.{IsOnItsWay}
 use Rattle.tile_edges.proofs.walking.take_ahead.Given as goal

@@ -1,6 +1,6 @@
 use Rattle.std.proofs.Common.{ℤ, List, [], subst}
 use Rattle.array_words.specs.Seats.{IsSeat}
-use Rattle.stmt_table.specs.Joins.{IsJoinAt}
+use Rattle.tile_table.specs.Joins.{IsJoinAt}
 use Rattle.tile_core.specs.Views.{done_at, tile_at}
 use Rattle.tile_core.specs.declared.worker.Stage.{Stage}
 use Rattle.tile_runner.proofs.Laid.{here_laid, laid_at_first, laid_on, seat_on, stands}

@@ -1,6 +1,6 @@
 use Rattle.std.proofs.Common.{ℤ, List, arith, subst, take}
 use Rattle.std.proofs.lemmas.Option.{IfSome_then}
-use Rattle.stmt_table.specs.Joins.{IsJoinAt}
+use Rattle.tile_table.specs.Joins.{IsJoinAt}
 use Rattle.tile_core.proofs.Ahead.{walked_ahead}
 use Rattle.tile_runner.proofs.Laid.{ahead_laid}
 use Rattle.tile_runner.proofs.joins.lay_join.Goals as goal

@@ -1,7 +1,7 @@
 use Rattle.std.proofs.Common.{rules, ◌≡◌, ◌∙◌, ◌+◌, ◌<◌, ℕ, [], ap, ap₂, arith, get_or, length, refl, subst, suc}
 use Rattle.std.specs.Vec.{with_item}
 use Rattle.array_words.specs.Seats.{IsSeat}
-use Rattle.stmt_table.proofs.Desks.{room_stays_for_all}
+use Rattle.tile_table.proofs.Desks.{room_stays_for_all}
 use Rattle.tile_core.specs.Stretches.{in_round}
 use Rattle.tile_core.specs.Views.{done_at, tile_at}
 use Rattle.tile_core.specs.declared.worker.Stage.{Stage}

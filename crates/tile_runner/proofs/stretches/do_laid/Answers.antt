@@ -1,7 +1,7 @@
 use Rattle.std.proofs.Common.{◌≡◌, ◌∙◌, ℕ, ap, arith, subst, sym, take}
 use Rattle.array_words.specs.Loads.{IsNextRead}
 use Rattle.array_words.specs.Stores.{IsNextLast}
-use Rattle.stmt_table.specs.Codes.{value_by}
+use Rattle.tile_table.specs.Codes.{value_by}
 use Rattle.tile_core.specs.Passes.{walk_in}
 use Rattle.tile_core.specs.declared.worker.Stage.{Stage}
 use Rattle.tile_runner.specs.Laid.{IsOnDesk}

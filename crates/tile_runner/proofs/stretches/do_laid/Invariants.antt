@@ -1,6 +1,6 @@
 use Rattle.std.proofs.Common.{◌≡◌, ℤ, List, length, take}
 use Rattle.array_words.specs.Seats.{IsSeat}
-use Rattle.stmt_table.specs.Desks.{HasSameRoom, IsLaid}
+use Rattle.tile_table.specs.Desks.{HasSameRoom, IsLaid}
 use Rattle.tile_runner.proofs.stretches.do_laid.Given as goal
 
 abbrev pub invariant-loop-read : goal.invariant-loop-read

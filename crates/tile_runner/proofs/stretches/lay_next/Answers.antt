@@ -1,6 +1,6 @@
 use Rattle.std.proofs.Common.{List, ℤ, subst, take}
-use Rattle.stmt_table.specs.Desks.{IsLaid}
-use Rattle.stmt_table.proofs.Desks.{room_stays}
+use Rattle.tile_table.specs.Desks.{IsLaid}
+use Rattle.tile_table.proofs.Desks.{room_stays}
 use Rattle.tile_runner.specs.Laid.{IsOnDesk}
 use Rattle.tile_runner.proofs.Laid.{ahead_laid}
 use Rattle.tile_runner.proofs.stretches.lay_next.Goals as goal

@@ -1,9 +1,9 @@
 use Rattle.std.proofs.Common.{rules, ◌+◌, ◌≤◌, ◌++◌, List, length, take, drop, sym, ap, ◌∙◌}
 use Rattle.std.proofs.lemmas.List.{take_all}
 use Rattle.std.proofs.lemmas.Result.{err_from_is_err_and}
-use Rattle.kernel_grammar.specs.declared.part.Part.{Part}
-use Rattle.kernel_grammar.specs.Kernel.{kernel_elements, pieces}
-use Rattle.kernel_grammar.specs.Turns.{piece_of, pieces_of}
+use Rattle.scop_grammar.specs.declared.part.Part.{Part}
+use Rattle.scop_grammar.specs.Kernel.{kernel_elements, pieces}
+use Rattle.scop_grammar.specs.Turns.{piece_of, pieces_of}
 use Rattle.scop_pass.specs.Machine.{run}
 use Rattle.scop_pass.specs.Passing.{state_of}
 use Rattle.scop_units.specs.View.{words_in}

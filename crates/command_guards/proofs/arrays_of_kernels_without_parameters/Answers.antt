@@ -1,7 +1,0 @@
-use Rattle.std.proofs.Common.{[]}
-use Rattle.command_guards.proofs.arrays_of_kernels_without_parameters.Goals as goal
-
-pub returns : goal.returns
-returns c =
-    λ text program contents spelled limits shape cells widths.
-    c.printed_arrays_are_data.ensures text program [] contents spelled limits shape cells widths

@@ -1,6 +1,0 @@
-use Rattle.report_text.specs.declared.status.Status.TheVariants.{Done}
-use Rattle.command_guards.proofs.lines_of_checks.Goals as goal
-
-pub returns : goal.returns
-returns c = λ words left out lines has is.
-    c.only_plans_have_lines.ensures.check words left Done out out lines has is

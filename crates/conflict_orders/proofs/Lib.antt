@@ -1,5 +1,0 @@
-pub mod Precedence
-pub mod SortedLists
-mod Commutation
-mod SameContents
-mod CoverOrders

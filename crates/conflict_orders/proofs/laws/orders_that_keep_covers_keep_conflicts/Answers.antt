@@ -1,6 +1,0 @@
-use Rattle.conflict_orders.proofs.CoverOrders.{conflicts_are_kept}
-use Rattle.conflict_orders.proofs.laws.orders_that_keep_covers_keep_conflicts.Goals as goal
-
-pub returns : goal.returns
-returns c visits order =
-    conflicts_are_kept visits order (c.conflicts_are_chains_of_covers.ensures.closure visits)

@@ -1,0 +1,15 @@
+use Rattle.std.proofs.Common.{ap, length, sym, []}
+use Rattle.contract_callers.proofs.conflicts.later_writers_of_kernels_without_parameters.Goals as goal
+
+pub returns-clause-points : goal.returns-clause-points
+returns-clause-points c = λ program k j u w b cell none touches writes.
+    let size = sym (ap length none) in
+    let found = c.later_writers_are_points.ensures.points program [] k j u w b cell size tt touches writes in
+    (found.0, found.1)
+
+pub returns-clause-writers : goal.returns-clause-writers
+returns-clause-writers c = λ program j w b cell dep xs is none touches point end write.
+    let size = sym (ap length none) in
+    let writers = c.later_writers_are_points.ensures.writers program [] j w b cell dep xs in
+    let found = writers is size touches point end write in
+    (found.0, found.1, found.2)

@@ -1,5 +1,0 @@
-use Rattle.std.proofs.lemmas.Result.{IfOk-weaker}
-use Rattle.contract_guards.proofs.graphs.numbers_of_statements.Goals as goal
-
-pub returns : goal.returns
-returns c = IfOk-weaker c.components.result _ _ (λ numbers are. are.size) c.components.ensures

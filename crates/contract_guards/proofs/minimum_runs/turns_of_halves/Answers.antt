@@ -1,7 +1,0 @@
-use Rattle.contract_guards.specs.Halves.{doubled, five}
-use Rattle.std.proofs.Common.{refl}
-use Rattle.contract_guards.proofs.minimum_runs.turns_of_halves.Goals as goal
-
-pub returns : goal.returns
-returns c = λ budget left tree run.
-    c.turns_of_runs_can_be_told.ensures budget 1 1 doubled five tree left (refl, tt) (refl, (refl, tt)) run

@@ -1,9 +1,0 @@
-use Rattle.std.proofs.lemmas.Result.{IfOk-weaker}
-use Rattle.contract_guards.proofs.nodes.split.Goals as goal
-
-pub returns-clause-again : goal.returns-clause-again
-returns-clause-again c = λ wide stopped. (c.split.ensures.again wide stopped).0
-
-pub returns-clause-solutions : goal.returns-clause-solutions
-returns-clause-solutions c = λ going is.
-    IfOk-weaker c.split.result _ _ (λ move keeps. keeps.0) (c.split.ensures.solutions going is)

@@ -1,6 +1,0 @@
-use Rattle.std.proofs.Common.{[], ◌∷◌, pos, refl}
-use Rattle.contract_guards.proofs.number_lists.lists_behind_two_numbers.Goals as goal
-
-pub returns : goal.returns
-returns c = λ x us.
-    c.lexicographic_order_is_decided_by_a_prefix.ensures (pos 1 ∷ x ∷ []) (pos 1 ∷ pos 2 ∷ []) us (pos 3 ∷ []) refl

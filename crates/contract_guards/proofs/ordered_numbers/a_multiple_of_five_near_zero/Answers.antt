@@ -1,6 +1,0 @@
-use Rattle.std.proofs.Common.{arith, pos}
-use Rattle.std.proofs.lemmas.Int.{ints}
-use Rattle.contract_guards.proofs.ordered_numbers.a_multiple_of_five_near_zero.Goals as goal
-
-pub returns : goal.returns
-returns c = λ w. c.multiples_below_a_divisor.ensures (pos 5) w (omega (arith, ints))

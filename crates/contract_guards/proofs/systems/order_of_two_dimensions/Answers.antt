@@ -1,5 +1,0 @@
-use Rattle.std.proofs.Common.{[], ◌∷◌, refl}
-use Rattle.contract_guards.proofs.systems.order_of_two_dimensions.Goals as goal
-
-pub returns : goal.returns
-returns c = λ v w x y. c.prefix_decides_the_order.ensures 1 (v ∷ x ∷ []) (w ∷ y ∷ []) refl

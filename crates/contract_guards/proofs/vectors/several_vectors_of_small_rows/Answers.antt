@@ -1,5 +1,0 @@
-use Rattle.std.proofs.Common.{arith}
-use Rattle.contract_guards.proofs.vectors.several_vectors_of_small_rows.Goals as goal
-
-pub returns : goal.returns
-returns c = λ n rows few. c.several_kernel_vectors_are_small.ensures 1 n rows few (omega arith)

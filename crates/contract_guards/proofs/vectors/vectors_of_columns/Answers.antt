@@ -1,6 +1,0 @@
-use Rattle.std.proofs.lemmas.Result.{IfOk-weaker}
-use Rattle.contract_guards.proofs.vectors.vectors_of_columns.Goals as goal
-
-pub returns : goal.returns
-returns c = IfOk-weaker c.kernel_vectors.result _ _
-    (λ vectors are. (are.columns, are.each)) c.kernel_vectors.ensures.are

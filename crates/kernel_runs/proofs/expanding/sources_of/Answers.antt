@@ -1,9 +1,0 @@
-use Rattle.std.proofs.Common.{List, ℤ, subst, sym}
-use Rattle.scop_syntax.specs.Execution.{IsInside}
-use Rattle.scop_syntax.specs.View.{program_of}
-use Rattle.kernel_runs.proofs.expanding.sources_of.Goals as goal
-
-pub source_places-requires-clause-inside : goal.source_places-requires-clause-inside
-source_places-requires-clause-inside c =
-    subst (λ (ps : List ℤ). IsInside (program_of c.args.kernel.now) ps) (sym c.deref-in-Ok.ensures.value)
-    c.requires.inside

@@ -1,0 +1,5 @@
+use Rattle.std.proofs.Common.{[], refl}
+use Rattle.planner_callers.proofs.loop_trees.visits_any.Goals as goal
+
+pub returns : goal.returns
+returns c = c.walk.ensures [] (λ _. refl)

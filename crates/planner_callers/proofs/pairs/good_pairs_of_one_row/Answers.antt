@@ -1,0 +1,17 @@
+use Rattle.std.proofs.Common.{◌≡◌, ◌∷◌, [], false, arith, inl, inr}
+use Rattle.std.proofs.lemmas.Int.{ints}
+use Rattle.std.specs.Prelude.{◌⊎◌, ◌<ℤ◌}
+use Rattle.scop_syntax.specs.Walk.{Instance}
+use Rattle.schedule_rows.specs.Bands.{Along}
+use Rattle.schedule_rows.specs.Items.{Row, band, phi}
+use Rattle.planner_callers.proofs.pairs.good_pairs_of_one_row.Goals as goal
+
+along : (r : Row) (x y : Instance) → x.number ≡ y.number → (phi r x <ℤ phi r y) ⊎ (phi r x ≡ phi r y)
+    → Along (band (record { row = r; parallel = false } ∷ []) ∷ []) x y (x.number ≡ y.number)
+along r x y one (inl less) = ((omega (arith, ints, less), (λ e. absurd cc), tt), inl (inl less))
+along r x y one (inr equal) = ((omega (arith, ints, equal), (λ e. absurd cc), tt), inr ((equal, tt), one))
+
+pub returns : goal.returns
+returns c = λ size n r x y positive one turns less kept.
+    c.parts_that_do_not_fall_make_good_pairs.ensures size (band (record { row = r; parallel = false } ∷ []) ∷ []) n x y
+    positive (λ _. turns) (λ _. less) (along r x y one kept)

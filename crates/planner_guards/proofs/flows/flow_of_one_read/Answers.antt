@@ -1,9 +1,0 @@
-use Rattle.std.proofs.Common.{◌∙◌}
-use Rattle.std.proofs.lemmas.Result.{IfOk-weaker}
-use Rattle.planner_guards.proofs.OneRead.{leaves_of}
-use Rattle.planner_guards.proofs.flows.flow_of_one_read.Goals as goal
-
-pub returns : goal.returns
-returns c = IfOk-weaker c.flow.result _ _
-    (λ v deps reader quast one told. deps ∙ leaves_of c.args.model.now reader quast c.args.sources.now one told)
-    c.flow.ensures.deps

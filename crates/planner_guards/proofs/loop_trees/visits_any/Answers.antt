@@ -1,5 +1,0 @@
-use Rattle.std.proofs.Common.{[], refl}
-use Rattle.planner_guards.proofs.loop_trees.visits_any.Goals as goal
-
-pub returns : goal.returns
-returns c = c.walk.ensures [] (λ _. refl)

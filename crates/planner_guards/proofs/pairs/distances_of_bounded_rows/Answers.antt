@@ -1,5 +1,0 @@
-use Rattle.std.proofs.Common.{[]}
-use Rattle.planner_guards.proofs.pairs.distances_of_bounded_rows.Goals as goal
-
-pub returns : goal.returns
-returns c = λ d r x y suits bounded relates. c.farkas_rows_bound_distances.ensures d r [] x y suits bounded relates

@@ -1,5 +1,0 @@
-use Rattle.std.proofs.Common.{[], refl}
-use Rattle.planner_guards.proofs.pairs.legal_rows_do_not_fall.Goals as goal
-
-pub returns : goal.returns
-returns c = λ d r x y suits legal relates. c.farkas_rows_do_not_fall.ensures 0 d r suits legal [] x y refl relates

@@ -1,5 +1,0 @@
-use Rattle.std.proofs.Common.{[], ◌∷◌}
-use Rattle.planner_guards.proofs.pairs.pairs_along_one_block.Goals as goal
-
-pub returns : goal.returns
-returns c = λ block x z y first second. c.kept_pairs_chain.ensures (block ∷ []) x z y first second

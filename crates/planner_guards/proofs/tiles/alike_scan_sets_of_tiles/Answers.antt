@@ -1,5 +1,0 @@
-use Rattle.std.proofs.Common.{pos}
-use Rattle.planner_guards.proofs.tiles.alike_scan_sets_of_tiles.Goals as goal
-
-pub returns : goal.returns
-returns c = λ blocks model x y. c.scan_sets_are_alike.ensures (pos 1) blocks model x y

@@ -1,6 +1,0 @@
-use Rattle.std.proofs.Common.{[]}
-use Rattle.planner_guards.proofs.writers.resolved_reads_in_kernels_without_parameters.Goals as goal
-
-pub returns : goal.returns
-returns c = λ program j w access cell budget u has touches run.
-    c.resolved_reads_have_their_last_writer.ensures program [] j w access cell budget u has touches run

@@ -1,5 +1,0 @@
-use Rattle.source_arithmetic.proofs.Commas.{no_comma}
-use Rattle.source_arithmetic.proofs.laws.commas_stand_in_calls.Goals as goal
-
-pub returns : goal.returns
-returns c look at t is = no_comma look at t is.brackets is.rank

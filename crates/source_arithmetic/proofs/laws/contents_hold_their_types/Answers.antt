@@ -1,5 +1,0 @@
-use Rattle.source_arithmetic.proofs.ContentTypes.{contents_typed}
-use Rattle.source_arithmetic.proofs.laws.contents_hold_their_types.Goals as goal
-
-pub returns : goal.returns
-returns c words s at t p extents contents names hold = contents_typed words s at t p extents contents names hold

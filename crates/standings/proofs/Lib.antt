@@ -1,4 +1,0 @@
-pub mod GatheredStatements
-pub mod Heads
-pub mod Marked
-pub mod NamedArrays

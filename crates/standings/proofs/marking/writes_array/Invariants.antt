@@ -1,8 +1,0 @@
-use Rattle.std.proofs.Common.{◌≡◌, drop}
-use Rattle.scop_syntax.specs.Reductions.{is_written}
-use Rattle.standings.specs.View.{bodies_of}
-use Rattle.standings.proofs.marking.writes_array.Given as goal
-
-abbrev pub invariant-loop-statement : goal.invariant-loop-statement
-invariant-loop-statement l =
-    is_written l.array (bodies_of (drop l.statement-index l.statements)) ≡ is_written l.array (bodies_of l.statements)

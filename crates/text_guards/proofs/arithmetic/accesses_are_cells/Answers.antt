@@ -1,5 +1,0 @@
-use Rattle.std.proofs.Common.{refl, []}
-use Rattle.text_guards.proofs.arithmetic.accesses_are_cells.Goals as goal
-
-pub returns : goal.returns
-returns c = λ f. c.accesses_are_cells.ensures 0 f [] refl

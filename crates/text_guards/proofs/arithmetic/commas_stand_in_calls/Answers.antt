@@ -1,4 +1,0 @@
-use Rattle.text_guards.proofs.arithmetic.commas_stand_in_calls.Goals as goal
-
-pub returns : goal.returns
-returns c = λ look. c.commas_stand_in_calls.ensures look 0

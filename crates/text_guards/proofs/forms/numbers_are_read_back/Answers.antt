@@ -1,5 +1,0 @@
-use Rattle.std.proofs.Common.{[]}
-use Rattle.text_guards.proofs.forms.numbers_are_read_back.Goals as goal
-
-pub returns : goal.returns
-returns c = λ form rest. c.forms_are_read_back.ensures [] form rest tt

@@ -1,4 +1,0 @@
-use Rattle.text_guards.proofs.printed.names_of_kernels.Goals as goal
-
-pub returns : goal.returns
-returns c = c.kernels_tell_their_names_apart.ensures

@@ -1,6 +1,0 @@
-use Rattle.std.proofs.Common.{[]}
-use Rattle.text_guards.proofs.quasts.sources_of_one_text.Goals as goal
-
-pub returns : goal.returns
-returns c = λ text program sources spelled told none same.
-    c.printed_sources_are_read_in_one_way.ensures text program sources [] spelled told none same

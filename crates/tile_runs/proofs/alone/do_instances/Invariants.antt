@@ -1,0 +1,15 @@
+use Rattle.std.proofs.Common.{◌≤◌, ◌-◌, suc, []}
+use Rattle.tile_core.specs.Cores.{state_in}
+use Rattle.tile_events.specs.Core.{working}
+use Rattle.tile_runs.specs.steps.Alone.{IsAlone, IsLater}
+use Rattle.tile_runs.proofs.alone.do_instances.Given as goal
+
+abbrev pub invariant-loop-done : goal.invariant-loop-done
+invariant-loop-done l = record {
+  later : IsLater l.fn.core l.core;
+  alone : IsAlone (state_in l.core) (suc l.tile) l.tile (working l.tile l.done []);
+  most : l.done ≤ l.size;
+}
+
+abbrev pub decreases-loop-done : goal.decreases-loop-done
+decreases-loop-done l = l.size - l.done
