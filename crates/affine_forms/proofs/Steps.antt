@@ -1,7 +1,6 @@
 -- The runs over lists, step by step: what a loop that goes up through the places needs; loops in place, entry by entry.
-use Rattle.std.proofs.Common.{◌≡◌, ℕ, suc, ◌+◌, ◌<◌, ◌≤◌, ℤ, pos, List, [], ◌∷◌, ◌++◌, length, get_or, take}
-use Rattle.std.proofs.Common.{drop, refl, sym, ap, append_assoc, add-one, arith, drop-cons}
-use Rattle.std.specs.Prelude.{Result, Ok, Err, set}
+use Rattle.std.proofs.Common.{◌≡◌, ℕ, suc, ◌+◌, ◌<◌, ◌≤◌, ℤ, pos, List, [], ◌∷◌, ◌++◌, length, get_or, take, drop, refl}
+use Rattle.std.proofs.Common.{sym, ap, append_assoc, add-one, arith, drop-cons, Result, Ok, Err, set}
 use Rattle.std.specs.List.{refill}
 use Rattle.std.proofs.Math.ListN.{drop_of_length-le}
 use Rattle.std.proofs.lemmas.List.{take_more_set, drop-set-lt, take_all, append-nil}

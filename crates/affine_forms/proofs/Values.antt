@@ -1,7 +1,5 @@
 -- What a run's form is worth at each point.
-use Rattle.std.proofs.Common.{◌≡◌, ℕ, suc, ◌<◌, ℤ, List, [], ◌∷◌, sym, ap, ◌∙◌}
-use Rattle.std.proofs.Common.{arith, All}
-use Rattle.std.specs.Prelude.{Ok}
+use Rattle.std.proofs.Common.{◌≡◌, ℕ, suc, ◌<◌, ℤ, List, [], ◌∷◌, sym, ap, ◌∙◌, arith, All, Ok}
 use Rattle.wide_math.specs.Lists.{multiples, zeros}
 use Rattle.wide_math.specs.Affine.{Affine, value_of, form_of, plus_combination, composed}
 use Rattle.wide_math.proofs.Dot.{length-sums, length-multiples, length-zeros}

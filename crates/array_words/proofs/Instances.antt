@@ -1,6 +1,6 @@
 -- The next instance of a tile in the plan with its releases: its reads (`read_next`), and its last act (`last_next`).
-use Rattle.std.proofs.Common.{◌≡◌, ◌∙◌, ℕ, zero, suc, ◌-◌, ◌<◌, Bool, List, [], ◌∷◌, length, get_or, map}
-use Rattle.std.proofs.Common.{ap, sym, arith}
+use Rattle.scop_syntax.proofs.Common.{◌≡◌, ◌∙◌, ℕ, zero, suc, ◌-◌, ◌<◌, Bool, List, [], ◌∷◌, length, get_or, map, ap}
+use Rattle.scop_syntax.proofs.Common.{sym, arith}
 use Rattle.tile_events.specs.Plan as plain
 use Rattle.tile_events.specs.Plan.{IsDealt}
 use Rattle.tile_core.specs.Plans.{plan_of, walk_plan, walk_shape}

@@ -1,6 +1,6 @@
 -- A pass that holds no tile may be joined into a seat that holds none.
-use Rattle.std.proofs.Common.{◌≡◌, ℕ, zero, suc, ◌+◌, ◌≤◌, ◌⊎◌, inl, inr, List, [], ◌∷◌, ◌++◌, ◌∙◌, ap, ap₂, refl}
-use Rattle.std.proofs.Common.{arith}
+use Rattle.scop_syntax.proofs.Common.{◌≡◌, ℕ, zero, suc, ◌+◌, ◌≤◌, ◌⊎◌, inl, inr, List, [], ◌∷◌, ◌++◌, ◌∙◌, ap, ap₂}
+use Rattle.scop_syntax.proofs.Common.{refl, arith}
 use Rattle.atomic_table.specs.Table.{Joins, Me}
 use Rattle.atomic_table.specs.declared.shared.Seat.{Seat}
 use Rattle.tile_core.specs.declared.words.Words.{Words}

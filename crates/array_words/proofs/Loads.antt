@@ -1,10 +1,9 @@
 -- A load of the cell that the next instance of a seat's worker reads next is allowed by the rule of its table.
-use Rattle.std.proofs.Common.{◌≡◌, ℕ, ◌+◌, ◌<◌, ◌≤◌, ◌∙◌, List, [], ◌∷◌, ◌++◌, length, get_or, ap, ap₂}
-use Rattle.std.proofs.Common.{arith, refl, sym, subst}
+use Rattle.scop_syntax.proofs.Common.{◌≡◌, ℕ, ◌+◌, ◌<◌, ◌≤◌, ◌∙◌, List, [], ◌∷◌, ◌++◌, length, get_or, ap, ap₂, arith}
+use Rattle.scop_syntax.proofs.Common.{refl, sym, subst, in_at}
 use mathlib.Core.Option.{none}
 use Rattle.atomic_table.specs.Table.{Me, Allows, step}
 use Rattle.atomic_table.specs.declared.shared.Seat.{Seat}
-use Rattle.scop_syntax.proofs.Members.{in_at}
 use Rattle.tile_events.specs.Plan.{IsDealt, values_read}
 use Rattle.tile_events.specs.Core.{cell_read}
 use Rattle.tile_events.specs.Allowed.{LoadIsAllowed}

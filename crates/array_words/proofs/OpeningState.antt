@@ -1,9 +1,6 @@
 -- The opening state meets the rule, and a seat that stands for several idle workers may be cut.
-use Rattle.std.proofs.Common.{◌≡◌, ℕ, zero, suc, ◌+◌, ◌<◌, ◌≤◌, List, [], ◌∷◌, length, ap, ap₂, refl, sym, subst, ◌∙◌}
-use Rattle.std.proofs.Common.{arith}
-use Rattle.std.specs.Prelude.{slice_index}
-use mathlib.Core.Option.{some, some-injective, some-ne-none}
-use lib.ListN.{get_elem?}
+use Rattle.scop_syntax.proofs.Common.{◌≡◌, ℕ, zero, suc, ◌+◌, ◌<◌, ◌≤◌, List, [], ◌∷◌, length, ap, ap₂, refl, sym}
+use Rattle.scop_syntax.proofs.Common.{subst, ◌∙◌, arith, slice_index, some, some-injective, some-ne-none, get_elem?}
 use Rattle.atomic_table.specs.Table.{opening, Splits}
 use Rattle.tile_events.specs.Plan as events
 use Rattle.tile_events.specs.Plan.{GoodPlan, IsDealt}

@@ -1,5 +1,5 @@
 -- The seat of a pass: what is known of where its worker stands is known of where its view does.
-use Rattle.std.proofs.Common.{ℕ, List, refl, subst, sym}
+use Rattle.scop_syntax.proofs.Common.{ℕ, List, refl, subst, sym}
 use Rattle.tile_core.specs.Passes.{IsPass}
 use Rattle.tile_core.specs.declared.words.Pass.{Pass}
 use Rattle.tile_core.specs.declared.words.Words.{Words}

@@ -1,5 +1,6 @@
 -- A store of the next instance's value, or an add of it, is allowed by the rule of its table.
-use Rattle.std.proofs.Common.{◌≡◌, ℕ, suc, ◌+◌, ◌%◌, ◌^◌, ◌<◌, Bool, true, false, List, [], ap, ap₂, refl, sym, subst}
+use Rattle.scop_syntax.proofs.Common.{◌≡◌, ℕ, suc, ◌+◌, ◌%◌, ◌^◌, ◌<◌, Bool, true, false, List, [], ap, ap₂, refl, sym}
+use Rattle.scop_syntax.proofs.Common.{subst}
 use mathlib.Core.Option.{none}
 use Rattle.atomic_table.specs.Table.{Me, Allows, step}
 use Rattle.atomic_table.specs.declared.shared.Seat.{Seat}

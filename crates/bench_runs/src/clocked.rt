@@ -7,13 +7,13 @@ ghost use Rattle.tile_runs.specs.Plans.{HasRest, IsPlan, shape_of};
 ghost use Rattle.tile_runs.specs.Running.{AreExecuted};
 
 use io_ports::{OpenGate, Sink, Source};
-use tile_runs::{By, Plan, run_on_threads};
 use polypar::command_by;
 use std::alloc::{AllocError, Global};
 use std::io;
 use std::sync::Wait;
 use std::thread::Threads;
 use std::time::{Clock, Instant};
+use tile_runs::{By, Plan, run_on_threads};
 
 /// Tells how many nanoseconds have passed since a start.
 fn tell<R: Clock + Eprint>(rt: &R, what: &str, begun: &Instant) -> io::Result<()> {

@@ -1,19 +1,15 @@
 -- Bounds put together, the places of statements.
-use Rattle.std.proofs.Common.{◌≡◌, ◌∙◌, ap, ap₂, sym, refl, ℕ, zero, suc, ◌^◌, ◌<◌, ◌≤◌, List, [], ◌∷◌, ◌++◌}
-use Rattle.std.proofs.Common.{length, append-nil, arith}
-use Rattle.std.specs.Prelude.{Bool, true, false, nat_lt, if◌then◌else◌, Option, Some, None, codes, remove, slice_get}
-use Rattle.std.specs.Prelude.{slice_index_or}
-use Rattle.std.proofs.lemmas.Bool.{ltb-true}
+use Rattle.scop_syntax.proofs.Common.{◌≡◌, ◌∙◌, ap, ap₂, sym, refl, ℕ, zero, suc, ◌^◌, ◌<◌, ◌≤◌, List, [], ◌∷◌, ◌++◌}
+use Rattle.scop_syntax.proofs.Common.{length, append-nil, arith, Bool, true, false, nat_lt, if◌then◌else◌, Option, Some}
+use Rattle.scop_syntax.proofs.Common.{None, codes, remove, slice_get, slice_index_or, ltb-true, Program, standings_of}
 use Rattle.std.proofs.lemmas.List.{append_assoc}
 use Rattle.scop_lexer.specs.Bytes.{Text}
-use Rattle.scop_syntax.specs.Tree.{Program}
 use Rattle.loop_tree.specs.Tree.{Bound, Bounds, only, besides, bounds_of}
 use Rattle.form_text.specs.Reading.{strip, when, number_in_front, behind_digits}
 use Rattle.form_text.specs.View.{saturated}
 use Rattle.c_printer.specs.Nodes.{repeated}
 use Rattle.c_printer.specs.Reading.{body_at, instance_at, read_instance}
 use Rattle.c_printer.specs.steps.Reading.{all_bounds, closed_bounds, place_of, with_bound}
-use Rattle.scop_syntax.specs.Standings.{standings_of}
 use Rattle.c_printer.proofs.ReadSteps.{deeper, strip_both}
 
 -- a text so many times and once more

@@ -1,11 +1,9 @@
 -- Bounds in front of what ends a form are read back; a text between two others (`between_front`).
-use Rattle.std.proofs.Common.{◌≡◌, ◌∙◌, ap, sym, refl, ℕ, zero, suc, ◌+◌, ◌^◌, ◌<◌, Bool, true, false, List, ◌++◌}
-use Rattle.std.proofs.Common.{length, lt-ltb, le-leb, arith}
-use Rattle.std.specs.Prelude.{ℤ, pos, negsuc, Some, None, codes, if◌then◌else◌}
-use Rattle.std.specs.Fmt.{signed_decimal}
-use Rattle.std.proofs.lemmas.Bool.{false≢true}
+use Rattle.scop_syntax.proofs.Common.{◌≡◌, ◌∙◌, ap, sym, refl, ℕ, zero, suc, ◌+◌, ◌^◌, ◌<◌, Bool, true, false, List}
+use Rattle.scop_syntax.proofs.Common.{◌++◌, length, arith, ℤ, pos, negsuc, Some, None, codes, if◌then◌else◌}
+use Rattle.scop_syntax.proofs.Common.{signed_decimal, false≢true, Affine, form_of}
+use Rattle.std.proofs.Common.{lt-ltb, le-leb}
 use Rattle.std.proofs.lemmas.List.{append_assoc}
-use Rattle.whole_numbers.specs.Affine.{Affine, form_of}
 use Rattle.scop_lexer.specs.Bytes.{Text}
 use Rattle.loop_tree.specs.Tree.{Bound, Bounds, only, besides}
 use Rattle.form_text.specs.Names.{AreNames}

@@ -1,11 +1,9 @@
 -- Parameters and arrays in the order of their declarations, one by one.
-use Rattle.std.proofs.Common.{◌≡◌, ◌∙◌, ap, sym, refl, ℕ, zero, suc, ◌+◌, ◌<◌, ◌≤◌, Bool, false, List, [], ◌∷◌, ◌++◌}
-use Rattle.std.proofs.Common.{length, map, drop, get_or, add-one, append-nil, arith}
-use Rattle.std.specs.Prelude.{◌≢◌, codes, if◌then◌else◌}
-use Rattle.std.proofs.lemmas.Bool.{eq-eqb, ne_eqb}
-use Rattle.std.proofs.lemmas.List.{append_assoc, length-map, drop_all}
+use Rattle.scop_syntax.proofs.Common.{◌≡◌, ◌∙◌, ap, sym, refl, ℕ, zero, suc, ◌+◌, ◌<◌, ◌≤◌, Bool, false, List, [], ◌∷◌}
+use Rattle.scop_syntax.proofs.Common.{◌++◌, length, map, drop, get_or, add-one, append-nil, arith, ◌≢◌, codes}
+use Rattle.scop_syntax.proofs.Common.{if◌then◌else◌, eq-eqb, ne_eqb, length-map, drop_all, Declaration}
+use Rattle.std.proofs.lemmas.List.{append_assoc}
 use Rattle.scop_lexer.specs.Bytes.{Text}
-use Rattle.scop_syntax.specs.Tree.{Declaration}
 use Rattle.c_printer.specs.Statements.{array_text, arrays_behind, comma, declared_from, listed}
 use Rattle.c_printer.proofs.PutTexts.{behind, entry_here}
 

@@ -1,15 +1,10 @@
 -- The functions at the head of an emitted text: C's quotients as floors and ceilings, choices by < and by <=.
-use Rattle.std.proofs.Common.{◌≡◌, ◌∙◌, ap, sym, subst, refl, T, not, ℕ, Bool, true, false, pos, arith}
-use Rattle.std.proofs.lemmas.Int.{ints}
-use Rattle.std.specs.Prelude.{ℤ, negsuc, neg_ℤ, ◌+ℤ◌, ◌-ℤ◌, ◌<ℤ◌, ◌≤ℤ◌, if◌then◌else◌}
-use Rattle.std.specs.Prelude.{◌*ℤ◌, ◌↔◌, List}
-use Rattle.std.specs.Int.Signed.{lt_z, le_z, quot_z, lt_z_yes, lt_z_no}
-use Rattle.whole_numbers.specs.Division.{IsFloor, IsCeiling}
-use Rattle.whole_numbers.specs.Floor.{floor, ceiling}
-use Rattle.whole_numbers.proofs.Floors.{floor_is, floor_unique, ceiling_is, ceiling_unique}
-use Rattle.whole_numbers.proofs.Ring.{mul_comm_int, mul_neg_left}
-use Rattle.whole_numbers.specs.Affine.{Affine, value_of}
-use Rattle.scop_syntax.proofs.Members.{le_z_holds, holds_le_z}
+use Rattle.scop_syntax.proofs.Common.{◌≡◌, ◌∙◌, ap, sym, subst, refl, T, not, ℕ, Bool, true, false, pos, arith, ints, ℤ}
+use Rattle.scop_syntax.proofs.Common.{negsuc, neg_ℤ, ◌+ℤ◌, ◌-ℤ◌, ◌<ℤ◌, ◌≤ℤ◌, if◌then◌else◌, ◌*ℤ◌, ◌↔◌, List, le_z}
+use Rattle.scop_syntax.proofs.Common.{IsFloor, IsCeiling, floor, ceiling, floor_is, floor_unique, ceiling_is}
+use Rattle.scop_syntax.proofs.Common.{mul_comm_int, mul_neg_left, Affine, value_of, le_z_holds, holds_le_z}
+use Rattle.std.specs.Int.Signed.{lt_z, quot_z, lt_z_yes, lt_z_no}
+use Rattle.whole_numbers.proofs.Floors.{ceiling_unique}
 use Rattle.loop_tree.specs.Tree.{multiple}
 use Rattle.loop_tree.specs.Walk.{max_z, min_z, holds}
 use Rattle.c_printer.specs.Divisions.{floor_function, ceiling_function, greater_function, less_function}

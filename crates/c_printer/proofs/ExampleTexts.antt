@@ -1,6 +1,5 @@
 -- The texts of a small kernel's tree and of statements, by computation.
-use Rattle.std.proofs.Common.{◌≡◌, [], ◌∷◌, map, refl}
-use Rattle.std.specs.Prelude.{codes}
+use Rattle.scop_syntax.proofs.Common.{◌≡◌, [], ◌∷◌, map, refl, codes}
 use Rattle.std.specs.Fmt.{digits}
 use Rattle.form_text.specs.Forms.{form_text}
 use Rattle.c_printer.specs.Examples.{kernel, statements, text, texts, tree}

@@ -1,14 +1,9 @@
 -- Flat trees of a program's statements can be printed.
-use Rattle.std.proofs.Common.{◌≡◌, ◌∙◌, ap, sym, ℕ, zero, suc, ◌+◌, ◌^◌, ◌<◌, ◌≤◌, pos, List, [], ◌∷◌, length}
-use Rattle.std.proofs.Common.{All}
-use Rattle.std.proofs.Common.{arith}
-use Rattle.std.specs.Prelude.{ℤ, negsuc, ◌<ℤ◌, option_map, unsigned_abs}
-use Rattle.std.proofs.lemmas.Int.{ints}
-use Rattle.std.proofs.lemmas.List.Elements.{All-head, All-tail}
-use Rattle.std.proofs.lemmas.Option.{slice_get-map}
-use Rattle.whole_numbers.specs.Affine.{Affine}
-use Rattle.scop_syntax.specs.Statements.{Placed, statements_of}
-use Rattle.scop_syntax.specs.Tree.{Head, Program}
+use Rattle.scop_syntax.proofs.Common.{◌≡◌, ◌∙◌, ap, sym, ℕ, zero, suc, ◌+◌, ◌^◌, ◌<◌, ◌≤◌, pos, List, [], ◌∷◌, length}
+use Rattle.scop_syntax.proofs.Common.{All, arith, ℤ, negsuc, ◌<ℤ◌, unsigned_abs, ints, All-head, All-tail}
+use Rattle.scop_syntax.proofs.Common.{slice_get-map, Affine, Placed, statements_of, Head, Program, Standing, standing}
+use Rattle.scop_syntax.proofs.Common.{heads_in, as_many_heads}
+use Rattle.std.specs.Prelude.{option_map}
 use Rattle.loop_tree.specs.Fits.{form_in}
 use Rattle.loop_tree.specs.Marks.{AreBounds as HaveDivisors, IsTest as HasDivisor, AreTests as TestsHaveDivisors}
 use Rattle.loop_tree.specs.Marks.{Flat, FlatAll}
@@ -16,8 +11,6 @@ use Rattle.loop_tree.specs.Shape.{IsOver, BoundsAreOver, TreeIsOver, TreesAreOve
 use Rattle.loop_tree.specs.Shape.{IsUpTo, BoundsAreUpTo, TestIsUpTo, TreeIsUpTo, TreesAreUpTo, NestsTo, NestAllTo}
 use Rattle.loop_tree.specs.Tree.{Bounds, only, besides, Test, at_least, equal, multiple, Tree, loop, guard, instance}
 use Rattle.loop_tree.specs.Tree.{Trees, none, more}
-use Rattle.scop_syntax.specs.Standings.{Standing, standing, heads_in}
-use Rattle.scop_syntax.proofs.Heads.{as_many_heads}
 use Rattle.c_printer.specs.Printable.{IsTreeForm, IsDivisor, AreBounds, IsTest, AreTests, AreTurns, IsInstance, IsNode}
 use Rattle.c_printer.specs.Printable.{AreNodes}
 use Rattle.c_printer.proofs.FormsOver.{at_most_is_narrow, at_most_are_narrow}

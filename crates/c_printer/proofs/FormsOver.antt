@@ -1,18 +1,10 @@
 -- Forms of iterators have numbers of 128 bits where those of the kernel and of the tree have 64.
-use Rattle.std.proofs.Common.{◌≡◌, ◌∙◌, refl, ℕ, zero, suc, ◌+◌, ◌^◌, ◌<◌, ◌≤◌, pos, List, [], ◌∷◌}
-use Rattle.std.proofs.Common.{◌++◌, length, take, drop, lt-ltb, true, arith, FitsSigned}
-use Rattle.std.specs.Prelude.{ℤ, negsuc, ◌+ℤ◌, ◌*ℤ◌, unsigned_abs, ⊤}
-use Rattle.std.specs.Int.{w64}
-use Rattle.std.proofs.lemmas.Bool.{ltb-true}
-use Rattle.std.proofs.lemmas.Int.{ints}
-use Rattle.std.proofs.lemmas.List.{length-append, length-drop, length-take-le}
-use Rattle.whole_numbers.specs.Affine.{Affine}
-use Rattle.whole_numbers.specs.Fits.{fits}
-use Rattle.whole_numbers.specs.Lists.{sums, multiples, zeros}
-use Rattle.whole_numbers.proofs.Dot.{length-multiples, length-zeros}
-use Rattle.whole_numbers.proofs.Fits.{fits_iff}
-use Rattle.scop_syntax.specs.Kernel.{AreAtMost}
-use Rattle.scop_syntax.specs.Tree.{Head}
+use Rattle.scop_syntax.proofs.Common.{◌≡◌, ◌∙◌, refl, ℕ, zero, suc, ◌+◌, ◌^◌, ◌<◌, ◌≤◌, pos, List, [], ◌∷◌, ◌++◌}
+use Rattle.scop_syntax.proofs.Common.{length, take, drop, true, arith, FitsSigned, ℤ, negsuc, ◌+ℤ◌, ◌*ℤ◌, unsigned_abs}
+use Rattle.scop_syntax.proofs.Common.{⊤, w64, ltb-true, ints, length-drop, length-take-le, Affine, fits, sums}
+use Rattle.scop_syntax.proofs.Common.{multiples, zeros, length-multiples, length-zeros, fits_iff, AreAtMost, Head}
+use Rattle.std.proofs.Common.{lt-ltb}
+use Rattle.std.proofs.lemmas.List.{length-append}
 use Rattle.form_text.specs.Names.{AllFit, IsFormOver}
 use Rattle.form_text.proofs.Terms.{left_true, right_true}
 use Rattle.c_printer.specs.Forms.{turned, spread, iterator_form}

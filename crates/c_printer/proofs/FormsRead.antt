@@ -1,21 +1,13 @@
 -- Forms of a tree, in the order of the text and back, and turns from forms of iterators are read back.
-use Rattle.std.proofs.Common.{◌≡◌, ◌∙◌, ap, ap₂, subst, refl, ℕ, zero, suc, ◌+◌, ◌^◌, ◌≤◌, Bool, true}
-use Rattle.std.proofs.Common.{pos, List, [], ◌∷◌, ◌++◌, length, take, drop, lt-ltb, arith}
-use Rattle.std.specs.Prelude.{ℤ, negsuc, neg_ℤ, ◌+ℤ◌, ◌-ℤ◌, ◌*ℤ◌, ◌<ℤ◌, Some, None, if◌then◌else◌}
-use Rattle.std.specs.Prelude.{unsigned_abs}
-use Rattle.std.proofs.lemmas.Bool.{ltb-true}
-use Rattle.std.proofs.lemmas.Int.{ints}
-use Rattle.std.proofs.lemmas.List.{length-append, length-drop, length-take-le, take-append-drop}
-use Rattle.std.proofs.Math.Seq.{take-append_seam, drop-append_seam}
-use Rattle.whole_numbers.specs.Affine.{Affine, form_of}
-use Rattle.whole_numbers.specs.Fits.{fits}
-use Rattle.whole_numbers.specs.Floor.{floor}
-use Rattle.whole_numbers.specs.Lists.{sums, multiples, zeros}
-use Rattle.whole_numbers.proofs.Dot.{length-zeros}
-use Rattle.whole_numbers.proofs.Floors.{floor_is, floor_unique}
-use Rattle.whole_numbers.proofs.Ring.{mul_comm_int, mul_neg_left}
+use Rattle.scop_syntax.proofs.Common.{◌≡◌, ◌∙◌, ap, ap₂, subst, refl, ℕ, zero, suc, ◌+◌, ◌^◌, ◌≤◌, Bool, true, pos}
+use Rattle.scop_syntax.proofs.Common.{List, [], ◌∷◌, ◌++◌, length, take, drop, arith, ℤ, negsuc, neg_ℤ, ◌+ℤ◌, ◌-ℤ◌}
+use Rattle.scop_syntax.proofs.Common.{◌*ℤ◌, ◌<ℤ◌, Some, None, if◌then◌else◌, unsigned_abs, ltb-true, ints, length-drop}
+use Rattle.scop_syntax.proofs.Common.{length-take-le, take-append-drop, take-append_seam, drop-append_seam, Affine}
+use Rattle.scop_syntax.proofs.Common.{form_of, fits, floor, sums, multiples, zeros, length-zeros, floor_is}
+use Rattle.scop_syntax.proofs.Common.{floor_unique, mul_comm_int, mul_neg_left, Head}
+use Rattle.std.proofs.Common.{lt-ltb}
+use Rattle.std.proofs.lemmas.List.{length-append}
 use Rattle.scop_lexer.specs.Bytes.{Text}
-use Rattle.scop_syntax.specs.Tree.{Head}
 use Rattle.form_text.specs.Forms.{form_text}
 use Rattle.form_text.specs.Names.{AreNames, AllFit, IsFormOver}
 use Rattle.form_text.specs.Reading.{EndsForm, when}

@@ -1,11 +1,9 @@
 -- Instances are read back.
-use Rattle.std.proofs.Common.{◌≡◌, ◌∙◌, ap, sym, subst, refl, ℕ, suc, ◌+◌, ◌^◌, ◌<◌, ◌≤◌, List, [], ◌∷◌, ◌++◌, length}
-use Rattle.std.proofs.Common.{decimal, arith}
-use Rattle.std.specs.Prelude.{Some, Option, codes, slice_get}
+use Rattle.scop_syntax.proofs.Common.{◌≡◌, ◌∙◌, ap, sym, subst, refl, ℕ, suc, ◌+◌, ◌^◌, ◌<◌, ◌≤◌, List, [], ◌∷◌, ◌++◌}
+use Rattle.scop_syntax.proofs.Common.{length, decimal, arith, Some, Option, codes, slice_get, Affine, Head, Program}
+use Rattle.scop_syntax.proofs.Common.{Standing, standings_of}
 use Rattle.std.proofs.lemmas.List.{append_assoc, length-append}
-use Rattle.whole_numbers.specs.Affine.{Affine}
 use Rattle.scop_lexer.specs.Bytes.{Text}
-use Rattle.scop_syntax.specs.Tree.{Head, Program}
 use Rattle.loop_tree.specs.Tree.{instance}
 use Rattle.form_text.specs.Forms.{form_text}
 use Rattle.form_text.specs.Names.{IsFresh, AreNames, IsFormOver}
@@ -13,7 +11,6 @@ use Rattle.form_text.specs.Reading.{strip, when, behind_digits, term_in_front, E
 use Rattle.form_text.proofs.Digits.{decimal_number, decimal_behind}
 use Rattle.form_text.proofs.Calls.{strip_front}
 use Rattle.c_printer.specs.Forms.{names_in, loop_names, iterator_form}
-use Rattle.scop_syntax.specs.Standings.{Standing, standings_of}
 use Rattle.c_printer.specs.Naming.{iterators_of}
 use Rattle.c_printer.specs.Statements.{between, statement_text}
 use Rattle.c_printer.specs.Nodes.{givens_text, body_text}

@@ -1,22 +1,17 @@
 -- Printed iterators are those of the source: values of forms over parameters, loops of a tree and source iterators
 -- (`spread_value`, `turned_value`).
-use Rattle.std.proofs.Common.{◌≡◌, ◌∙◌, ap, sym, subst, ℕ, ◌+◌, ◌≤◌, List, [], ◌∷◌, ◌++◌}
-use Rattle.std.proofs.Common.{length, take, drop, append-nil, arith}
-use Rattle.std.specs.Prelude.{ℤ, ◌+ℤ◌, ◌*ℤ◌, Some, Option, option_map, slice_get}
-use Rattle.std.proofs.lemmas.Int.{ints}
-use Rattle.std.proofs.lemmas.List.{append_assoc, length-append, length-drop, length-take-le, take-append-drop}
-use Rattle.std.proofs.lemmas.Option.{slice_get-map}
-use Rattle.whole_numbers.specs.Affine.{Affine, value_of, values_of}
-use Rattle.whole_numbers.specs.Lists.{dot, multiples, zeros}
-use Rattle.whole_numbers.proofs.Dot.{dot-sums, dot-multiples, dot-append, dot-past, dot-zeros, length-zeros}
-use Rattle.whole_numbers.proofs.Ring.{mul_distrib_left}
-use Rattle.scop_syntax.specs.Tree.{Head, Program}
-use Rattle.scop_syntax.specs.Statements.{Scope, round, under, Placed, statements_of, point_of, visit_of}
-use Rattle.scop_syntax.specs.Walk.{turn_point}
+use Rattle.scop_syntax.proofs.Common.{◌≡◌, ◌∙◌, ap, sym, subst, ℕ, ◌+◌, ◌≤◌, List, [], ◌∷◌, ◌++◌, length, take, drop}
+use Rattle.scop_syntax.proofs.Common.{append-nil, arith, ℤ, ◌+ℤ◌, ◌*ℤ◌, Some, Option, slice_get, ints, length-drop}
+use Rattle.scop_syntax.proofs.Common.{length-take-le, take-append-drop, slice_get-map, Affine, value_of, values_of, dot}
+use Rattle.scop_syntax.proofs.Common.{multiples, zeros, dot-sums, dot-multiples, dot-append, dot-past, dot-zeros}
+use Rattle.scop_syntax.proofs.Common.{length-zeros, mul_distrib_left, Head, Program, Scope, round, under, Placed}
+use Rattle.scop_syntax.proofs.Common.{statements_of, point_of, visit_of, turn_point, Standing, standing, heads_in}
+use Rattle.scop_syntax.proofs.Common.{standings_of}
+use Rattle.std.specs.Prelude.{option_map}
+use Rattle.std.proofs.lemmas.List.{append_assoc, length-append}
 use Rattle.c_printer.specs.Forms.{turned, spread}
 use Rattle.c_printer.specs.Iterators.{given_value, given_values}
 use Rattle.c_printer.specs.Printable.{AreTurns, AreHeads, IsInstance, IsNamed}
-use Rattle.scop_syntax.specs.Standings.{Standing, standing, heads_in, standings_of}
 
 -- a form of the source has no coefficient for loops of the tree
 spread_value : (cs params loops outer : List ℤ) → length params ≤ length cs

@@ -1,13 +1,10 @@
 -- A text is long enough for the steps of its reading.
-use Rattle.std.proofs.Common.{ℕ, suc, ◌+◌, ◌≤◌, true, false, List, [], ◌∷◌, ◌++◌, length}
-use Rattle.std.proofs.Common.{decimal, arith}
-use Rattle.std.specs.Prelude.{codes, slice_get, if◌then◌else◌}
+use Rattle.scop_syntax.proofs.Common.{ℕ, suc, ◌+◌, ◌≤◌, true, false, List, [], ◌∷◌, ◌++◌, length, decimal, arith, codes}
+use Rattle.scop_syntax.proofs.Common.{slice_get, if◌then◌else◌, Program, standings_of}
 use Rattle.std.proofs.lemmas.List.{length-append}
 use Rattle.scop_lexer.specs.Bytes.{Text}
-use Rattle.scop_syntax.specs.Tree.{Program}
 use Rattle.loop_tree.specs.Tree.{Bounds, only, besides, Test, Tree, loop, guard, instance, Trees, none, more}
 use Rattle.c_printer.specs.Forms.{names_in, loop_name}
-use Rattle.scop_syntax.specs.Standings.{standings_of}
 use Rattle.c_printer.specs.Statements.{between}
 use Rattle.c_printer.specs.Nodes.{bound_text, bounds_text, lower_text, upper_text, test_text, tests_text, body_text}
 use Rattle.c_printer.specs.Nodes.{indent, head_text, pragma_text, closing_text, node_text, nodes_text}

@@ -1,14 +1,11 @@
 -- Sums of entries and multiples of others, entry by entry.
-use Rattle.std.proofs.Common.{◌≡◌, ◌∙◌, ap, ap₂, sym, refl, ℕ, zero, suc, ◌+◌, ◌<◌, ◌≤◌, pos, List, [], ◌∷◌}
-use Rattle.std.proofs.Common.{length, drop, ◌++◌, get_or, add-one, append-nil, arith, FitsSigned}
-use Rattle.std.specs.Int.{w64, w128}
-use Rattle.std.proofs.lemmas.Int.{ints}
-use Rattle.std.proofs.lemmas.List.{append_assoc, drop_all}
+use Rattle.scop_syntax.proofs.Common.{◌≡◌, ◌∙◌, ap, ap₂, sym, refl, ℕ, zero, suc, ◌+◌, ◌<◌, ◌≤◌, pos, List, [], ◌∷◌}
+use Rattle.scop_syntax.proofs.Common.{length, drop, ◌++◌, get_or, add-one, append-nil, arith, FitsSigned, w64, w128}
+use Rattle.scop_syntax.proofs.Common.{ints, drop_all, ℤ, ◌+ℤ◌, ◌*ℤ◌, max, sums, multiples, sums-nil, mul_zero_right}
+use Rattle.scop_syntax.proofs.Common.{add_zero_left}
+use Rattle.std.proofs.lemmas.List.{append_assoc}
 use Rattle.wide_math.proofs.Narrow.{product_at_most, product_at_least}
-use Rattle.std.specs.Prelude.{ℤ, ◌+ℤ◌, ◌*ℤ◌, max}
-use Rattle.whole_numbers.specs.Lists.{sums, multiples}
-use Rattle.whole_numbers.proofs.Dot.{sums-nil}
-use Rattle.whole_numbers.proofs.Ring.{mul_zero_right, add_zero_left, add_comm_int}
+use Rattle.whole_numbers.proofs.Ring.{add_comm_int}
 
 nothing_added : (k x : ℤ) → x +ℤ (k *ℤ pos 0) ≡ x
 nothing_added k x = ap (λ (z : ℤ). x +ℤ z) (mul_zero_right k) ∙ (add_comm_int x (pos 0) ∙ add_zero_left x)

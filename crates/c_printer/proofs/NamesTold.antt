@@ -1,23 +1,19 @@
 -- Distinct words that do not begin with `pp_` are told apart from the iterators of emitted loops.
-use Rattle.std.proofs.Common.{◌≡◌, ◌∙◌, ap, sym, subst, refl, ℕ, zero, suc, ◌+◌, ◌%◌, ◌^◌, ◌<◌, ◌≤◌, List, []}
-use Rattle.std.proofs.Common.{◌∷◌, ◌++◌, pos, decimal, length, inl, inr, append-nil, arith}
-use Rattle.std.specs.Prelude.{ℤ, negsuc, ◌≢◌, ◌⊎◌, ◌≤ℤ◌, ⊤, codes, slice_get, unsigned_abs, Option, Some, None}
-use Rattle.std.proofs.lemmas.Fmt.{decimal_by_steps_wide, decimal_injective}
-use Rattle.std.proofs.lemmas.Int.{ints}
-use Rattle.std.proofs.lemmas.List.{append_assoc, length-append, length-map}
-use Rattle.std.proofs.lemmas.Option.{none-some}
+use Rattle.scop_syntax.proofs.Common.{◌≡◌, ◌∙◌, ap, sym, subst, refl, ℕ, zero, suc, ◌+◌, ◌%◌, ◌^◌, ◌<◌, ◌≤◌, List, []}
+use Rattle.scop_syntax.proofs.Common.{◌∷◌, ◌++◌, pos, decimal, length, inl, inr, append-nil, arith, ℤ, negsuc, ◌≢◌, ◌⊎◌}
+use Rattle.scop_syntax.proofs.Common.{◌≤ℤ◌, ⊤, codes, slice_get, unsigned_abs, Option, Some, None}
+use Rattle.scop_syntax.proofs.Common.{decimal_by_steps_wide, decimal_injective, ints, length-map, none-some, IsKernel}
+use Rattle.scop_syntax.proofs.Common.{IsHead, IsTree, AreTrees, own, ranks_of, Placed, placed_all, in_guard_of, Head}
+use Rattle.scop_syntax.proofs.Common.{Tree, loop, guard, statement, Trees, none, more, Program, length-placed, Standing}
+use Rattle.scop_syntax.proofs.Common.{standing, heads_in, standings_of}
+use Rattle.std.proofs.lemmas.List.{append_assoc, length-append}
 use Rattle.scop_lexer.specs.Bytes.{Text}
-use Rattle.scop_syntax.specs.Kernel.{IsKernel, IsHead, IsTree, AreTrees, own, ranks_of}
-use Rattle.scop_syntax.specs.Statements.{Placed, placed_all, in_guard_of}
-use Rattle.scop_syntax.specs.Tree.{Head, Tree, loop, guard, statement, Trees, none, more, Program}
-use Rattle.scop_syntax.proofs.Statements.{length-placed}
 use Rattle.form_text.specs.Names.{AreNameBytes, IsVariableName, IsFresh, AreNames}
 use Rattle.form_text.specs.Reading.{strip}
 use Rattle.form_text.proofs.Digits.{is_digit_of}
 use Rattle.form_text.proofs.Names.{bytes_append, fresh_append}
 use Rattle.form_text.proofs.Terms.{digit_is_byte}
 use Rattle.c_printer.specs.Forms.{loop_name, loop_names}
-use Rattle.scop_syntax.specs.Standings.{Standing, standing, heads_in, standings_of}
 use Rattle.scop_syntax.specs.steps.Gathered.{gathered, gathered_all}
 use Rattle.c_printer.specs.Naming.{iterators_of, IsFree, AreFree, TakesWords, TakeWords, HasWords}
 use Rattle.c_printer.specs.Printable.{IsStart, AreHeads, IsNamed}

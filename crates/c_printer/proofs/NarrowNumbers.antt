@@ -1,16 +1,11 @@
 -- Numbers that 64 bits hold: floors and quotients, lists one by one, forms in the order of the tree.
-use Rattle.std.proofs.Common.{◌≡◌, ◌∙◌, ap, ap₂, sym, refl, ℕ, zero, suc, ◌+◌, ◌-◌, ◌<◌, ◌≤◌, Bool, true, false}
-use Rattle.std.proofs.Common.{pos, List, [], ◌∷◌, ◌++◌, length, take, drop, get_or, drop-cons, add-one, append-nil}
-use Rattle.std.proofs.Common.{arith, subst}
-use Rattle.std.specs.Prelude.{ℤ, negsuc, neg_ℤ, ◌-ℤ◌, ◌<ℤ◌, ◌≤ℤ◌, ◌&&◌, Option, Some, None, if◌then◌else◌}
-use Rattle.std.proofs.lemmas.Int.{ints}
-use Rattle.std.proofs.lemmas.List.{append_assoc, take-append-drop, drop_all}
-use Rattle.whole_numbers.specs.Affine.{Affine, form_of}
-use Rattle.whole_numbers.specs.Division.{IsFloor}
-use Rattle.whole_numbers.specs.Floor.{floor}
-use Rattle.whole_numbers.proofs.Floors.{floor_is, floor_unique}
+use Rattle.scop_syntax.proofs.Common.{◌≡◌, ◌∙◌, ap, ap₂, sym, refl, ℕ, zero, suc, ◌+◌, ◌-◌, ◌<◌, ◌≤◌, Bool, true, false}
+use Rattle.scop_syntax.proofs.Common.{pos, List, [], ◌∷◌, ◌++◌, length, take, drop, get_or, drop-cons, add-one}
+use Rattle.scop_syntax.proofs.Common.{append-nil, arith, subst, ℤ, negsuc, neg_ℤ, ◌-ℤ◌, ◌<ℤ◌, ◌≤ℤ◌, ◌&&◌, Option, Some}
+use Rattle.scop_syntax.proofs.Common.{None, if◌then◌else◌, ints, take-append-drop, drop_all, Affine, form_of, IsFloor}
+use Rattle.scop_syntax.proofs.Common.{floor, floor_is, floor_unique, Head}
+use Rattle.std.proofs.lemmas.List.{append_assoc}
 use Rattle.scop_lexer.specs.Bytes.{Text}
-use Rattle.scop_syntax.specs.Tree.{Head}
 use Rattle.form_text.specs.Reading.{when}
 use Rattle.c_printer.specs.Forms.{spread}
 use Rattle.c_printer.specs.Reading.{is_narrow, are_narrow, narrowed, turned_back, quotient, quotients, turn_of}

@@ -1,17 +1,14 @@
 -- Loops, guards and sequences are read back.
-use Rattle.std.proofs.Common.{◌≡◌, ◌∙◌, ap, refl, ℕ, zero, suc, ◌+◌, ◌^◌, ◌<◌, ◌≤◌, Bool, true, false, List, [], ◌∷◌}
-use Rattle.std.proofs.Common.{◌++◌, length, decimal, arith}
-use Rattle.std.specs.Prelude.{Some, None, Option, codes, slice_get}
+use Rattle.scop_syntax.proofs.Common.{◌≡◌, ◌∙◌, ap, refl, ℕ, zero, suc, ◌+◌, ◌^◌, ◌<◌, ◌≤◌, Bool, true, false, List, []}
+use Rattle.scop_syntax.proofs.Common.{◌∷◌, ◌++◌, length, decimal, arith, Some, None, Option, codes, slice_get}
+use Rattle.scop_syntax.proofs.Common.{slice_get_within, Program, Standing, standings_of}
 use Rattle.std.proofs.lemmas.List.{append_assoc, length-append}
-use Rattle.std.proofs.lemmas.Option.{slice_get_within}
 use Rattle.scop_lexer.specs.Bytes.{Text}
-use Rattle.scop_syntax.specs.Tree.{Program}
 use Rattle.loop_tree.specs.Tree.{Bounds, Tree, loop, guard, instance, Trees, none, more}
 use Rattle.form_text.specs.Names.{AreNames}
 use Rattle.form_text.specs.Reading.{strip, when}
 use Rattle.form_text.proofs.Calls.{strip_front}
 use Rattle.c_printer.specs.Forms.{names_in, loop_name, loop_names}
-use Rattle.scop_syntax.specs.Standings.{Standing, standings_of}
 use Rattle.c_printer.specs.Statements.{between}
 use Rattle.c_printer.specs.Nodes.{lower_text, upper_text, tests_text, body_text, indent, head_text}
 use Rattle.c_printer.specs.Nodes.{pragma_text, closing_text, node_text, nodes_text}

@@ -1,24 +1,19 @@
 -- Printed values of typed trees are worth in C what the tree's values are.
-use Rattle.std.proofs.Common.{◌≡◌, ℕ, zero, suc, ◌-◌, ◌*◌, ◌/◌, ◌%◌, ◌^◌, ◌<◌, Bool, true, false, ℤ}
-use Rattle.std.proofs.Common.{pos, negsuc, List, [], ◌∷◌, ◌++◌, length, map, drop, ap, ap₂, sym, subst, refl, ◌∙◌}
-use Rattle.std.proofs.Common.{arith}
-use Rattle.std.specs.Prelude.{slice_get, slice_index_or, Some, ⊤}
-use Rattle.std.proofs.lemmas.Bool.{and_parts}
-use Rattle.std.proofs.lemmas.Nat.{mod_below}
-use Rattle.std.proofs.Math.Nat.{div-le_self, mod-eq_of_lt, mod-mod}
-use Rattle.whole_numbers.specs.Affine.{value_of}
-use Rattle.scop_syntax.specs.Tree.{Access, Operator, Expression, read, constant, affine, negated, complemented, cast}
-use Rattle.scop_syntax.specs.Tree.{binary, shifted_left, shifted_right, Narrowing, explicit, implied, converted}
-use Rattle.scop_syntax.specs.Tree.{narrowed, Right, assigned, combined, moved_left, moved_right, combined_narrow}
-use Rattle.scop_syntax.specs.Tree.{moved_left_narrow, Program, Statement}
-use Rattle.scop_syntax.specs.Cells.{cell_of, reads_of, reads_with}
-use Rattle.scop_syntax.specs.Walk.{Visit, walk_of}
-use Rattle.scop_syntax.specs.Execution.{before_place, held, layout, values_read_by, value_stored_by}
-use Rattle.scop_syntax.specs.Kernel.{HasWidth, IsKernel, IsStatement, narrow_arrays, ranks_of}
-use Rattle.scop_syntax.specs.Values.{wrapped, applied, applied_narrow, value_on, stored_by}
-use Rattle.scop_syntax.specs.Widths.{HoldTypes, is_narrow, IsTypedAs, IsTyped}
-use Rattle.scop_syntax.proofs.NarrowValues.{moved_kept, applied_kept, negated_kept, complemented_kept, made_below}
-use Rattle.scop_syntax.proofs.Members.{in_from_place}
+use Rattle.scop_syntax.proofs.Common.{◌≡◌, ℕ, zero, suc, ◌-◌, ◌*◌, ◌/◌, ◌%◌, ◌^◌, ◌<◌, Bool, true, false, ℤ, pos}
+use Rattle.scop_syntax.proofs.Common.{negsuc, List, [], ◌∷◌, ◌++◌, length, map, drop, ap, ap₂, sym, subst, refl, ◌∙◌}
+use Rattle.scop_syntax.proofs.Common.{arith, slice_get, slice_index_or, Some, ⊤, and_parts, mod_below, div-le_self}
+use Rattle.scop_syntax.proofs.Common.{mod-eq_of_lt, mod-mod, value_of, Access, Operator, Expression, read, affine}
+use Rattle.scop_syntax.proofs.Common.{negated, complemented, cast, binary, shifted_left, shifted_right, implied}
+use Rattle.scop_syntax.proofs.Common.{converted, narrowed, Right, assigned, combined, moved_left, moved_right}
+use Rattle.scop_syntax.proofs.Common.{combined_narrow, moved_left_narrow, Program, Statement, cell_of, reads_of}
+use Rattle.scop_syntax.proofs.Common.{reads_with, Visit, walk_of, before_place, held, layout, value_stored_by, HasWidth}
+use Rattle.scop_syntax.proofs.Common.{IsKernel, IsStatement, narrow_arrays, ranks_of, wrapped, applied, applied_narrow}
+use Rattle.scop_syntax.proofs.Common.{value_on, stored_by, IsTyped, applied_kept, in_from_place}
+use Rattle.scop_syntax.specs.Tree.{constant}
+use Rattle.scop_syntax.specs.Tree.{Narrowing, explicit}
+use Rattle.scop_syntax.specs.Execution.{values_read_by}
+use Rattle.scop_syntax.specs.Widths.{HoldTypes, is_narrow, IsTypedAs}
+use Rattle.scop_syntax.proofs.NarrowValues.{moved_kept, negated_kept, complemented_kept, made_below}
 use Rattle.scop_syntax.proofs.Values.{stored_below}
 use Rattle.scop_syntax.proofs.Widths.{held_below, instance_is, types_kept}
 use Rattle.c_printer.specs.Values.{modulus, residue, made, converted_worth, worth, stores}

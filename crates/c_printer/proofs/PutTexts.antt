@@ -1,11 +1,9 @@
 -- Texts put behind one another (`behind`).
-use Rattle.std.proofs.Common.{◌≡◌, ◌∙◌, ap, refl, ℕ, suc, ◌+◌, ◌-◌, ◌<◌, ◌≤◌, List, [], ◌∷◌, ◌++◌}
-use Rattle.std.proofs.Common.{drop, length, map, arith, sym, get_or, drop-cons, add-one, append-nil, Bool, false}
-use Rattle.std.specs.Prelude.{codes}
-use Rattle.std.proofs.lemmas.List.{append_assoc, drop_all}
-use Rattle.whole_numbers.specs.Affine.{Affine}
+use Rattle.scop_syntax.proofs.Common.{◌≡◌, ◌∙◌, ap, refl, ℕ, suc, ◌+◌, ◌-◌, ◌<◌, ◌≤◌, List, [], ◌∷◌, ◌++◌, drop, length}
+use Rattle.scop_syntax.proofs.Common.{map, arith, sym, get_or, drop-cons, add-one, append-nil, Bool, false, codes}
+use Rattle.scop_syntax.proofs.Common.{drop_all, Affine, Head, Program}
+use Rattle.std.proofs.lemmas.List.{append_assoc}
 use Rattle.scop_lexer.specs.Bytes.{Text}
-use Rattle.scop_syntax.specs.Tree.{Head, Program}
 use Rattle.loop_tree.specs.Tree.{Bound, bounds_of, Test, Tree, Trees, more}
 use Rattle.c_printer.specs.Statements.{between}
 use Rattle.c_printer.specs.Nodes.{givens_text, repeated, indent, bound_text, bounds_text, node_text, nodes_text}

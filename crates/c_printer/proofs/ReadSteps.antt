@@ -1,13 +1,10 @@
 -- Reading an emitted text step by step: what goes on behind one step goes on behind two (`deeper`), bounds and tests
 -- one by one, nodes by their fronts.
-use Rattle.std.proofs.Common.{◌≡◌, ◌∙◌, ap, ap₂, sym, refl, ℕ, suc, ◌+◌, ◌-◌, ◌<◌, ◌≤◌, Bool, true, false, List, []}
-use Rattle.std.proofs.Common.{◌∷◌}
-use Rattle.std.proofs.Common.{◌++◌, length, append-nil, arith}
-use Rattle.std.specs.Prelude.{◌==◌, Option, Some, None, if◌then◌else◌, codes}
+use Rattle.scop_syntax.proofs.Common.{◌≡◌, ◌∙◌, ap, ap₂, sym, refl, ℕ, suc, ◌+◌, ◌-◌, ◌<◌, ◌≤◌, Bool, true, false, List}
+use Rattle.scop_syntax.proofs.Common.{[], ◌∷◌, ◌++◌, length, append-nil, arith, ◌==◌, Option, Some, None, if◌then◌else◌}
+use Rattle.scop_syntax.proofs.Common.{codes, Affine, Head, Program}
 use Rattle.std.proofs.lemmas.List.{append_assoc}
 use Rattle.scop_lexer.specs.Bytes.{Text}
-use Rattle.whole_numbers.specs.Affine.{Affine}
-use Rattle.scop_syntax.specs.Tree.{Head, Program}
 use Rattle.loop_tree.specs.Tree.{Bound, Bounds, Test, Tree, loop, guard, Trees, none, more}
 use Rattle.loop_tree.specs.View.{trees_of}
 use Rattle.form_text.specs.Reading.{strip, when}

@@ -1,20 +1,16 @@
 -- What is read can be printed, step by step (`Each`, `step`, `any`): forms have an entry for each name, numbers have 64
 -- bits, a guard has a test.
-use Rattle.std.proofs.Common.{◌≡◌, sym, subst, refl, ℕ, zero, suc, ◌+◌, ◌^◌, ◌<◌, ◌≤◌, Bool, true, false, List, [], ◌∷◌}
-use Rattle.std.proofs.Common.{◌++◌, length, take, arith}
-use Rattle.std.specs.Prelude.{⊤, nat_le, nat_lt, ◌&&◌, ℤ, pos, Some, None, Option, codes, slice_get, if◌then◌else◌}
-use Rattle.std.specs.Str.{bytes_eq}
-use Rattle.std.proofs.lemmas.Bool.{leb-true, ltb-true}
-use Rattle.std.proofs.lemmas.List.{length-append, length-take-le}
-use Rattle.whole_numbers.specs.Affine.{Affine, form_of}
+use Rattle.scop_syntax.proofs.Common.{◌≡◌, sym, subst, refl, ℕ, zero, suc, ◌+◌, ◌^◌, ◌<◌, ◌≤◌, Bool, true, false, List}
+use Rattle.scop_syntax.proofs.Common.{[], ◌∷◌, ◌++◌, length, take, arith, ⊤, nat_le, nat_lt, ◌&&◌, ℤ, pos, Some, None}
+use Rattle.scop_syntax.proofs.Common.{Option, codes, slice_get, if◌then◌else◌, bytes_eq, leb-true, ltb-true}
+use Rattle.scop_syntax.proofs.Common.{length-take-le, Affine, form_of, Head, Program, Standing, standings_of}
+use Rattle.std.proofs.lemmas.List.{length-append}
 use Rattle.scop_lexer.specs.Bytes.{Text}
-use Rattle.scop_syntax.specs.Tree.{Head, Program}
 use Rattle.loop_tree.specs.Tree.{Bound, Bounds, Test, Tree, loop, guard, Trees}
 use Rattle.form_text.specs.Reading.{strip, when, number_in_front, behind_digits, term_in_front, Next, next_in, ended}
 use Rattle.form_text.specs.Reading.{read_terms, read_form}
 use Rattle.form_text.proofs.Terms.{left_true, right_true}
 use Rattle.c_printer.specs.Forms.{names_in, loop_name, loop_names, spread}
-use Rattle.scop_syntax.specs.Standings.{Standing, standings_of}
 use Rattle.c_printer.specs.Naming.{iterators_of}
 use Rattle.c_printer.specs.Statements.{statement_text, front_text}
 use Rattle.c_printer.specs.Nodes.{indent, text_of}

@@ -1,8 +1,6 @@
 -- The tests of a guard are read back.
-use Rattle.std.proofs.Common.{◌≡◌, ◌∙◌, ap, refl, ℕ, zero, suc, ◌+◌, ◌<◌, List, [], ◌∷◌, ◌++◌, length}
-use Rattle.std.proofs.Common.{arith}
-use Rattle.std.specs.Prelude.{ℤ, pos, negsuc, true, false, Some, None, codes}
-use Rattle.std.specs.Fmt.{signed_decimal}
+use Rattle.scop_syntax.proofs.Common.{◌≡◌, ◌∙◌, ap, refl, ℕ, zero, suc, ◌+◌, ◌<◌, List, [], ◌∷◌, ◌++◌, length, arith, ℤ}
+use Rattle.scop_syntax.proofs.Common.{pos, negsuc, true, false, Some, None, codes, signed_decimal}
 use Rattle.std.proofs.lemmas.List.{append_assoc}
 use Rattle.scop_lexer.specs.Bytes.{Text}
 use Rattle.loop_tree.specs.Tree.{Test, at_least, equal, multiple}

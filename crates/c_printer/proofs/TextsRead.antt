@@ -1,12 +1,9 @@
 -- A text is read as the tree that prints as it.
-use Rattle.std.proofs.Common.{◌≡◌, ◌∙◌, ap, sym, subst, refl, suc, Bool, true, false, ◌++◌, length, arith}
-use Rattle.std.specs.Prelude.{codes, Option, Some, None, if◌then◌else◌}
-use Rattle.std.specs.Str.{bytes_eq}
-use Rattle.std.proofs.lemmas.Slice.Eq.{bytes_eq-Decides}
+use Rattle.scop_syntax.proofs.Common.{◌≡◌, ◌∙◌, ap, sym, subst, refl, suc, Bool, true, false, ◌++◌, length, arith}
+use Rattle.scop_syntax.proofs.Common.{codes, Option, Some, None, if◌then◌else◌, bytes_eq, bytes_eq-Decides, none-some}
+use Rattle.scop_syntax.proofs.Common.{same_Some, Program}
 use Rattle.std.proofs.lemmas.List.{length-append}
-use Rattle.std.proofs.lemmas.Option.{none-some, same_Some}
 use Rattle.scop_lexer.specs.Bytes.{Text}
-use Rattle.scop_syntax.specs.Tree.{Program}
 use Rattle.loop_tree.specs.Tree.{Trees}
 use Rattle.form_text.specs.Reading.{strip, when}
 use Rattle.form_text.proofs.Calls.{strip_front}

@@ -15,8 +15,8 @@ use crate::texts::{copies, push_name, put_between, put_next_number};
 use crate::values::put_statement;
 use form_text::put_bytes;
 use loop_tree::Leaf;
-use scop_syntax::tree::{Aff, Kernel, Loop, Name};
 use scop_syntax::standings::Standing;
+use scop_syntax::tree::{Aff, Kernel, Loop, Name};
 use std::alloc::{AllocError, Global};
 
 /// Puts a source iterator at a turn of its loop.

@@ -1,18 +1,14 @@
 -- The first rows, line by line.
-use Rattle.std.proofs.Common.{◌≡◌, ℕ, zero, suc, ◌+◌, ◌*◌, ◌<◌, ◌≤◌, map, ℤ, pos, List, [], ◌∷◌, ◌++◌, length, set}
-use Rattle.std.proofs.Common.{refl, subst, ap, sym, ◌∙◌, arith, add-one, append_assoc}
-use Rattle.std.specs.Prelude.{Option, None, Result, Ok, Err, OnOk, All, if◌then◌else◌, is_ok}
-use Rattle.std.proofs.Common.{◌-◌, take, drop}
-use Rattle.std.proofs.lemmas.List.{length-append, length-drop, map-append, take_all}
+use Rattle.whole_numbers.proofs.Common.{◌≡◌, ℕ, zero, suc, ◌+◌, ◌*◌, ◌<◌, ◌≤◌, map, ℤ, pos, List, [], ◌∷◌, ◌++◌, length}
+use Rattle.whole_numbers.proofs.Common.{set, refl, subst, ap, sym, ◌∙◌, arith, add-one, append_assoc, Option, None}
+use Rattle.whole_numbers.proofs.Common.{Result, Ok, Err, OnOk, All, if◌then◌else◌, is_ok, ◌-◌, take, drop, length-drop}
+use Rattle.whole_numbers.proofs.Common.{map-append, take_all, suc-mul, Affine, zeros, length-zeros}
+use Rattle.std.proofs.lemmas.List.{length-append}
 use Rattle.wide_math.specs.declared.Wide.{Wide}
 use Rattle.lexmin_runs.specs.Nodes.{longer_row}
 use Rattle.lexmin_runs.proofs.AddedParameters.{longer_tableau, speaks-append}
 use Rattle.checked_tableau.proofs.RowScans.{rows_more}
-use Rattle.std.proofs.Math.Nat.{suc-mul}
 use Rattle.std.proofs.Math.ListN.{length-set}
-use Rattle.whole_numbers.specs.Affine.{Affine}
-use Rattle.whole_numbers.specs.Lists.{zeros}
-use Rattle.whole_numbers.proofs.Dot.{length-zeros}
 use Rattle.tableau_rows.specs.Rows.{Row, row_of}
 use Rattle.tableau_rows.specs.Problem.{entries_of, unit_rows, given_rows, first_rows, problem_of, Speaks}
 use Rattle.tableau_rows.specs.Moves.{line_row, rows_in, unit_row, unit_line}

@@ -1,17 +1,13 @@
 -- The cut in the parts that the code takes.
-use Rattle.std.proofs.Common.{◌≡◌, ℕ, zero, suc, ◌+◌, ℤ, pos, negsuc, neg_ℤ, ◌+ℤ◌, ◌<ℤ◌, ◌≤ℤ◌, set, List, [], ◌∷◌, ◌++◌}
-use Rattle.std.proofs.Common.{length, get_or, drop, map, refl, subst, ap, sym, ◌∙◌, arith}
-use Rattle.std.specs.Prelude.{Option, Some, None, Result, Ok, Err}
-use Rattle.std.proofs.lemmas.Int.{ints}
-use Rattle.std.proofs.lemmas.List.{get_or-append-add}
+use Rattle.whole_numbers.proofs.Common.{◌≡◌, ℕ, zero, suc, ◌+◌, ℤ, pos, negsuc, neg_ℤ, ◌+ℤ◌, ◌<ℤ◌, ◌≤ℤ◌, set, List, []}
+use Rattle.whole_numbers.proofs.Common.{◌∷◌, ◌++◌, length, get_or, drop, map, refl, subst, ap, sym, ◌∙◌, arith, Option}
+use Rattle.whole_numbers.proofs.Common.{Some, None, Result, Ok, Err, ints, get_or-append-add, remainder, lowest}
 use Rattle.wide_math.proofs.Steps.{chain-ok}
 use Rattle.tableau_rows.proofs.Cuts.{remainder_in}
 use Rattle.wide_math.specs.declared.Wide.{Wide}
 use Rattle.wide_math.specs.Checked.{difference_of, ◌>>=◌}
 use Rattle.affine_forms.specs.Runs.{map_run}
 use Rattle.tableau_rows.specs.Moves.{cut_entries_run, tied, cut_run, lowest_row, line_row}
-use Rattle.whole_numbers.specs.Floor.{remainder}
-use Rattle.whole_numbers.specs.Content.{lowest}
 use Rattle.tableau_rows.specs.Rows.{Row, row_of}
 use Rattle.checked_tableau.specs.Lines.{turned_run, cut_line_run, behind_constant, behind_columns}
 

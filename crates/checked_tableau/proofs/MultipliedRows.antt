@@ -1,16 +1,10 @@
 -- A row that has 0 in the pivot's column is only multiplied, and its lowest terms stay.
-use Rattle.std.proofs.Common.{◌≡◌, ℕ, zero, suc, ◌+◌, ◌<◌, ℤ, pos, negsuc, ◌-ℤ◌, ◌*ℤ◌, ◌<ℤ◌, Bool, true, false, IsTrue}
-use Rattle.std.proofs.Common.{List, [], ◌∷◌, length, get_or, All, refl, subst, ap, sym, ◌∙◌, arith, add-one}
-use Rattle.std.proofs.Common.{FitsSigned}
-use Rattle.std.specs.Prelude.{Result, Ok}
-use Rattle.std.specs.Int.{w64, w128}
-use Rattle.std.proofs.lemmas.Int.{ints}
-use Rattle.std.proofs.lemmas.List.Elements.{All-head, All-tail, All-weaker}
-use Rattle.whole_numbers.specs.Fits.{fits}
-use Rattle.whole_numbers.specs.Lists.{multiples}
-use Rattle.whole_numbers.specs.Content.{lowest}
-use Rattle.whole_numbers.proofs.Fits.{fits_iff}
-use Rattle.whole_numbers.proofs.Ring.{mul_comm_int, mul_zero_left, mul_zero_right, mul_one_right}
+use Rattle.whole_numbers.proofs.Common.{◌≡◌, ℕ, zero, suc, ◌+◌, ◌<◌, ℤ, pos, negsuc, ◌-ℤ◌, ◌*ℤ◌, ◌<ℤ◌, Bool, true}
+use Rattle.whole_numbers.proofs.Common.{false, List, [], ◌∷◌, length, get_or, All, refl, subst, ap, sym, ◌∙◌, arith}
+use Rattle.whole_numbers.proofs.Common.{add-one, FitsSigned, Result, Ok, w64, w128, ints, All-head, All-tail}
+use Rattle.whole_numbers.proofs.Common.{All-weaker, fits, multiples, lowest, fits_iff, mul_comm_int, mul_zero_left}
+use Rattle.whole_numbers.proofs.Common.{mul_zero_right, mul_one_right}
+use Rattle.std.proofs.Common.{IsTrue}
 use Rattle.whole_numbers.proofs.Lowest.{lowest_of_multiples}
 use Rattle.wide_math.specs.declared.Wide.{Wide}
 use Rattle.wide_math.specs.declared.Op.TheVariants.{Sub, Mul}

@@ -1,6 +1,5 @@
 -- A pivot in its column.
-use Rattle.std.proofs.Common.{◌≡◌, ℕ, List, subst, ap, sym, take}
-use Rattle.std.specs.Prelude.{Option, Some, None, Result, Ok, Err}
+use Rattle.whole_numbers.proofs.Common.{◌≡◌, ℕ, List, subst, ap, sym, take, Option, Some, None, Result, Ok, Err}
 use Rattle.wide_math.specs.declared.Wide.{Wide}
 use Rattle.wide_math.specs.Checked.{◌>>=◌}
 use Rattle.tableau_rows.specs.Rows.{Row}

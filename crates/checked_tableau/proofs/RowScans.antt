@@ -1,14 +1,9 @@
 -- A buffer's rows, looked through one after the other; the next line fits.
-use Rattle.std.proofs.Common.{◌≡◌, ℕ, zero, suc, ◌+◌, ◌*◌, ◌<◌, ◌≤◌, ℤ, pos, negsuc, ◌<ℤ◌, ◌≤ℤ◌, ◌-ℤ◌, Bool, true}
-use Rattle.std.proofs.Common.{false, List, []}
-use Rattle.std.proofs.Common.{◌∷◌, ◌++◌, length, get_or, drop, take, refl, subst, ap, sym, arith}
-use Rattle.std.specs.Prelude.{Option, Some, Result, Ok, if◌then◌else◌}
-use Rattle.std.proofs.lemmas.Int.{ints}
+use Rattle.whole_numbers.proofs.Common.{◌≡◌, ℕ, zero, suc, ◌+◌, ◌*◌, ◌<◌, ◌≤◌, ℤ, pos, negsuc, ◌<ℤ◌, ◌≤ℤ◌, ◌-ℤ◌, Bool}
+use Rattle.whole_numbers.proofs.Common.{true, false, List, [], ◌∷◌, ◌++◌, length, get_or, drop, take, refl, subst, ap}
+use Rattle.whole_numbers.proofs.Common.{sym, arith, Option, Some, Result, Ok, if◌then◌else◌, ints, suc-mul}
+use Rattle.whole_numbers.proofs.Common.{take-append_seam, drop-append_seam, remainder, remainder_is}
 use Rattle.std.proofs.lemmas.List.{length-append}
-use Rattle.std.proofs.Math.Nat.{suc-mul}
-use Rattle.std.proofs.Math.Seq.{take-append_seam, drop-append_seam}
-use Rattle.whole_numbers.specs.Floor.{remainder}
-use Rattle.whole_numbers.proofs.Remainders.{remainder_is}
 use Rattle.wide_math.specs.declared.Wide.{Wide}
 use Rattle.wide_math.specs.Checked.{product_of, ◌>>=◌}
 use Rattle.tableau_rows.specs.Rows.{Row, entry}

@@ -1,14 +1,14 @@
 -- A buffer of lines as rows: the line at a place, the first lines, a line more, a slice written over a whole one.
-use Rattle.std.proofs.Common.{◌-◌}
-use Rattle.std.proofs.Common.{◌≡◌, ℕ, zero, suc, ◌+◌, ◌*◌, ◌<◌, ◌≤◌, ℤ, pos, ◌<ℤ◌, List, [], ◌∷◌, ◌++◌, length, get_or}
-use Rattle.std.proofs.Common.{drop, take, refl, subst, ap, ap₂, sym, ◌∙◌, arith, add-one, drop-drop}
-use Rattle.std.specs.Prelude.{Result, Ok, Err, Option, Some, None}
-use Rattle.std.proofs.lemmas.List.{length-take-le, length-drop, length-append, get_or-take, drop-take, take_all}
-use Rattle.std.proofs.lemmas.List.{append-nil, take-append-le, drop-append-le}
+use Rattle.whole_numbers.proofs.Common.{◌-◌, ◌≡◌, ℕ, zero, suc, ◌+◌, ◌*◌, ◌<◌, ◌≤◌, ℤ, pos, ◌<ℤ◌, List, [], ◌∷◌, ◌++◌}
+use Rattle.whole_numbers.proofs.Common.{length, get_or, drop, take, refl, subst, ap, ap₂, sym, ◌∙◌, arith, add-one}
+use Rattle.whole_numbers.proofs.Common.{Result, Ok, Err, Option, Some, None, length-take-le, length-drop, get_or-take}
+use Rattle.whole_numbers.proofs.Common.{take_all, take-append-le, suc-mul, take-append_seam}
+use Rattle.std.proofs.Common.{drop-drop}
+use Rattle.std.proofs.lemmas.List.{length-append, drop-take}
+use Rattle.std.proofs.lemmas.List.{append-nil, drop-append-le}
 use Rattle.std.proofs.lemmas.Nat.{mul-le}
 use Rattle.std.proofs.Math.ListN.{drop_of_length-le}
-use Rattle.std.proofs.Math.Nat.{suc-mul}
-use Rattle.std.proofs.Math.Seq.{take-append_seam, take-add}
+use Rattle.std.proofs.Math.Seq.{take-add}
 use Rattle.wide_math.specs.declared.Wide.{Wide}
 use Rattle.wide_math.specs.Checked.{◌>>=◌}
 use Rattle.wide_math.specs.Gives.{Becomes}

@@ -1,12 +1,10 @@
 -- What the fields of a call's promise say, written out.
-use Rattle.std.proofs.Common.{◌≡◌, ◌∙◌, inl, inr, refl, ap, subst, ℕ, List, [], ◌++◌, Option, None, Some}
-use Rattle.std.proofs.Common.{Bool, true, false, sym, Result, Ok, Err, length, ◌==◌, ℤ}
-use Rattle.std.specs.Prelude.{if◌then◌else◌}
-use Rattle.std.specs.Io.KnownBytes.{Appends}
+use Rattle.scop_syntax.proofs.Common.{◌≡◌, ◌∙◌, inl, inr, refl, ap, subst, ℕ, List, [], ◌++◌, Option, None, Some, Bool}
+use Rattle.scop_syntax.proofs.Common.{true, false, sym, Result, Ok, Err, length, ◌==◌, ℤ, if◌then◌else◌, Appends}
+use Rattle.scop_syntax.proofs.Common.{Program}
 use Rattle.io_ports.specs.Bytes.{GainsFront, IsAllOf}
 use Rattle.io_ports.specs.Reads.{SourceShows}
 use Rattle.io_ports.specs.Writes.{SinkShows}
-use Rattle.scop_syntax.specs.Tree.{Program}
 use Rattle.scop_parser.specs.Spelling.{SpellsProgram}
 use Rattle.data_lines.specs.declared.refusal.DataRefusal.{DataRefusal}
 use Rattle.loop_tree.specs.Tiling.{Tiling}

@@ -1,7 +1,5 @@
 -- What `clap` makes of a command to which an argument or a command is added.
-use Rattle.std.proofs.Common.{◌≡◌, ◌∙◌, ap, true, Result}
-use Rattle.std.specs.Prelude.{◌||◌, IfOk}
-use Rattle.std.proofs.lemmas.Result.{IfOk-weaker}
+use Rattle.scop_syntax.proofs.Common.{◌≡◌, ◌∙◌, ap, true, Result, ◌||◌, IfOk, IfOk-weaker}
 use Rattle.clap.specs.Built.{AddsArg, AddsSubcommand}
 use Rattle.clap.specs.Simple.{App, app_of, app_of_fields, on_top, shape_of, with_rule, with_subcommand}
 use Rattle.clap.specs.Walk.{Rule, rule_of}

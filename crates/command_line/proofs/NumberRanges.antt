@@ -1,13 +1,10 @@
 -- The numbers of words that are taken lie in their ranges.
-use Rattle.std.proofs.Common.{◌≡◌, sym, subst, refl, arith, ℕ, ◌≤◌, Bool, true, false, List, [], ◌∷◌, All}
-use Rattle.std.proofs.Common.{is_some}
-use Rattle.std.specs.Prelude.{⊤, codes, Option, None, Some, IfSome, find, if◌then◌else◌, option_and_then, option_map}
-use Rattle.std.specs.Prelude.{slice_get}
-use Rattle.std.specs.Prelude.{unwrap_or}
-use Rattle.std.specs.Option.{option_map_or}
-use Rattle.std.specs.Str.{bytes_eq}
+use Rattle.scop_syntax.proofs.Common.{◌≡◌, sym, subst, refl, arith, ℕ, ◌≤◌, Bool, true, false, List, [], ◌∷◌, All}
+use Rattle.scop_syntax.proofs.Common.{is_some, ⊤, codes, Option, None, Some, IfSome, find, if◌then◌else◌}
+use Rattle.scop_syntax.proofs.Common.{option_and_then, slice_get, unwrap_or, option_map_or, bytes_eq, All-nil, All-cons}
+use Rattle.scop_syntax.proofs.Common.{All-head}
+use Rattle.std.specs.Prelude.{option_map}
 use Rattle.std.specs.Str.Parse.{digits_value, without_leading_plus}
-use Rattle.std.proofs.lemmas.List.Elements.{All-nil, All-cons, All-head}
 use Rattle.clap.specs.Faults.{check_fault, defaults_fault, entered_fault, fault_of, level_fault, settle_fault}
 use Rattle.clap.specs.Faults.{walk_fault}
 use Rattle.clap.specs.Kinds.{or_else}

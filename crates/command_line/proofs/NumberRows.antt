@@ -1,13 +1,10 @@
 -- The rows that a walk over words without faults leaves for an argument that is a number: each value lies in its range.
-use Rattle.std.proofs.Common.{rules, ◌≡◌, ◌∙◌, sym, ap, subst, refl, ℕ, zero, suc, Bool, true, false}
-use Rattle.std.proofs.Common.{cond, true≢false}
-use Rattle.std.proofs.Common.{List, [], ◌∷◌, ◌++◌, length, All, is_some}
-use Rattle.std.specs.Prelude.{⊤, ◌+◌, ◌==◌, ◌&&◌, ◌||◌, not, Option, None, Some, min, slice_get, drop, encode_utf8}
-use Rattle.std.specs.Prelude.{find, fold, unwrap_or, if◌then◌else◌}
-use Rattle.std.specs.Option.{option_map_or}
-use Rattle.std.specs.Str.{bytes_eq, chars}
-use Rattle.std.proofs.lemmas.List.Elements.{All-nil, All-cons, All-head, All-tail, All-append}
-use Rattle.std.proofs.lemmas.Slice.Eq.{bytes_eq-Decides}
+use Rattle.scop_syntax.proofs.Common.{rules, ◌≡◌, ◌∙◌, sym, ap, subst, refl, ℕ, zero, suc, Bool, true, false, cond}
+use Rattle.scop_syntax.proofs.Common.{true≢false, List, [], ◌∷◌, ◌++◌, length, All, is_some, ⊤, ◌+◌, ◌==◌, ◌&&◌, ◌||◌}
+use Rattle.scop_syntax.proofs.Common.{not, Option, None, Some, min, slice_get, drop, encode_utf8, find, fold, unwrap_or}
+use Rattle.scop_syntax.proofs.Common.{if◌then◌else◌, option_map_or, bytes_eq, All-nil, All-cons, All-head, All-tail}
+use Rattle.scop_syntax.proofs.Common.{All-append, bytes_eq-Decides}
+use Rattle.std.specs.Str.{chars}
 use Rattle.clap.specs.Facts.{parser_of_value, unwrap_or_range}
 use Rattle.clap.specs.Faults.{action_fault, bundle_step_fault, default_fault, defaults_fault, flag_word_fault}
 use Rattle.clap.specs.Faults.{flags_fault}

@@ -1,5 +1,5 @@
 -- What a parse by the stated command finds, and by what it fails.
-use Rattle.std.proofs.Common.{◌≡◌, refl, subst, inl, inr, true, List, [], Result}
+use Rattle.scop_syntax.proofs.Common.{◌≡◌, refl, subst, inl, inr, true, List, [], Result}
 use Rattle.clap.specs.Faults.{fault_of, is_simple_and_free}
 use Rattle.clap.specs.Kinds.{FailsBy, HasKind, IsAmong, Kinds}
 use Rattle.clap.specs.Simple.{App, HasMatchesOf, app_of, is_simple, subcommand_of, subcommand_rows_of}

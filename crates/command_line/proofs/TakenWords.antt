@@ -1,15 +1,13 @@
 -- Words that the stated command takes name one of its commands, and are taken but for kinds that are none.
-use Rattle.std.proofs.Common.{◌≡◌, ◌∙◌, sym, subst, ap, refl, inl, inr, Bool, true, false, cond, List, [], ◌∷◌, Option, None}
-use Rattle.std.proofs.Common.{Some, is_some}
-use Rattle.std.specs.Prelude.{◌⊎◌, codes, option_map}
+use Rattle.scop_syntax.proofs.Common.{◌≡◌, ◌∙◌, sym, subst, ap, refl, inl, inr, Bool, true, false, cond, List, [], ◌∷◌}
+use Rattle.scop_syntax.proofs.Common.{Option, None, Some, is_some, ◌⊎◌, codes, In, in_map}
+use Rattle.std.specs.Prelude.{option_map}
 use Rattle.std.specs.List.{find}
 use Rattle.clap.specs.Kinds.{Kinds, or_else}
 use Rattle.clap.specs.Faults.{check_fault, defaults_fault, entered_fault, fault_of, level_fault, settle_fault, walk_fault}
 use Rattle.clap.specs.Walk.{Held, Names, Row, Text, answers_to, finished, nothing_held, rows_after, settled, stop_after}
 use Rattle.clap.specs.Walk.{walk, walk_from}
 use Rattle.clap.specs.Simple.{Shape, argument_words, built, entered, label_of, names_of, rows_at, subcommand_of}
-use Rattle.scop_syntax.specs.Members.{In}
-use Rattle.scop_syntax.proofs.Members.{in_map}
 use Rattle.command_line.proofs.NumberRows.{none_behind}
 use Rattle.command_line.specs.Command.{IsTaken, NamesCommand, NamesNoKind, NamesNoSync, command_met, command_named}
 use Rattle.command_line.specs.Command.{command_names, kernel_of, kind_in, run_options_in, sync_in}

@@ -1,13 +1,9 @@
 -- The dependences as the code gathers them: from access to access, from statement to statement.
-use Rattle.std.proofs.Common.{◌≡◌, ℕ, ◌+◌, ◌<◌, ◌≤◌, Bool, List, [], ◌∷◌, ◌++◌, length, drop, get_or, ap, ap₂, subst}
-use Rattle.std.proofs.Common.{sym, ◌∙◌, refl, arith, add-one, drop-cons}
-use Rattle.std.specs.Prelude.{All}
-use Rattle.std.specs.List.{flat_map}
+use Rattle.scop_syntax.proofs.Common.{◌≡◌, ℕ, ◌+◌, ◌<◌, ◌≤◌, Bool, List, [], ◌∷◌, ◌++◌, length, drop, get_or, ap, ap₂}
+use Rattle.scop_syntax.proofs.Common.{subst, sym, ◌∙◌, refl, arith, add-one, drop-cons, All, flat_map, All-get_or}
+use Rattle.scop_syntax.proofs.Common.{Affine, Access}
 use Rattle.std.proofs.lemmas.List.{append_assoc}
-use Rattle.std.proofs.lemmas.List.Elements.{All-get_or}
-use Rattle.whole_numbers.specs.Affine.{Affine}
 use Rattle.integer_sets.specs.Constraints.{Constraints, system_of}
-use Rattle.scop_syntax.specs.Tree.{Access}
 use Rattle.iteration_domains.specs.Sizes.{IsNarrow}
 use Rattle.iteration_domains.specs.Model.{Modelled}
 use Rattle.iteration_domains.specs.Constraints.{constraints_of}

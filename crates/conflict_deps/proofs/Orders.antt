@@ -1,19 +1,11 @@
 -- Rows over the variables of a pair: forms keep their values, equal subscripts, and the orders of two instances.
-use Rattle.std.proofs.Common.{◌≡◌, ℕ, zero, suc, ◌+◌, ◌<◌, Bool, true, false, ℤ, pos, negsuc, List, [], ◌∷◌, ◌++◌}
-use Rattle.std.proofs.Common.{length, map, get_or, take, inl, inr, ap₂, subst, sym, ◌∙◌, refl, arith}
-use Rattle.std.specs.Prelude.{◌≤◌, ◌-ℤ◌, ◌≤ℤ◌, nat_lt}
-use Rattle.std.proofs.lemmas.Int.{ints}
-use Rattle.std.proofs.lemmas.Bool.{ltb-true, lt-ltb}
-use Rattle.whole_numbers.specs.Affine.{Affine, value_of, multiple_of_form}
-use Rattle.whole_numbers.specs.Lexicographic.{LexLess}
-use Rattle.whole_numbers.specs.Lists.{dot, zeros, NotNegative}
-use Rattle.whole_numbers.proofs.Dot.{dot-append, dot-zeros, length-zeros}
-use Rattle.whole_numbers.proofs.Values.{value_of-sum, value_of-multiple}
-use Rattle.scop_syntax.specs.Tree.{Test, at_least, equal}
-use Rattle.scop_syntax.specs.Members.{In}
-use Rattle.scop_syntax.specs.Statements.{Holds, AllHold}
-use Rattle.scop_syntax.specs.Cells.{values}
-use Rattle.scop_syntax.proofs.Members.{in_if, in_if_from}
+use Rattle.scop_syntax.proofs.Common.{◌≡◌, ℕ, zero, suc, ◌+◌, ◌<◌, Bool, true, false, ℤ, pos, negsuc, List, [], ◌∷◌}
+use Rattle.scop_syntax.proofs.Common.{◌++◌, length, map, get_or, take, inl, inr, ap₂, subst, sym, ◌∙◌, refl, arith, ◌≤◌}
+use Rattle.scop_syntax.proofs.Common.{◌-ℤ◌, ◌≤ℤ◌, nat_lt, ints, ltb-true, lt-ltb, Affine, value_of, multiple_of_form}
+use Rattle.scop_syntax.proofs.Common.{LexLess, dot, zeros, NotNegative, dot-append, dot-zeros, length-zeros}
+use Rattle.scop_syntax.proofs.Common.{value_of-sum, value_of-multiple, Test, at_least, equal, In, AllHold, values}
+use Rattle.scop_syntax.proofs.Common.{in_if, in_if_from}
+use Rattle.scop_syntax.specs.Statements.{Holds}
 use Rattle.iteration_domains.specs.Rows.{variable}
 use Rattle.iteration_domains.proofs.Points.{hold_append, hold_front, hold_back}
 use Rattle.iteration_domains.proofs.RowLaws.{GoesOn, value_of-variable}

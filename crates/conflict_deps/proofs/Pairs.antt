@@ -1,20 +1,13 @@
 -- The whole points of the conflicts' systems are exactly the pairs of conflicting places, the earlier first.
-use Rattle.std.proofs.Common.{◌≡◌, ℕ, ◌+◌, ◌<◌, true, false, ℤ, List, [], ◌++◌, length, map, Some, ap, ap₂}
-use Rattle.std.proofs.Common.{subst, sym, ◌∙◌, refl, arith, length-append}
-use Rattle.std.specs.Prelude.{◌≤◌, ◌↔◌, slice_get, slice_index_or, nat_lt}
-use Rattle.std.proofs.lemmas.List.{append_assoc, length-map}
-use Rattle.whole_numbers.specs.Affine.{Affine, value_of, composed}
-use Rattle.whole_numbers.specs.Lists.{NotNegative}
+use Rattle.scop_syntax.proofs.Common.{◌≡◌, ℕ, ◌+◌, ◌<◌, true, false, ℤ, List, [], ◌++◌, length, map, Some, ap, ap₂}
+use Rattle.scop_syntax.proofs.Common.{subst, sym, ◌∙◌, refl, arith, length-append, ◌≤◌, ◌↔◌, slice_get, slice_index_or}
+use Rattle.scop_syntax.proofs.Common.{nat_lt, length-map, Affine, value_of, composed, NotNegative, Access, Program, In}
+use Rattle.scop_syntax.proofs.Common.{Visit, walk_of, common, Before, IsAccess, IsPlaced, ranks_of, Placed}
+use Rattle.scop_syntax.proofs.Common.{statements_of, loops_in, point_of, AllHold, Runs, visit_of, accesses, values}
+use Rattle.scop_syntax.proofs.Common.{Cell, Conflict, PlacesConflict, conflict_cell, is_marked, in_from_place, place_of}
+use Rattle.scop_syntax.proofs.Common.{all_in}
+use Rattle.std.proofs.lemmas.List.{append_assoc}
 use Rattle.integer_sets.specs.Points.{Satisfies}
-use Rattle.scop_syntax.specs.Tree.{Access, Program}
-use Rattle.scop_syntax.specs.Members.{In}
-use Rattle.scop_syntax.specs.Walk.{Visit, walk_of}
-use Rattle.scop_syntax.specs.Order.{common, Before}
-use Rattle.scop_syntax.specs.Kernel.{IsAccess, IsPlaced, ranks_of}
-use Rattle.scop_syntax.specs.Statements.{Placed, statements_of, loops_in, point_of, AllHold, Runs, visit_of}
-use Rattle.scop_syntax.specs.Cells.{accesses, values, Cell, Conflict, PlacesConflict, conflict_cell}
-use Rattle.scop_syntax.specs.Reductions.{is_marked}
-use Rattle.scop_syntax.proofs.Members.{in_from_place, place_of, all_in}
 use Rattle.iteration_domains.specs.Rows.{variables, variables_of_statement, point_forms, rows_of}
 use Rattle.iteration_domains.specs.Constraints.{tests_of}
 use Rattle.iteration_domains.specs.Model.{kernel_model, domain_of, model_of, modelled}

@@ -1,12 +1,8 @@
 -- The system of a conflict, taken apart.
-use Rattle.std.proofs.Common.{◌≡◌, ℕ, ◌+◌, List, [], ◌∷◌, ◌++◌, map, Some, ap, ap₂, subst, sym, ◌∙◌, refl}
-use Rattle.std.specs.Prelude.{slice_get}
-use Rattle.std.specs.List.{flat_map}
+use Rattle.scop_syntax.proofs.Common.{◌≡◌, ℕ, ◌+◌, List, [], ◌∷◌, ◌++◌, map, Some, ap, ap₂, subst, sym, ◌∙◌, refl}
+use Rattle.scop_syntax.proofs.Common.{slice_get, flat_map, Affine, at_least, equal, In, in_map_from, in_if_from}
+use Rattle.scop_syntax.proofs.Common.{place_of}
 use Rattle.std.proofs.lemmas.List.{append-nil}
-use Rattle.whole_numbers.specs.Affine.{Affine}
-use Rattle.scop_syntax.specs.Tree.{at_least, equal}
-use Rattle.scop_syntax.specs.Members.{In}
-use Rattle.scop_syntax.proofs.Members.{in_map_from, in_if_from, place_of}
 use Rattle.iteration_domains.specs.Rows.{variables}
 use Rattle.iteration_domains.specs.Constraints.{equalities_in, rows_in}
 use Rattle.iteration_domains.specs.Model.{KernelModel, Modelled}

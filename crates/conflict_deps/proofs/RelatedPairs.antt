@@ -1,9 +1,6 @@
 -- A conflict binds no quotient, so a point of its system is a pair that it relates.
-use Rattle.std.proofs.Common.{◌≡◌, ℕ, ◌+◌, ℤ, List, [], sym, ◌∙◌, ap, pos, arith, All}
-use Rattle.std.proofs.lemmas.List.Elements.{All-nil}
-use Rattle.std.specs.Prelude.{◌≤ℤ◌}
-use Rattle.scop_syntax.specs.Tree.{Program}
-use Rattle.scop_syntax.specs.Walk.{Visit, instance}
+use Rattle.scop_syntax.proofs.Common.{◌≡◌, ℕ, ◌+◌, ℤ, List, [], sym, ◌∙◌, ap, pos, arith, All, All-nil, ◌≤ℤ◌, Program}
+use Rattle.scop_syntax.proofs.Common.{Visit, instance}
 use Rattle.iteration_domains.specs.Dependence.{Dependence, binds_in}
 use Rattle.iteration_domains.specs.Model.{KernelModel}
 use Rattle.iteration_domains.specs.Related.{InRange, Relates}

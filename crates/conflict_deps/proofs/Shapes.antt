@@ -1,18 +1,14 @@
 -- Forms over the variables of a pair as the code puts them together: their parts, how many variables they have, and how
 -- large they are.
-use Rattle.std.proofs.Common.{◌≡◌, ℕ, zero, suc, Bool, true, ◌+◌, ◌-◌, ◌<◌, ◌≤◌, ℤ, negsuc, List, [], ◌∷◌, ◌++◌}
-use Rattle.std.proofs.Common.{length, map, take, drop, ap, ap₂, subst, sym, ◌∙◌, refl, arith, length-append}
-use Rattle.std.proofs.Common.{length-drop, get_or, drop-cons, drop_of_length-le, add-one}
-use Rattle.std.specs.Prelude.{All}
+use Rattle.scop_syntax.proofs.Common.{◌≡◌, ℕ, zero, suc, Bool, true, ◌+◌, ◌-◌, ◌<◌, ◌≤◌, ℤ, negsuc, List, [], ◌∷◌, ◌++◌}
+use Rattle.scop_syntax.proofs.Common.{length, map, take, drop, ap, ap₂, subst, sym, ◌∙◌, refl, arith, length-append}
+use Rattle.scop_syntax.proofs.Common.{get_or, drop-cons, drop_of_length-le, add-one, All, take-length, All-nil}
+use Rattle.scop_syntax.proofs.Common.{All-cons, All-head, All-tail, All-append, zeros, multiples, Affine}
+use Rattle.scop_syntax.proofs.Common.{multiple_of_form, length-zeros, length-sums, length-multiples, Test, at_least}
+use Rattle.scop_syntax.proofs.Common.{equal, common}
+use Rattle.std.proofs.Common.{length-drop}
 use Rattle.std.proofs.lemmas.List.{append_assoc, append-nil}
-use Rattle.std.proofs.Math.Seq.{take-length}
-use Rattle.std.proofs.lemmas.List.Elements.{All-nil, All-cons, All-head, All-tail, All-append}
-use Rattle.whole_numbers.specs.Lists.{zeros, multiples}
-use Rattle.whole_numbers.specs.Affine.{Affine, multiple_of_form}
-use Rattle.whole_numbers.proofs.Dot.{length-zeros, length-sums, length-multiples}
 use Rattle.iteration_domains.specs.Parts.{variables_of}
-use Rattle.scop_syntax.specs.Tree.{Test, at_least, equal}
-use Rattle.scop_syntax.specs.Order.{common}
 use Rattle.integer_sets.specs.Constraints.{Constraints, IsSized}
 use Rattle.iteration_domains.specs.Constraints.{equalities_in, rows_in, tests_of}
 use Rattle.iteration_domains.specs.Rows.{variable, variables}

@@ -1,17 +1,9 @@
 -- The accesses of a model's statements as those of the text, and the dependences between them.
-use Rattle.std.proofs.Common.{◌≡◌, ℕ, zero, suc, ◌+◌, Bool, true, false, List, [], ◌∷◌, length, map, Some, inl, inr, ap}
-use Rattle.std.proofs.Common.{ap₂, subst, sym, ◌∙◌, refl, arith}
-use Rattle.std.specs.Prelude.{◌≤◌, nat_eq, slice_get, if◌then◌else◌}
-use Rattle.std.specs.List.{flat_map}
-use Rattle.std.proofs.lemmas.Bool.{eqb-true, eq-eqb}
-use Rattle.whole_numbers.proofs.Entries.{get_map}
-use Rattle.scop_syntax.specs.Tree.{Access}
-use Rattle.scop_syntax.specs.Members.{In}
-use Rattle.scop_syntax.specs.Order.{common}
-use Rattle.scop_syntax.specs.Reductions.{is_marked}
-use Rattle.scop_syntax.specs.Statements.{Placed}
-use Rattle.scop_syntax.specs.Cells.{accesses, OneWrites}
-use Rattle.scop_syntax.proofs.Members.{in_append, in_map, in_map_from, in_if, in_if_from, both}
+use Rattle.scop_syntax.proofs.Common.{◌≡◌, ℕ, zero, suc, ◌+◌, Bool, true, false, List, [], ◌∷◌, length, map, Some, inl}
+use Rattle.scop_syntax.proofs.Common.{inr, ap, ap₂, subst, sym, ◌∙◌, refl, arith, ◌≤◌, nat_eq, slice_get, if◌then◌else◌}
+use Rattle.scop_syntax.proofs.Common.{flat_map, eqb-true, eq-eqb, get_map, Access, In, common, is_marked, Placed}
+use Rattle.scop_syntax.proofs.Common.{accesses, in_append, in_map, in_map_from, in_if, in_if_from, both}
+use Rattle.scop_syntax.specs.Cells.{OneWrites}
 use Rattle.iteration_domains.specs.Model.{Modelled, kernel_model, access_over, modelled}
 use Rattle.iteration_domains.specs.Dependence.{Dependence}
 use Rattle.iteration_domains.proofs.OutsideLaws.{in_flat_map}

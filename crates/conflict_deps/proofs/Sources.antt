@@ -1,15 +1,10 @@
 -- The earlier writers of the cell that an access touches are the points of the systems from writes to that access, the
 -- later ones those from that access to writes.
-use Rattle.std.proofs.Common.{◌≡◌, ℕ, ◌<◌, ◌≤◌, true, false, ℤ, List, [], length, Option, Some, inl, inr, ap, ap₂, subst}
-use Rattle.std.proofs.Common.{sym, ◌∙◌, refl, arith}
-use Rattle.std.specs.Prelude.{slice_get}
-use Rattle.whole_numbers.specs.Lists.{NotNegative}
-use Rattle.scop_syntax.specs.Tree.{Access, Program}
-use Rattle.scop_syntax.specs.Walk.{Visit, walk_of}
-use Rattle.scop_syntax.specs.Cells.{accesses, Cell, cell_of, written}
-use Rattle.scop_syntax.specs.Writers.{writes, IsLast}
-use Rattle.scop_syntax.proofs.Writers.{same_cells, writer_of}
-use Rattle.scop_syntax.proofs.Members.{nat_cases}
+use Rattle.scop_syntax.proofs.Common.{◌≡◌, ℕ, ◌<◌, ◌≤◌, true, false, ℤ, List, [], length, Option, Some, inl, inr, ap}
+use Rattle.scop_syntax.proofs.Common.{ap₂, subst, sym, ◌∙◌, refl, arith, slice_get, NotNegative, Access, Program, Visit}
+use Rattle.scop_syntax.proofs.Common.{walk_of, accesses, Cell, cell_of, written, writes, same_cells, writer_of}
+use Rattle.scop_syntax.proofs.Common.{nat_cases}
+use Rattle.scop_syntax.specs.Writers.{IsLast}
 use Rattle.iteration_domains.specs.Dependence.{Dependence}
 use Rattle.conflict_deps.specs.Pairs.{IsPoint, IsEnd, TouchesAt, WritesBefore, WritesBehind}
 use Rattle.conflict_deps.proofs.Pairs.{PlaceLaws, KernelLaws, points_conflict, conflicts_are_points}

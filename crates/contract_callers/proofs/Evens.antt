@@ -1,9 +1,6 @@
 -- The worked dependence that binds a quotient, at its points.
-use Rattle.std.proofs.Common.{◌≡◌, refl, arith, ℕ, ℤ, pos, negsuc, List, [], ◌∷◌, ◌++◌, length, All}
-use Rattle.std.specs.Prelude.{◌+◌, ◌+ℤ◌, ◌≤ℤ◌}
-use Rattle.std.proofs.lemmas.Int.{ints}
-use Rattle.std.proofs.lemmas.List.Elements.{All-cons, All-head, All-nil}
-use Rattle.whole_numbers.specs.Affine.{Affine, form_of, value_of}
+use Rattle.scop_syntax.proofs.Common.{◌≡◌, refl, arith, ℕ, ℤ, pos, negsuc, List, [], ◌∷◌, ◌++◌, length, All, ◌+◌, ◌+ℤ◌}
+use Rattle.scop_syntax.proofs.Common.{◌≤ℤ◌, ints, All-cons, All-head, All-nil, Affine, form_of, value_of}
 use Rattle.iteration_domains.specs.Related.{Relates}
 use Rattle.contract_callers.specs.Worked.{every_other_turn, turn}
 

@@ -1,6 +1,5 @@
 -- The tokens of `x;`, and the fault of `@`.
-use Rattle.std.proofs.Common.{[], ◌∷◌, refl, List}
-use Rattle.std.specs.Prelude.{codes}
+use Rattle.scop_syntax.proofs.Common.{[], ◌∷◌, refl, List, codes}
 use Rattle.scop_lexer.specs.Stands.{stands_at}
 use Rattle.scop_lexer.specs.Tokens.{HasFault, HasTokens}
 use Rattle.scop_lexer.specs.declared.token.Fault.{Fault}

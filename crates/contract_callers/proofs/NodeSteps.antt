@@ -1,6 +1,5 @@
 -- What the steps of the worked nodes give.
-use Rattle.std.proofs.Common.{◌≡◌, refl, pos}
-use Rattle.std.specs.Prelude.{Err, Ok}
+use Rattle.scop_syntax.proofs.Common.{◌≡◌, refl, pos, Err, Ok}
 use Rattle.whole_numbers.specs.Content.{gcd_of}
 use Rattle.wide_math.specs.Checked.{checked, cross_of}
 use Rattle.tableau_rows.specs.Moves.{crossed_run, cut_run, lowest_row, pivot_run, row_run}

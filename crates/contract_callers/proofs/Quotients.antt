@@ -1,7 +1,6 @@
 -- -7 by 3: Euclid's quotient and remainder, rounded down, and rounded up.
-use Rattle.std.proofs.Common.{arith, pos, negsuc}
-use Rattle.std.proofs.lemmas.Int.{ints}
-use Rattle.whole_numbers.specs.Division.{IsCeiling, IsEuclid, IsFloor}
+use Rattle.scop_syntax.proofs.Common.{arith, pos, negsuc, ints, IsCeiling, IsFloor}
+use Rattle.whole_numbers.specs.Division.{IsEuclid}
 
 -- the quotient is -3, the remainder 2
 pub divided : IsEuclid (negsuc 6) (pos 3) (negsuc 2) (pos 2)

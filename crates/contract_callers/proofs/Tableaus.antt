@@ -1,6 +1,5 @@
 -- The worked rows are tableaus, and their nodes are nodes.
-use Rattle.std.proofs.Common.{◌≡◌, refl, arith, ℕ, suc, zero, pos}
-use Rattle.std.specs.Prelude.{◌<◌, ◌≢◌}
+use Rattle.scop_syntax.proofs.Common.{◌≡◌, refl, arith, ℕ, suc, zero, pos, ◌<◌, ◌≢◌}
 use Rattle.tableau_rows.specs.Rows.{entry}
 use Rattle.tableau_rows.specs.Moves.{row_at}
 use Rattle.tableau_rows.specs.Solutions.{HasColumn, IsTableau}

@@ -1,10 +1,6 @@
 -- The worked dependence from each turn to the next at its points, and what numbers say there.
-use Rattle.std.proofs.Common.{◌≡◌, refl, subst, arith, ℕ, ℤ, pos, negsuc, List, [], ◌∷◌, ◌++◌, length}
-use Rattle.std.specs.Prelude.{◌+ℤ◌, ◌≤ℤ◌, get_or}
-use Rattle.std.proofs.lemmas.Int.{ints}
-use Rattle.std.proofs.lemmas.List.Elements.{All-cons, All-head, All-nil}
-use Rattle.whole_numbers.specs.Affine.{Affine, form_of, value_of}
-use Rattle.whole_numbers.specs.Lists.{dot}
+use Rattle.scop_syntax.proofs.Common.{◌≡◌, refl, subst, arith, ℕ, ℤ, pos, negsuc, List, [], ◌∷◌, ◌++◌, length, ◌+ℤ◌}
+use Rattle.scop_syntax.proofs.Common.{◌≤ℤ◌, get_or, ints, All-cons, All-head, All-nil, Affine, form_of, value_of, dot}
 use Rattle.integer_sets.specs.Points.{Satisfies}
 use Rattle.farkas.specs.Meaning.{IsInstance, phi}
 use Rattle.farkas.specs.Unknowns.{bounds_of}

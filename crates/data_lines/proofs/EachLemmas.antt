@@ -1,16 +1,10 @@
 -- Lines that name a program's parameters and arrays, a line for each, in the order of declaration.
-use Rattle.std.proofs.Common.{◌≡◌, ◌∙◌, sym, ap, subst, refl, inl, inr, ◌⊎◌, ℕ, zero, suc, ◌+◌, ◌-◌, ◌<◌, ◌≤◌, Bool}
-use Rattle.std.proofs.Common.{true, false, List, [], ◌∷◌, ◌++◌, map, length, get_or, length-append, arith}
-use Rattle.std.proofs.lemmas.Bool.{cases_lt, false_from_ne_true}
-use Rattle.std.proofs.lemmas.List.{get_or_append_left, get_or-append-add, length-map}
-use Rattle.std.proofs.lemmas.Slice.Eq.{bytes_eq-Decides}
-use Rattle.std.specs.Prelude.{◌≢◌, Option, Some, None, cond}
-use Rattle.std.specs.List.{position_from}
-use Rattle.std.specs.Str.{bytes_eq}
+use Rattle.scop_syntax.proofs.Common.{◌≡◌, ◌∙◌, sym, ap, subst, refl, inl, inr, ◌⊎◌, ℕ, zero, suc, ◌+◌, ◌-◌, ◌<◌, ◌≤◌}
+use Rattle.scop_syntax.proofs.Common.{Bool, true, false, List, [], ◌∷◌, ◌++◌, map, length, get_or, length-append, arith}
+use Rattle.scop_syntax.proofs.Common.{cases_lt, false_from_ne_true, get_or_append_left, get_or-append-add, length-map}
+use Rattle.scop_syntax.proofs.Common.{bytes_eq-Decides, ◌≢◌, Option, Some, None, cond, position_from, bytes_eq, In}
+use Rattle.scop_syntax.proofs.Common.{Sorted, Declaration, Program, in_front, in_back, in_at}
 use Rattle.scop_lexer.specs.Bytes.{Text}
-use Rattle.scop_syntax.specs.Members.{In, Sorted}
-use Rattle.scop_syntax.specs.Tree.{Declaration, Program}
-use Rattle.scop_syntax.proofs.Members.{in_front, in_back, in_at}
 use Rattle.data_lines.specs.declared.places.Place.{Place}
 use Rattle.data_lines.specs.declared.places.Place.TheVariants.{Nowhere, Parameter, Array}
 use Rattle.data_lines.specs.Words.{unindented, words_of}

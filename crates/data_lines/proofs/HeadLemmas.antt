@@ -1,6 +1,7 @@
 -- The name that a text begins with is its first token.
-use Rattle.std.proofs.Common.{◌≡◌, ◌∙◌, sym, ap, refl, ℕ, zero, suc, ◌+◌, List, [], ◌∷◌, length, ◌==◌}
-use Rattle.std.proofs.Common.{if◌then◌else◌, ne_eqb, arith}
+use Rattle.scop_syntax.proofs.Common.{◌≡◌, ◌∙◌, sym, ap, refl, ℕ, zero, suc, ◌+◌, List, [], ◌∷◌, length, ◌==◌}
+use Rattle.scop_syntax.proofs.Common.{if◌then◌else◌, arith}
+use Rattle.std.proofs.Common.{ne_eqb}
 use Rattle.scop_lexer.specs.Bytes.{Text}
 use Rattle.scop_lexer.specs.Stands.{stands_at}
 use Rattle.scop_lexer.specs.Tokens.{AreGaps, IsGap, IsNext, IsNextFault}

@@ -1,14 +1,12 @@
 -- The sheet behind each line holds exactly what the lines so far say; a line that is refused breaks the rule told.
-use Rattle.std.proofs.Common.{◌≡◌, ◌∙◌, sym, ap, ap₂, subst, refl, inl, inr, ◌⊎◌, ℕ, zero, suc, ◌+◌, ◌<◌, Bool, true}
-use Rattle.std.proofs.Common.{false, leb, if◌then◌else◌, List, [], ◌∷◌, ◌++◌, length, get_or, set, append_assoc}
-use Rattle.std.proofs.Common.{append-nil, arith, leb-true, leb-false, length-set, get_or-set_same, get_or-set_other}
-use Rattle.std.proofs.Common.{length-append}
-use Rattle.std.proofs.Math.Seq.{get_or-append_seam}
-use Rattle.std.proofs.lemmas.Bool.{cases_eq, cases_lt}
-use Rattle.std.proofs.lemmas.List.{get_or_append_left, get_or_past, length-replicate}
-use Rattle.std.specs.Prelude.{Option, Some, None, Result, Ok, Err, replicate, is_some, not}
+use Rattle.scop_syntax.proofs.Common.{◌≡◌, ◌∙◌, sym, ap, ap₂, subst, refl, inl, inr, ◌⊎◌, ℕ, zero, suc, ◌+◌, ◌<◌, Bool}
+use Rattle.scop_syntax.proofs.Common.{true, false, leb, if◌then◌else◌, List, [], ◌∷◌, ◌++◌, length, get_or, set}
+use Rattle.scop_syntax.proofs.Common.{append_assoc, append-nil, arith, length-append, get_or-append_seam, cases_lt}
+use Rattle.scop_syntax.proofs.Common.{get_or_append_left, get_or_past, length-replicate, Option, Some, None, Result, Ok}
+use Rattle.scop_syntax.proofs.Common.{Err, replicate, is_some, not, Program}
+use Rattle.std.proofs.Common.{leb-true, leb-false, length-set, get_or-set_same, get_or-set_other}
+use Rattle.std.proofs.lemmas.Bool.{cases_eq}
 use Rattle.scop_lexer.specs.Bytes.{Text}
-use Rattle.scop_syntax.specs.Tree.{Program}
 use Rattle.data_lines.specs.declared.places.Place.{Place}
 use Rattle.data_lines.specs.declared.places.Place.TheVariants.{Nowhere, Parameter, Array}
 use Rattle.data_lines.specs.declared.refusal.DataRefusal.{DataRefusal}

@@ -1,14 +1,9 @@
 -- What a line names and lists is one thing, and blanks name nothing; the place of a name is one of the program's.
-use Rattle.std.proofs.Common.{◌≡◌, ◌∙◌, sym, ap, subst, refl, ℕ, suc, ◌+◌, ◌<◌, Bool, true, false, List, [], ◌∷◌}
-use Rattle.std.proofs.Common.{length, map, arith, if◌then◌else◌}
-use Rattle.std.proofs.lemmas.List.{length-map}
-use Rattle.std.proofs.lemmas.Option.{same_Some}
-use Rattle.std.specs.Prelude.{Option, Some, None, cond}
-use Rattle.std.specs.List.{position_from}
-use Rattle.std.specs.Str.{bytes_eq}
+use Rattle.scop_syntax.proofs.Common.{◌≡◌, ◌∙◌, sym, ap, subst, refl, ℕ, suc, ◌+◌, ◌<◌, Bool, true, false, List, []}
+use Rattle.scop_syntax.proofs.Common.{◌∷◌, length, map, arith, if◌then◌else◌, length-map, same_Some, Option, Some, None}
+use Rattle.scop_syntax.proofs.Common.{cond, position_from, bytes_eq, Program}
 use Rattle.scop_lexer.specs.Bytes.{Text}
 use Rattle.scop_lexer.specs.Stands.{stands_at}
-use Rattle.scop_syntax.specs.Tree.{Program}
 use Rattle.data_lines.specs.declared.places.Place.{Place}
 use Rattle.data_lines.specs.declared.places.Place.TheVariants.{Parameter, Array}
 use Rattle.data_lines.specs.Words.{words_of}

@@ -1,11 +1,9 @@
 -- A number grows with each digit: decimals that are or are no number of 64 bits; a list of numbers, one more; cells.
-use Rattle.std.proofs.Common.{◌≡◌, ◌∙◌, sym, ap, subst, refl, inl, inr, ℕ, suc, ◌+◌, ◌*◌, ◌^◌, ◌<◌, ◌≤◌, Bool, true}
-use Rattle.std.proofs.Common.{false, ◌&&◌, ltb, if◌then◌else◌, List, [], ◌∷◌, ◌++◌, length, drop, get_or}
-use Rattle.std.proofs.Common.{drop-cons, lt-ltb, le-ltb, ltb-true, arith}
-use Rattle.std.proofs.lemmas.Bool.{cases_lt}
+use Rattle.scop_syntax.proofs.Common.{◌≡◌, ◌∙◌, sym, ap, subst, refl, inl, inr, ℕ, suc, ◌+◌, ◌*◌, ◌^◌, ◌<◌, ◌≤◌, Bool}
+use Rattle.scop_syntax.proofs.Common.{true, false, ◌&&◌, ltb, if◌then◌else◌, List, [], ◌∷◌, ◌++◌, length, drop, get_or}
+use Rattle.scop_syntax.proofs.Common.{drop-cons, arith, cases_lt, Option, Some, None, list_all}
+use Rattle.std.proofs.Common.{lt-ltb, le-ltb, ltb-true}
 use Rattle.std.proofs.lemmas.List.Sums.{AllPass-from_list_all, list_all-from_AllPass}
-use Rattle.std.specs.Prelude.{Option, Some, None}
-use Rattle.std.specs.List.{list_all}
 use Rattle.scop_lexer.specs.Bytes.{Text, is_digit}
 use Rattle.scop_lexer.specs.Constants.{number_behind, digit_value}
 use Rattle.data_lines.specs.Numbers.{HaveWidth, decimal_value, fitting, next_number, number_of}

@@ -1,8 +1,6 @@
 -- The lines that a sheet holds break no rule.
-use Rattle.std.proofs.Common.{◌≡◌, subst, refl, inl, inr, ℕ, List, get_or, arith}
-use Rattle.std.specs.Prelude.{Option, Some, None}
+use Rattle.scop_syntax.proofs.Common.{◌≡◌, subst, refl, inl, inr, ℕ, List, get_or, arith, Option, Some, None, Program}
 use Rattle.scop_lexer.specs.Bytes.{Text}
-use Rattle.scop_syntax.specs.Tree.{Program}
 use Rattle.data_lines.specs.declared.places.Place.{Place}
 use Rattle.data_lines.specs.declared.places.Place.TheVariants.{Nowhere, Parameter, Array}
 use Rattle.data_lines.specs.Sheets.{Given, nothing, listed, seeded, Sheet, is_narrow}

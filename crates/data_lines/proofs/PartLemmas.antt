@@ -1,8 +1,7 @@
 -- The first part of a text that is cut at some bytes, and those behind it; its next word.
-use Rattle.std.proofs.Common.{◌≡◌, ◌∙◌, sym, ap, refl, ℕ, suc, ◌+◌, ◌<◌, Bool, true, false, not, List, [], ◌∷◌}
-use Rattle.std.proofs.Common.{length, take, drop, arith}
-use Rattle.std.specs.List.{slice_split, onto_first, filter, position_or_len, prefix_len}
-use Rattle.std.specs.Prelude.{cond}
+use Rattle.scop_syntax.proofs.Common.{◌≡◌, ◌∙◌, sym, ap, refl, ℕ, suc, ◌+◌, ◌<◌, Bool, true, false, not, List, [], ◌∷◌}
+use Rattle.scop_syntax.proofs.Common.{length, take, drop, arith, slice_split, filter, position_or_len, prefix_len, cond}
+use Rattle.std.specs.List.{onto_first}
 use Rattle.scop_lexer.specs.Bytes.{Text, is_blank}
 use Rattle.data_lines.specs.Words.{is_line_feed, lines_of, not_empty, words_of, unindented}
 

@@ -1,12 +1,8 @@
 -- Lines that are in order say one thing of each parameter and each array, and break no rule.
-use Rattle.std.proofs.Common.{◌≡◌, ◌∙◌, sym, ap, ap₂, subst, refl, inl, inr, ℕ, Bool, true, false, not, List, []}
-use Rattle.std.proofs.Common.{◌∷◌, arith}
-use Rattle.std.proofs.lemmas.Bool.{false_from_ne_true}
-use Rattle.std.proofs.lemmas.Slice.Eq.{bytes_eq-Decides}
-use Rattle.std.proofs.lemmas.Option.{same_Some}
-use Rattle.std.specs.Prelude.{Some, None, codes}
+use Rattle.scop_syntax.proofs.Common.{◌≡◌, ◌∙◌, sym, ap, ap₂, subst, refl, inl, inr, ℕ, Bool, true, false, not, List}
+use Rattle.scop_syntax.proofs.Common.{[], ◌∷◌, arith, false_from_ne_true, bytes_eq-Decides, same_Some, Some, None}
+use Rattle.scop_syntax.proofs.Common.{codes, Program}
 use Rattle.scop_lexer.specs.Bytes.{Text}
-use Rattle.scop_syntax.specs.Tree.{Program}
 use Rattle.data_lines.specs.declared.places.Place.{Place}
 use Rattle.data_lines.specs.declared.places.Place.TheVariants.{Nowhere, Parameter, Array}
 use Rattle.data_lines.specs.declared.refusal.DataRefusal.{DataRefusal}

@@ -1,13 +1,11 @@
 -- The text of arrays, cell by cell and line by line.
-use Rattle.std.proofs.Common.{◌≡◌, ◌∙◌, sym, ap, refl, ℕ, ◌+◌, ◌-◌, ◌<◌, ◌≤◌, List, [], ◌∷◌, ◌++◌, length, map, min}
-use Rattle.std.proofs.Common.{zero, take, drop, get_or, codes, add-one, drop-cons, drop_of_length-le, append-nil}
-use Rattle.std.proofs.Common.{suc, arith, Result, Ok, Err}
-use Rattle.std.proofs.lemmas.List.{get_or-take, get_or-map, length-map}
+use Rattle.scop_syntax.proofs.Common.{◌≡◌, ◌∙◌, sym, ap, refl, ℕ, ◌+◌, ◌-◌, ◌<◌, ◌≤◌, List, [], ◌∷◌, ◌++◌, length, map}
+use Rattle.scop_syntax.proofs.Common.{min, zero, take, drop, get_or, codes, add-one, drop-cons, drop_of_length-le}
+use Rattle.scop_syntax.proofs.Common.{append-nil, suc, arith, Result, Ok, Err, get_or-take, get_or-map, length-map}
+use Rattle.scop_syntax.proofs.Common.{Declaration, program_of}
 use Rattle.io_ports.specs.Writes.{SinkShows, Sends, Puts}
 use Rattle.io_ports.proofs.PutTexts.{send_then, send_then_cut}
-use Rattle.scop_syntax.specs.Tree.{Declaration}
 use Rattle.scop_syntax.specs.declared.tree.Kernel.{Kernel}
-use Rattle.scop_syntax.specs.View.{program_of}
 use Rattle.data_text.specs.ArrayText.{array_text, cell_text, cells_text, row_text, rows_text}
 
 -- a text behind one that was put

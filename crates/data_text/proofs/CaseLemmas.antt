@@ -1,11 +1,9 @@
 -- What data says is one thing.
-use Rattle.std.proofs.Common.{◌≡◌, ◌⊎◌, inl, inr, refl}
-use Rattle.std.proofs.Common.{◌∙◌, ap, ℕ, List, suc, ◌+◌, [], ◌∷◌, ◌++◌, length, arith}
+use Rattle.scop_syntax.proofs.Common.{◌≡◌, ◌⊎◌, inl, inr, refl, ◌∙◌, ap, ℕ, List, suc, ◌+◌, [], ◌∷◌, ◌++◌, length}
+use Rattle.scop_syntax.proofs.Common.{arith, Program, Result, Ok, Err}
 use Rattle.scop_lexer.specs.Bytes.{Text}
-use Rattle.scop_syntax.specs.Tree.{Program}
 use Rattle.data_lines.specs.Sheets.{Sheet}
 use Rattle.data_lines.specs.Entries.{with_line, with_lines}
-use Rattle.std.specs.Prelude.{Result, Ok, Err}
 use Rattle.data_lines.specs.declared.refusal.DataRefusal.{DataRefusal}
 use Rattle.data_text.specs.Cases.{Said, ok_said}
 

@@ -1,12 +1,10 @@
 -- Contents, one array after another.
-use Rattle.std.proofs.Common.{◌≡◌, ◌∙◌, sym, ap, ap₂, refl, ℕ, ◌+◌, ◌<◌, Bool, true, false, ltb}
-use Rattle.std.proofs.Common.{if◌then◌else◌, ◌==◌, List, [], ◌∷◌, ◌++◌, map, length, drop, get_or, add-one}
-use Rattle.std.proofs.Common.{drop-cons, append_assoc, eqb-true, arith}
-use Rattle.std.proofs.lemmas.List.{length-replicate}
-use Rattle.std.specs.Prelude.{Option, Some, None}
-use Rattle.std.proofs.lemmas.List.{drop-drop, get_or-drop, get_or-map}
+use Rattle.scop_syntax.proofs.Common.{◌≡◌, ◌∙◌, sym, ap, ap₂, refl, ℕ, ◌+◌, ◌<◌, Bool, true, false, ltb, if◌then◌else◌}
+use Rattle.scop_syntax.proofs.Common.{◌==◌, List, [], ◌∷◌, ◌++◌, map, length, drop, get_or, add-one, drop-cons}
+use Rattle.scop_syntax.proofs.Common.{append_assoc, arith, length-replicate, Option, Some, None, drop-drop, get_or-drop}
+use Rattle.scop_syntax.proofs.Common.{get_or-map, cell_count}
+use Rattle.std.proofs.Common.{eqb-true}
 use Rattle.std.proofs.lemmas.List.FromFn.{length-map-range_with_len}
-use Rattle.scop_syntax.specs.Execution.{cell_count}
 use Rattle.data_lines.specs.Sheets.{Given, nothing, listed, seeded, given_of}
 use Rattle.data_lines.specs.declared.sheet.Given.{Given as CodeGiven}
 use Rattle.data_lines.specs.declared.sheet.Given.TheVariants.{Nothing}

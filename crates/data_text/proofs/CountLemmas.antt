@@ -1,8 +1,8 @@
 -- Products and sums of extents.
-use Rattle.std.proofs.Common.{◌≡◌, ◌∙◌, sym, ap, ℕ, zero, suc, ◌+◌, ◌*◌, ◌^◌, ◌<◌, ◌≤◌, List, [], ◌∷◌, length, drop}
-use Rattle.std.proofs.Common.{get_or, add-one, drop-cons, mul_assoc, mul-le-mul, arith}
+use Rattle.scop_syntax.proofs.Common.{◌≡◌, ◌∙◌, sym, ap, ℕ, zero, suc, ◌+◌, ◌*◌, ◌^◌, ◌<◌, ◌≤◌, List, [], ◌∷◌, length}
+use Rattle.scop_syntax.proofs.Common.{drop, get_or, add-one, drop-cons, mul_assoc, mul-le-mul, arith, cell_count}
+use Rattle.scop_syntax.proofs.Common.{total_cells}
 use Rattle.std.proofs.lemmas.Nat.{pow-add}
-use Rattle.scop_syntax.specs.Execution.{cell_count, total_cells}
 
 -- one extent more
 pub count_next : (extents : List ℕ) (i count whole : ℕ) → i < length extents

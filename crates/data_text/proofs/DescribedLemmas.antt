@@ -1,19 +1,16 @@
 -- What a sheet makes of its values and rows is the case that the lines describe; each rule that it breaks, they break.
-use Rattle.std.proofs.Common.{◌≡◌, ◌∙◌, sym, ap, subst, refl, inl, inr, ℕ, zero, suc, ◌+◌, ◌^◌, ◌<◌, ◌≤◌, Bool}
-use Rattle.std.proofs.Common.{true, false, ltb, if◌then◌else◌, List, [], ◌∷◌, map, length, drop, get_or, arith}
+use Rattle.scop_syntax.proofs.Common.{◌≡◌, ◌∙◌, sym, ap, subst, refl, inl, inr, ℕ, zero, suc, ◌+◌, ◌^◌, ◌<◌, ◌≤◌, Bool}
+use Rattle.scop_syntax.proofs.Common.{true, false, ltb, if◌then◌else◌, List, [], ◌∷◌, map, length, drop, get_or, arith}
+use Rattle.scop_syntax.proofs.Common.{get_or-drop, get_or-map, get_or-replicate, length-map, length-replicate, ℤ, pos}
+use Rattle.scop_syntax.proofs.Common.{Option, Some, None, Result, Ok, Err, Declaration, Program, values, cell_count}
+use Rattle.scop_syntax.proofs.Common.{layout, size_of, total_cells, narrow_arrays}
 use Rattle.std.proofs.Common.{ltb-true, ltb-false}
-use Rattle.std.proofs.lemmas.List.{get_or-drop, get_or-map, get_or-replicate, length-map, length-replicate}
 use Rattle.std.proofs.lemmas.List.FromFn.{get_or-map-range_with_len, length-map-range_with_len}
-use Rattle.std.specs.Prelude.{ℤ, pos, Option, Some, None, Result, Ok, Err}
 use Rattle.scop_lexer.specs.Bytes.{Text}
-use Rattle.scop_syntax.specs.Tree.{Declaration, Program}
-use Rattle.scop_syntax.specs.Cells.{values}
-use Rattle.scop_syntax.specs.Execution.{cell_count, layout, size_of, total_cells}
 use Rattle.data_lines.specs.declared.refusal.DataRefusal.{DataRefusal}
 use Rattle.data_lines.specs.declared.refusal.DataRefusal.TheVariants.{Missing, Extent, Cells, Count}
 use Rattle.data_lines.specs.declared.refusal.DataRefusal.TheVariants.{Line, UnknownName, Repeated, Number}
 use Rattle.data_lines.specs.declared.refusal.DataRefusal.TheVariants.{ParameterRange}
-use Rattle.scop_syntax.specs.Kernel.{narrow_arrays}
 use Rattle.data_lines.specs.Sheets.{Given, nothing, listed, seeded, Sheet, is_narrow}
 use Rattle.data_lines.specs.Naming.{AreInOrder, AreLines, AreSound, Breaks, Holds, HoldsRow, HoldsValue, SaysCells}
 use Rattle.data_lines.specs.Naming.{SaysSeed, SaysValue, line_of}

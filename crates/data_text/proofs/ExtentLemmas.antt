@@ -1,11 +1,6 @@
 -- How large extents get.
-use Rattle.std.proofs.Common.{suc, ◌*◌, ◌^◌, ◌≤◌, List, [], ◌∷◌, length, arith}
-use Rattle.std.specs.Prelude.{ℤ, pos, negsuc, ◌≤ℤ◌, All, FitsSigned, unsigned_abs}
-use Rattle.std.specs.Int.{w64}
-use Rattle.std.proofs.lemmas.Int.{ints}
-use Rattle.whole_numbers.specs.Affine.{Affine, value_of}
-use Rattle.scop_syntax.specs.Kernel.{IsAffine}
-use Rattle.scop_syntax.proofs.Limits.{size, value_size}
+use Rattle.scop_syntax.proofs.Common.{suc, ◌*◌, ◌^◌, ◌≤◌, List, [], ◌∷◌, length, arith, ℤ, pos, negsuc, ◌≤ℤ◌, All}
+use Rattle.scop_syntax.proofs.Common.{FitsSigned, unsigned_abs, w64, ints, Affine, value_of, IsAffine, size, value_size}
 use Rattle.data_text.specs.Conditions.{AreParameters}
 
 abbrev IsSmall : ℤ → Type 0

@@ -1,15 +1,11 @@
 -- The extent that is told is the first that is not positive; the list that is told stands on the first line of those
 -- that are not as long as their arrays.
-use Rattle.std.proofs.Common.{◌≡◌, ◌∙◌, sym, ap, subst, refl, inl, inr, ◌⊎◌, ℕ, zero, suc, ◌+◌, ◌<◌, ◌≤◌, Bool, true}
-use Rattle.std.proofs.Common.{false, ltb, if◌then◌else◌, ◌==◌, List, [], ◌∷◌, length, get_or, arith, leb-true, ltb-true}
+use Rattle.scop_syntax.proofs.Common.{◌≡◌, ◌∙◌, sym, ap, subst, refl, inl, inr, ◌⊎◌, ℕ, zero, suc, ◌+◌, ◌<◌, ◌≤◌, Bool}
+use Rattle.scop_syntax.proofs.Common.{true, false, ltb, if◌then◌else◌, ◌==◌, List, [], ◌∷◌, length, get_or, arith}
+use Rattle.scop_syntax.proofs.Common.{eqb-false, ints, All, ℤ, pos, negsuc, ◌≤ℤ◌, int_le, Option, Some, None, slice_get}
+use Rattle.scop_syntax.proofs.Common.{Affine, value_of, Declaration, values, cell_count}
+use Rattle.std.proofs.Common.{leb-true, ltb-true}
 use Rattle.std.proofs.Common.{ltb-false, ne_eqb}
-use Rattle.std.proofs.lemmas.Bool.{eqb-false}
-use Rattle.std.proofs.lemmas.Int.{ints}
-use Rattle.std.specs.Prelude.{All, ℤ, pos, negsuc, ◌≤ℤ◌, int_le, Option, Some, None, slice_get}
-use Rattle.whole_numbers.specs.Affine.{Affine, value_of}
-use Rattle.scop_syntax.specs.Tree.{Declaration}
-use Rattle.scop_syntax.specs.Cells.{values}
-use Rattle.scop_syntax.specs.Execution.{cell_count}
 use Rattle.data_lines.specs.declared.refusal.DataRefusal.{DataRefusal}
 use Rattle.data_lines.specs.declared.refusal.DataRefusal.TheVariants.{Extent}
 use Rattle.data_lines.specs.Sheets.{Given, nothing, listed, seeded}

@@ -1,15 +1,9 @@
 -- The layout of a kernel: how large it is, and that its extents are positive.
-use Rattle.std.proofs.Common.{◌≡◌, refl, ℕ, zero, suc, ◌+◌, ◌*◌, ◌^◌, ◌≤◌, Bool, true, false, if◌then◌else◌, List}
-use Rattle.std.proofs.Common.{[], ◌∷◌, map, length, leb-true, arith}
-use Rattle.std.specs.Prelude.{ℤ, pos, negsuc, ◌≤ℤ◌, int_le, All, IfSome, Option, Some, None, unsigned_abs}
-use Rattle.std.proofs.lemmas.Int.{ints}
-use Rattle.std.proofs.lemmas.List.{length-map}
-use Rattle.std.proofs.lemmas.List.Elements.{All-cons}
-use Rattle.whole_numbers.specs.Affine.{Affine, value_of}
-use Rattle.scop_syntax.specs.Tree.{Declaration}
-use Rattle.scop_syntax.specs.Cells.{values}
-use Rattle.scop_syntax.specs.Execution.{size_of}
-use Rattle.scop_syntax.specs.Kernel.{IsAffine, IsDeclaration}
+use Rattle.scop_syntax.proofs.Common.{◌≡◌, refl, ℕ, zero, suc, ◌+◌, ◌*◌, ◌^◌, ◌≤◌, Bool, true, false, if◌then◌else◌}
+use Rattle.scop_syntax.proofs.Common.{List, [], ◌∷◌, map, length, arith, ℤ, pos, negsuc, ◌≤ℤ◌, int_le, All, IfSome}
+use Rattle.scop_syntax.proofs.Common.{Option, Some, None, unsigned_abs, ints, length-map, All-cons, Affine, value_of}
+use Rattle.scop_syntax.proofs.Common.{Declaration, values, size_of, IsAffine, IsDeclaration}
+use Rattle.std.proofs.Common.{leb-true}
 use Rattle.data_lines.specs.Sheets.{AreSmall}
 use Rattle.data_lines.specs.declared.refusal.DataRefusal.{DataRefusal}
 use Rattle.data_lines.specs.declared.refusal.DataRefusal.TheVariants.{Extent}

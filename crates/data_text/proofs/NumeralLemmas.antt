@@ -1,10 +1,8 @@
 -- Decimals are numbers, and the text of cells is words that are their decimals.
-use Rattle.std.proofs.Common.{◌≡◌, ◌∙◌, ap, refl, ℕ, suc, ◌+◌, ◌-◌, ◌*◌, ◌^◌, ◌<◌}
-use Rattle.std.proofs.Common.{Bool, true, false, List, [], ◌∷◌, ◌++◌, map, length, get_or}
-use Rattle.std.proofs.Common.{decimal, lt-ltb, le-leb, ne_eqb, append-nil, arith, rules}
-use Rattle.std.proofs.lemmas.List.{get_or_default}
-use Rattle.std.specs.Prelude.{All, Some, Ok}
-use Rattle.std.specs.List.{list_all, filter, slice_split}
+use Rattle.scop_syntax.proofs.Common.{◌≡◌, ◌∙◌, ap, refl, ℕ, suc, ◌+◌, ◌-◌, ◌*◌, ◌^◌, ◌<◌, Bool, true, false, List, []}
+use Rattle.scop_syntax.proofs.Common.{◌∷◌, ◌++◌, map, length, get_or, decimal, append-nil, arith, rules, get_or_default}
+use Rattle.scop_syntax.proofs.Common.{All, Some, Ok, list_all, filter, slice_split}
+use Rattle.std.proofs.Common.{lt-ltb, le-leb, ne_eqb}
 use Rattle.std.proofs.lemmas.List.Splits.{slice_split_none, slice_split_at}
 use Rattle.std.proofs.lemmas.Str.Parse.{IsNumeralModel, numerals_by_fold, tells_by_index}
 use Rattle.std.proofs.lemmas.Fmt.{digits_value-decimal, digits_decimal, decimal_nonempty}

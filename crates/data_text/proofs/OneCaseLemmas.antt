@@ -1,20 +1,15 @@
 -- Lines describe one case at most, and lines that describe one break no rule.
-use Rattle.std.proofs.Common.{◌≡◌, ◌∙◌, sym, ap, ap₂, subst, refl, inl, inr, ◌⊎◌, ℕ, ◌^◌, ◌<◌, ◌≤◌, List, [], length}
-use Rattle.std.proofs.Common.{get_or, arith}
-use Rattle.std.proofs.lemmas.Int.{ints}
+use Rattle.scop_syntax.proofs.Common.{◌≡◌, ◌∙◌, sym, ap, ap₂, subst, refl, inl, inr, ◌⊎◌, ℕ, ◌^◌, ◌<◌, ◌≤◌, List, []}
+use Rattle.scop_syntax.proofs.Common.{length, get_or, arith, ints, All-get_or, All, ℤ, pos, ◌≤ℤ◌, Some, None, Result}
+use Rattle.scop_syntax.proofs.Common.{Ok, Err, slice_get, value_of, Declaration, Program, layout, total_cells}
 use Rattle.std.proofs.lemmas.List.{ext_get_or}
-use Rattle.std.proofs.lemmas.List.Elements.{All-get_or}
 use Rattle.std.proofs.lemmas.Option.{slice_get_cases}
-use Rattle.std.specs.Prelude.{All, ℤ, pos, ◌≤ℤ◌, Some, None, Result, Ok, Err, slice_get}
-use Rattle.whole_numbers.specs.Affine.{value_of}
 use Rattle.scop_lexer.specs.Bytes.{Text}
-use Rattle.scop_syntax.specs.Tree.{Declaration, Program}
 use Rattle.data_lines.specs.declared.refusal.DataRefusal.{DataRefusal}
 use Rattle.data_lines.specs.declared.refusal.DataRefusal.TheVariants.{Missing, Extent, Cells, Count}
 use Rattle.data_lines.specs.declared.refusal.DataRefusal.TheVariants.{Line, UnknownName, Repeated, Number}
 use Rattle.data_lines.specs.declared.refusal.DataRefusal.TheVariants.{ParameterRange}
 use Rattle.data_lines.specs.Naming.{AreLines, AreSound, IsLeftOut, SaysCells, SaysSeed, line_of}
-use Rattle.scop_syntax.specs.Execution.{layout, total_cells}
 use Rattle.data_lines.specs.Sheets.{is_narrow}
 use Rattle.data_text.specs.Cases.{Said, data_said, ok_said, seeded_cell}
 use Rattle.data_text.specs.Described.{AreCells, AreContents, AreGiven, AreHeld, Describes, IsFirstBroken, IsLow}

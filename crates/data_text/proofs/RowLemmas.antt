@@ -1,16 +1,14 @@
 -- The line of an array is a data line: its head is read as its name.
-use Rattle.std.proofs.Common.{◌≡◌, ◌∙◌, sym, ap, refl, ℕ, suc, ◌+◌, ◌^◌, ◌<◌, ◌==◌, Bool, true, false}
-use Rattle.std.proofs.Common.{◌&&◌, if◌then◌else◌, List, [], ◌∷◌, ◌++◌, map, length, take, drop, codes, decimal}
-use Rattle.std.proofs.Common.{ne_eqb, lt-ltb, append_assoc, arith}
-use Rattle.std.specs.Prelude.{All, Some, None, cond, nat_lt}
-use Rattle.std.specs.List.{list_all, prefix_len}
-use Rattle.std.proofs.Math.Seq.{take-append_seam, drop-append_seam}
+use Rattle.scop_syntax.proofs.Common.{◌≡◌, ◌∙◌, sym, ap, refl, ℕ, suc, ◌+◌, ◌^◌, ◌<◌, ◌==◌, Bool, true, false, ◌&&◌}
+use Rattle.scop_syntax.proofs.Common.{if◌then◌else◌, List, [], ◌∷◌, ◌++◌, map, length, take, drop, codes, decimal}
+use Rattle.scop_syntax.proofs.Common.{append_assoc, arith, All, Some, None, cond, nat_lt, list_all, prefix_len}
+use Rattle.scop_syntax.proofs.Common.{take-append_seam, drop-append_seam, Program}
+use Rattle.std.proofs.Common.{ne_eqb, lt-ltb}
 use Rattle.scop_lexer.specs.Bytes.{Text, is_blank, is_letter, is_word_byte}
 use Rattle.scop_lexer.specs.Words.{IsName, word_stands}
 use Rattle.scop_lexer.specs.Stands.{stands_at, word_of}
 use Rattle.scop_lexer.specs.declared.stand.Stand.{Stand}
 use Rattle.scop_lexer.specs.declared.stand.Stand.TheVariants.{Gap}
-use Rattle.scop_syntax.specs.Tree.{Program}
 use Rattle.data_lines.specs.Words.{unindented, words_of}
 use Rattle.data_lines.specs.Heads.{behind_name, name_bytes, name_len, named_list}
 use Rattle.data_lines.specs.Sheets.{Sheet, place_of}

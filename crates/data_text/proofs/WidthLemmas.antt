@@ -1,14 +1,8 @@
 -- What lines describe has no cell of more than 32 bits in a narrow array.
-use Rattle.std.proofs.Common.{◌≡◌, ap, subst, sym, inl, inr, ℕ, ◌^◌, ◌<◌, Bool, true, false, List, [], length, get_or}
-use Rattle.std.proofs.Common.{arith}
-use Rattle.std.proofs.lemmas.Bool.{cases_lt}
-use Rattle.std.proofs.lemmas.List.{get_or_past}
-use Rattle.std.proofs.lemmas.Nat.{mod_below}
-use Rattle.std.specs.Prelude.{ℤ}
+use Rattle.scop_syntax.proofs.Common.{◌≡◌, ap, subst, sym, inl, inr, ℕ, ◌^◌, ◌<◌, Bool, true, false, List, [], length}
+use Rattle.scop_syntax.proofs.Common.{get_or, arith, cases_lt, get_or_past, mod_below, ℤ, narrow_arrays, Program}
+use Rattle.scop_syntax.proofs.Common.{HoldWidths}
 use Rattle.scop_lexer.specs.Bytes.{Text}
-use Rattle.scop_syntax.specs.Kernel.{narrow_arrays}
-use Rattle.scop_syntax.specs.Tree.{Program}
-use Rattle.scop_syntax.specs.Widths.{HoldWidths}
 use Rattle.data_lines.specs.Numbers.{HaveWidth}
 use Rattle.data_lines.specs.Sheets.{is_narrow}
 use Rattle.data_text.specs.Cases.{seed_cell, seeded_cell}

@@ -1,20 +1,16 @@
 -- The text of a case says the case: its lines are those of its parameters and its arrays, in the order of declaration.
-use Rattle.std.proofs.Common.{◌≡◌, ◌∙◌, sym, ap, subst, refl, inl, inr, ℕ, zero, suc, ◌+◌, ◌^◌, ◌<◌, ◌≤◌, true}
-use Rattle.std.proofs.Common.{Bool, false, List, [], ◌∷◌, ◌++◌, map, length, get_or, codes, decimal, ne_eqb}
-use Rattle.std.proofs.Common.{append_assoc, length-append, arith}
+use Rattle.scop_syntax.proofs.Common.{◌≡◌, ◌∙◌, sym, ap, subst, refl, inl, inr, ℕ, zero, suc, ◌+◌, ◌^◌, ◌<◌, ◌≤◌, true}
+use Rattle.scop_syntax.proofs.Common.{Bool, false, List, [], ◌∷◌, ◌++◌, map, length, get_or, codes, decimal}
+use Rattle.scop_syntax.proofs.Common.{append_assoc, length-append, arith, ints, get_or_append_left, get_or-append-add}
+use Rattle.scop_syntax.proofs.Common.{get_or-map, get_or_default, length-map, All-nil, All-cons, All-append, All-map}
+use Rattle.scop_syntax.proofs.Common.{All, ℤ, pos, negsuc, ◌≤ℤ◌, ⊤, list_all, Declaration, Program, IsShaped}
+use Rattle.scop_syntax.proofs.Common.{cell_count, layout, size_of, WithinLimits}
+use Rattle.std.proofs.Common.{ne_eqb}
 use Rattle.std.proofs.Math.Nat.{one-le-mul}
-use Rattle.std.proofs.lemmas.Int.{ints}
-use Rattle.std.proofs.lemmas.List.{get_or_append_left, get_or-append-add, get_or-map, get_or_default, length-map}
-use Rattle.std.proofs.lemmas.List.Elements.{All-nil, All-cons, All-append, All-map}
 use Rattle.std.proofs.lemmas.List.Splits.{slice_split_at}
 use Rattle.std.proofs.lemmas.List.Sums.{AllPass-from_list_all}
-use Rattle.std.specs.Prelude.{All, ℤ, pos, negsuc, ◌≤ℤ◌, ⊤}
-use Rattle.std.specs.List.{list_all}
 use Rattle.scop_lexer.specs.Bytes.{Text, is_blank, is_word_byte}
 use Rattle.scop_lexer.specs.Words.{IsName}
-use Rattle.scop_syntax.specs.Tree.{Declaration, Program}
-use Rattle.scop_syntax.specs.Execution.{IsShaped, cell_count, layout, size_of}
-use Rattle.scop_syntax.specs.Limits.{WithinLimits}
 use Rattle.data_lines.specs.Words.{is_line_feed, lines_of}
 use Rattle.data_lines.specs.Numbers.{HaveWidth}
 use Rattle.data_lines.specs.Sheets.{is_narrow, names_of}

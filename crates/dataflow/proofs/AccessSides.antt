@@ -1,13 +1,9 @@
 -- The accesses of a model as those of instances, and what the laws say of them and of their writers.
-use Rattle.std.proofs.Common.{◌≡◌, ℕ, zero, suc, ◌+◌, ℤ, pos, ◌≤ℤ◌, List, ◌++◌, length, All, Option, Some, None, Ok}
-use Rattle.std.proofs.Common.{sym, ap, ap₂, subst, ◌∙◌, refl, arith}
-use Rattle.std.specs.Prelude.{slice_get}
-use Rattle.std.specs.Option.{option_map}
-use Rattle.std.specs.List.{Contains}
-use Rattle.std.proofs.lemmas.Option.{slice_get-map}
-use Rattle.whole_numbers.specs.Affine.{values_of}
-use Rattle.whole_numbers.specs.Lists.{NotNegative}
-use Rattle.whole_numbers.proofs.Entries.{get_map}
+use Rattle.scop_syntax.proofs.Common.{◌≡◌, ℕ, zero, suc, ◌+◌, ℤ, pos, ◌≤ℤ◌, List, ◌++◌, length, All, Option, Some, None}
+use Rattle.scop_syntax.proofs.Common.{Ok, sym, ap, ap₂, subst, ◌∙◌, refl, arith, slice_get, option_map, Contains}
+use Rattle.scop_syntax.proofs.Common.{slice_get-map, values_of, NotNegative, get_map, Cell, accesses, cell_of, In}
+use Rattle.scop_syntax.proofs.Common.{Placed, Runs, point_of, statements_of, visit_of, Access, Program, Visit, walk_of}
+use Rattle.scop_syntax.proofs.Common.{in_map, place_of}
 use Rattle.integer_sets.specs.Points.{Satisfies}
 use Rattle.quast_trees.specs.Leaf.{found}
 use Rattle.quast_trees.specs.Paths.{LeafPath, AreOver, Goes, binds_in, leaf_paths, live_paths}
@@ -16,12 +12,6 @@ use Rattle.quast_trees.specs.Tree.{Tree, Speaks}
 use Rattle.quast_trees.specs.Turns.{BindsUp}
 use Rattle.quast_trees.specs.Value.{value}
 use Rattle.quast_joins.specs.declared.way.Way.{Way}
-use Rattle.scop_syntax.specs.Cells.{Cell, accesses, cell_of}
-use Rattle.scop_syntax.specs.Members.{In}
-use Rattle.scop_syntax.specs.Statements.{Placed, Runs, point_of, statements_of, visit_of}
-use Rattle.scop_syntax.specs.Tree.{Access, Program}
-use Rattle.scop_syntax.specs.Walk.{Visit, walk_of}
-use Rattle.scop_syntax.proofs.Members.{in_map, place_of}
 use Rattle.iteration_domains.specs.Dependence.{Dependence}
 use Rattle.iteration_domains.specs.Model.{Modelled, access_over, model_of, modelled}
 use Rattle.iteration_domains.specs.Related.{InRange}

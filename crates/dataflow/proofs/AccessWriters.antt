@@ -1,23 +1,14 @@
 -- The join over all candidates of an access names its last or next writer.
-use Rattle.std.proofs.Common.{◌≡◌, ℕ, true, ℤ, List, length, Option, Some, None, inl, inr, ◌⊎◌}
-use Rattle.std.proofs.Common.{ap, ap₂, subst, sym, ◌∙◌, refl}
-use Rattle.std.specs.Prelude.{slice_get}
-use Rattle.whole_numbers.specs.Lists.{NotNegative}
-use Rattle.whole_numbers.proofs.Entries.{get_map}
+use Rattle.scop_syntax.proofs.Common.{◌≡◌, ℕ, true, ℤ, List, length, Option, Some, None, inl, inr, ◌⊎◌, ap, ap₂, subst}
+use Rattle.scop_syntax.proofs.Common.{sym, ◌∙◌, refl, slice_get, NotNegative, get_map, Program, In, Placed}
+use Rattle.scop_syntax.proofs.Common.{statements_of, Visit, walk_of, Cell, written, writes, in_from_place, place_of}
+use Rattle.scop_syntax.proofs.Common.{cell_same, same_cells}
 use Rattle.quast_trees.specs.Tree.{Tree}
 use Rattle.quast_trees.specs.Tree as tree
 use Rattle.quast_trees.specs.Leaf.{Leaf}
 use Rattle.quast_trees.specs.Value.{value}
 use Rattle.quast_joins.specs.declared.way.Way.{Way}
 use Rattle.quast_joins.specs.declared.way.Way.TheVariants.{Later, Earlier}
-use Rattle.scop_syntax.specs.Tree.{Program}
-use Rattle.scop_syntax.specs.Members.{In}
-use Rattle.scop_syntax.specs.Statements.{Placed, statements_of}
-use Rattle.scop_syntax.specs.Walk.{Visit, walk_of}
-use Rattle.scop_syntax.specs.Cells.{Cell, written}
-use Rattle.scop_syntax.specs.Writers.{writes}
-use Rattle.scop_syntax.proofs.Members.{in_from_place, place_of}
-use Rattle.scop_syntax.proofs.Writers.{cell_same, same_cells}
 use Rattle.iteration_domains.specs.Model.{model_of, modelled}
 use Rattle.iteration_domains.specs.Dependence.{Dependence}
 use Rattle.conflict_deps.specs.Conflicts.{conflicts_of}

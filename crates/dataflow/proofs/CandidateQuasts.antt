@@ -1,9 +1,7 @@
 -- A candidate's quast, or its stop, from those of its problem.
-use Rattle.std.proofs.Common.{◌≡◌, ℕ, ◌+◌, List, [], ◌∷◌, Option, Some, None, Ok, Err, sym, ap, ap₂, subst, ◌∙◌}
-use Rattle.std.specs.Prelude.{All, slice_get}
+use Rattle.scop_syntax.proofs.Common.{◌≡◌, ℕ, ◌+◌, List, [], ◌∷◌, Option, Some, None, Ok, Err, sym, ap, ap₂, subst, ◌∙◌}
+use Rattle.scop_syntax.proofs.Common.{All, slice_get, Affine, All-nil, All-cons}
 use Rattle.affine_forms.specs.Parts.{variables_of}
-use Rattle.whole_numbers.specs.Affine.{Affine}
-use Rattle.std.proofs.lemmas.List.Elements.{All-nil, All-cons}
 use Rattle.tableau_rows.specs.Problem.{problem_of, Speaks as RowsSpeak}
 use Rattle.tableau_rows.specs.Run as run
 use Rattle.pip_solver.specs.Problem.{Problem}

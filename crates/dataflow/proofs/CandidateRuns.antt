@@ -1,10 +1,9 @@
 -- The run over a read's candidates, one by one, and the sources of reads, one by one.
-use Rattle.std.proofs.Common.{◌≡◌, ℕ, zero, suc, ◌+◌, ◌-◌, ◌<◌, ◌≤◌, Bool, true, false, List, [], ◌∷◌, ◌++◌, drop}
-use Rattle.std.proofs.Common.{get_or}
-use Rattle.std.proofs.Common.{length, map, ℤ, Option, Some, Result, Ok, Err, refl, sym, ap, ap₂, subst, ◌∙◌, arith}
-use Rattle.std.proofs.Common.{append_assoc, add-one, drop-cons}
-use Rattle.std.specs.Prelude.{slice_get, nat_eq, nat_lt, if◌then◌else◌}
-use Rattle.std.proofs.lemmas.Bool.{eqb-true}
+use Rattle.scop_syntax.proofs.Common.{◌≡◌, ℕ, zero, suc, ◌+◌, ◌-◌, ◌<◌, ◌≤◌, Bool, true, false, List, [], ◌∷◌, ◌++◌}
+use Rattle.scop_syntax.proofs.Common.{drop, get_or, length, map, ℤ, Option, Some, Result, Ok, Err, refl, sym, ap, ap₂}
+use Rattle.scop_syntax.proofs.Common.{subst, ◌∙◌, arith, append_assoc, add-one, drop-cons, slice_get, nat_eq, nat_lt}
+use Rattle.scop_syntax.proofs.Common.{if◌then◌else◌, eqb-true, Cell, HasParameters, In, Program, Visit, walk_of}
+use Rattle.scop_syntax.proofs.Common.{place_of, IsKernel, Placed, statements_of}
 use Rattle.std.proofs.lemmas.List.{append-nil}
 use Rattle.quast_trees.specs.Tree.{Tree, initial}
 use Rattle.quast_trees.specs.Postfix.{Postfix, tree_of}
@@ -15,14 +14,6 @@ use Rattle.quast_joins.specs.Sizes.{LeavesWithin}
 use Rattle.quast_joins.specs.declared.way.Way.{Way}
 use Rattle.quast_joins.proofs.Sizes.{join_within}
 use Rattle.quast_trees.specs.Value.{value}
-use Rattle.scop_syntax.specs.Cells.{Cell}
-use Rattle.scop_syntax.specs.Limits.{HasParameters}
-use Rattle.scop_syntax.specs.Members.{In}
-use Rattle.scop_syntax.specs.Tree.{Program}
-use Rattle.scop_syntax.specs.Walk.{Visit, walk_of}
-use Rattle.scop_syntax.proofs.Members.{place_of}
-use Rattle.scop_syntax.specs.Kernel.{IsKernel}
-use Rattle.scop_syntax.specs.Statements.{Placed, statements_of}
 use Rattle.iteration_domains.specs.Model.{Modelled, KernelModel, modelled, model_of}
 use Rattle.iteration_domains.specs.Sizes.{IsKernelModel}
 use Rattle.iteration_domains.proofs.TreeStatements.{model_is_one}

@@ -1,13 +1,8 @@
 -- A solved candidate: the least point of the posed problem, turned back, is the wanted writer's turns.
-use Rattle.std.proofs.Common.{◌≡◌, ℕ, ◌+◌, ◌^◌, ℤ, pos, ◌≤ℤ◌, ◌<ℤ◌, List, [], ◌∷◌, ◌++◌, length, map, Some, All}
-use Rattle.std.proofs.Common.{refl, sym, ap, ap₂, subst, ◌∙◌, arith, length-append, append_assoc}
-use Rattle.std.specs.Prelude.{slice_get}
-use Rattle.std.proofs.lemmas.Int.{ints}
-use Rattle.std.proofs.lemmas.List.{length-map}
-use Rattle.std.proofs.lemmas.List.Elements.{All-head, All-tail}
-use Rattle.whole_numbers.specs.Affine.{Affine, value_of}
-use Rattle.whole_numbers.specs.Lists.{NotNegative}
-use Rattle.whole_numbers.proofs.Lists.{not_negative-append}
+use Rattle.scop_syntax.proofs.Common.{◌≡◌, ℕ, ◌+◌, ◌^◌, ℤ, pos, ◌≤ℤ◌, ◌<ℤ◌, List, [], ◌∷◌, ◌++◌, length, map, Some, All}
+use Rattle.scop_syntax.proofs.Common.{refl, sym, ap, ap₂, subst, ◌∙◌, arith, length-append, append_assoc, slice_get}
+use Rattle.scop_syntax.proofs.Common.{ints, length-map, All-head, All-tail, Affine, value_of, NotNegative}
+use Rattle.scop_syntax.proofs.Common.{not_negative-append, Program, In, in_from_place, Cell, Visit, walk_of}
 use Rattle.tableau_rows.specs.Problem.{Problem, problem_of, row_values, IsPoint as IsProblemPoint}
 use Rattle.pip_solver.specs.Leaves.{IsAnswer}
 use Rattle.quast_trees.specs.Tree.{Tree}
@@ -16,11 +11,6 @@ use Rattle.quast_trees.specs.Leaf.{Leaf, initial, found}
 use Rattle.quast_joins.specs.declared.way.Way.{Way}
 use Rattle.quast_joins.specs.declared.way.Way.TheVariants.{Later, Earlier}
 use Rattle.integer_sets.specs.Points.{Satisfies}
-use Rattle.scop_syntax.specs.Tree.{Program}
-use Rattle.scop_syntax.specs.Members.{In}
-use Rattle.scop_syntax.proofs.Members.{in_from_place}
-use Rattle.scop_syntax.specs.Cells.{Cell}
-use Rattle.scop_syntax.specs.Walk.{Visit, walk_of}
 use Rattle.iteration_domains.specs.Rows.{variables}
 use Rattle.iteration_domains.specs.Constraints.{equalities_in, rows_in}
 use Rattle.iteration_domains.specs.Model.{Modelled, model_of}

@@ -1,25 +1,19 @@
 -- A candidate's answer names the wanted one of its places.
-use Rattle.std.proofs.Common.{◌≡◌, ℕ, ◌≤◌, ℤ, List, [], ◌∷◌, length, Option, Some, None}
-use Rattle.std.proofs.Common.{inl, inr, ◌⊎◌, ap, ap₂, subst, sym, ◌∙◌, refl, arith}
-use Rattle.std.specs.Prelude.{slice_get}
-use Rattle.whole_numbers.specs.Lexicographic.{LexLess, LexLe}
-use Rattle.whole_numbers.proofs.Lexicographic.{LexLess-irrefl, LexLess-from_le}
+use Rattle.scop_syntax.proofs.Common.{◌≡◌, ℕ, ◌≤◌, ℤ, List, [], ◌∷◌, length, Option, Some, None, inl, inr, ◌⊎◌, ap, ap₂}
+use Rattle.scop_syntax.proofs.Common.{subst, sym, ◌∙◌, refl, arith, slice_get, LexLess, LexLe, LexLess-irrefl, In}
+use Rattle.scop_syntax.proofs.Common.{Visit, Cell, last_writer, next_writer, last_is, none_writes, next_is, nat_cases}
+use Rattle.whole_numbers.proofs.Lexicographic.{LexLess-from_le}
 use Rattle.quast_trees.specs.Tree.{Tree, Speaks}
 use Rattle.quast_trees.specs.Source.{source_of}
 use Rattle.quast_trees.specs.Leaf.{Leaf, initial, found}
 use Rattle.quast_trees.specs.Value.{value}
-use Rattle.scop_syntax.specs.Members.{In}
-use Rattle.scop_syntax.specs.Walk.{Visit}
-use Rattle.scop_syntax.specs.Cells.{Cell}
-use Rattle.scop_syntax.specs.Writers.{last_writer, next_writer}
-use Rattle.scop_syntax.proofs.Writers.{last_is, none_writes, next_is, none_behind}
+use Rattle.scop_syntax.proofs.Writers.{none_behind}
 use Rattle.quast_joins.specs.declared.way.Way.{Way}
 use Rattle.quast_joins.specs.declared.way.Way.TheVariants.{Later, Earlier}
 use Rattle.dataflow.specs.Wanted.{AtMost, IsBest, better}
 use Rattle.dataflow.specs.Places.{answer, Names, IsOrdered}
 use Rattle.quast_joins.specs.Joins.{join}
 use Rattle.dataflow.specs.Candidates.{TurnsAtMost, IsAmong, IsWanted, Writes, Finds, joined}
-use Rattle.scop_syntax.proofs.Members.{nat_cases}
 use Rattle.scop_syntax.proofs.Order.{own_order}
 use Rattle.dataflow.proofs.Choices.{chosen_names, best_of_two}
 use Rattle.quast_joins.proofs.Values.{join-value}

@@ -1,17 +1,13 @@
 -- Of two answers that name places of the walk the join chooses that of the wanted place.
-use Rattle.std.proofs.Common.{◌≡◌, ℕ, suc, ◌<◌, ◌≤◌, Bool, true, false, ℤ, pos, List, [], ◌∷◌, ◌++◌, length, take}
-use Rattle.std.proofs.Common.{Option, Some, None, inl, inr, ◌⊎◌, ap, ap₂, subst, sym, ◌∙◌, refl, arith}
-use Rattle.std.specs.Prelude.{slice_get, nat_eq, if◌then◌else◌}
-use Rattle.std.proofs.lemmas.Int.{ints}
-use Rattle.std.proofs.lemmas.Bool.{lt-ltb, le-ltb}
-use Rattle.whole_numbers.specs.Lexicographic.{LexLess}
+use Rattle.scop_syntax.proofs.Common.{◌≡◌, ℕ, suc, ◌<◌, ◌≤◌, Bool, true, false, ℤ, pos, List, [], ◌∷◌, ◌++◌, length}
+use Rattle.scop_syntax.proofs.Common.{take, Option, Some, None, inl, inr, ◌⊎◌, ap, ap₂, subst, sym, ◌∙◌, refl, arith}
+use Rattle.scop_syntax.proofs.Common.{slice_get, nat_eq, if◌then◌else◌, ints, lt-ltb, le-ltb, LexLess, nat_cases, Visit}
+use Rattle.scop_syntax.proofs.Common.{common, Before}
 use Rattle.quast_trees.specs.Leaf.{Leaf, initial, found}
-use Rattle.scop_syntax.proofs.Members.{nat_cases}
 use Rattle.scop_syntax.proofs.Order.{common-comm}
 use Rattle.quast_trees.specs.Value.{by_sign}
 use Rattle.quast_trees.proofs.SignChoices.{by_sign_first, by_sign_second}
-use Rattle.scop_syntax.specs.Walk.{Visit}
-use Rattle.scop_syntax.specs.Order.{common, key, Before}
+use Rattle.scop_syntax.specs.Order.{key}
 use Rattle.quast_joins.specs.declared.way.Way.{Way}
 use Rattle.quast_joins.specs.declared.way.Way.TheVariants.{Later, Earlier}
 use Rattle.quast_joins.specs.Ways.{ahead, text, first_stands, chosen}

@@ -1,11 +1,7 @@
 -- The dependences of covers lie between statements of the model.
-use Rattle.std.proofs.Common.{◌≡◌, ℕ, ◌+◌, ◌≤◌, Bool, true, false, List, [], ◌∷◌, Some, None, Option, Ok, Err, Result}
-use Rattle.std.proofs.Common.{ap, subst, sym, ◌∙◌, refl, arith, inl, inr}
-use Rattle.std.specs.Prelude.{slice_get, nat_eq, if◌then◌else◌}
-use Rattle.scop_syntax.specs.Members.{In}
-use Rattle.scop_syntax.specs.Reductions.{is_marked}
-use Rattle.scop_syntax.specs.Tree.{Access}
-use Rattle.scop_syntax.proofs.Members.{in_append}
+use Rattle.scop_syntax.proofs.Common.{◌≡◌, ℕ, ◌+◌, ◌≤◌, Bool, true, false, List, [], ◌∷◌, Some, None, Option, Ok, Err}
+use Rattle.scop_syntax.proofs.Common.{Result, ap, subst, sym, ◌∙◌, refl, arith, inl, inr, slice_get, nat_eq}
+use Rattle.scop_syntax.proofs.Common.{if◌then◌else◌, In, is_marked, Access, in_append}
 use Rattle.quast_trees.specs.Source.{Source}
 use Rattle.quast_trees.specs.Paths.{LeafPath, live_paths}
 use Rattle.quast_trees.specs.Tree.{Tree}

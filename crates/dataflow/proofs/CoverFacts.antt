@@ -1,13 +1,8 @@
 -- What the laws of walks, quasts and points say of covers, from the laws themselves.
-use Rattle.std.proofs.Common.{◌≡◌, ℕ, ℤ, pos, ◌≤ℤ◌, ◌<ℤ◌, ◌^◌, List, ◌++◌, length, map, All, Some, refl}
-use Rattle.std.specs.Prelude.{slice_get}
+use Rattle.scop_syntax.proofs.Common.{◌≡◌, ℕ, ℤ, pos, ◌≤ℤ◌, ◌<ℤ◌, ◌^◌, List, ◌++◌, length, map, All, Some, refl}
+use Rattle.scop_syntax.proofs.Common.{slice_get, HasParameters, In, statements_of, Program, Visit, walk_of}
+use Rattle.scop_syntax.proofs.Common.{in_from_place}
 use Rattle.integer_sets.specs.Points.{Satisfies}
-use Rattle.scop_syntax.specs.Limits.{HasParameters}
-use Rattle.scop_syntax.specs.Members.{In}
-use Rattle.scop_syntax.specs.Statements.{statements_of}
-use Rattle.scop_syntax.specs.Tree.{Program}
-use Rattle.scop_syntax.specs.Walk.{Visit, walk_of}
-use Rattle.scop_syntax.proofs.Members.{in_from_place}
 use Rattle.iteration_domains.specs.Model.{Modelled, model_of, modelled}
 use Rattle.iteration_domains.specs.Sizes.{IsKernelModel}
 use Rattle.iteration_domains.proofs.Instances.{instance_is_point}

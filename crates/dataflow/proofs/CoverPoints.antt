@@ -1,11 +1,9 @@
 -- The whole points of an access's dependences in a role are its covers, or all its conflicts.
-use Rattle.std.proofs.Common.{◌≡◌, ℕ, suc, ◌+◌, ℤ, List, [], ◌∷◌, ◌++◌, length, All}
-use Rattle.std.proofs.Common.{Option, Some, None, Ok, Err, inl, inr, sym, ap, ap₂, subst, ◌∙◌, refl, arith}
-use Rattle.std.specs.Prelude.{◌↔◌, ◌-◌, slice_get, nat_eq, option_and_then}
-use Rattle.std.specs.Option.{option_map}
-use Rattle.std.specs.List.{Contains}
-use Rattle.std.proofs.lemmas.Bool.{eqb-true}
-use Rattle.whole_numbers.specs.Affine.{values_of}
+use Rattle.scop_syntax.proofs.Common.{◌≡◌, ℕ, suc, ◌+◌, ℤ, List, [], ◌∷◌, ◌++◌, length, All, Option, Some, None, Ok}
+use Rattle.scop_syntax.proofs.Common.{Err, inl, inr, sym, ap, ap₂, subst, ◌∙◌, refl, arith, ◌↔◌, ◌-◌, slice_get, nat_eq}
+use Rattle.scop_syntax.proofs.Common.{option_and_then, option_map, Contains, eqb-true, values_of, PlacesConflict}
+use Rattle.scop_syntax.proofs.Common.{accesses, cell_at, cell_of, In, Access, Program, Visit, Instance, instance}
+use Rattle.scop_syntax.proofs.Common.{walk_of, both, in_from_place, place_of}
 use Rattle.integer_sets.specs.Points.{Satisfies}
 use Rattle.fm_projection.proofs.CondensedSystems.{condensed_points}
 use Rattle.quast_trees.specs.Leaf.{Leaf, initial, found}
@@ -15,11 +13,6 @@ use Rattle.quast_trees.specs.Tree.{Tree}
 use Rattle.quast_trees.specs.Value.{value}
 use Rattle.quast_joins.specs.declared.way.Way.{Way}
 use Rattle.quast_joins.specs.declared.way.Way.TheVariants.{Later, Earlier}
-use Rattle.scop_syntax.specs.Cells.{PlacesConflict, accesses, cell_at, cell_of}
-use Rattle.scop_syntax.specs.Members.{In}
-use Rattle.scop_syntax.specs.Tree.{Access, Program}
-use Rattle.scop_syntax.specs.Walk.{Visit, Instance, instance, walk_of}
-use Rattle.scop_syntax.proofs.Members.{both, in_from_place, place_of}
 use Rattle.iteration_domains.specs.Dependence.{Dependence}
 use Rattle.iteration_domains.specs.Model.{Modelled, model_of}
 use Rattle.iteration_domains.specs.Related.{Relates, point_of}

@@ -1,10 +1,7 @@
 -- Leaves whose numbers fit.
-use Rattle.std.proofs.Common.{◌≡◌, ℕ, Bool, true, false, ℤ, List, [], ◌∷◌, ◌++◌, length, Option}
-use Rattle.std.proofs.Common.{Some, None, Result, Ok, Err, refl, sym, ap, ap₂, subst, ◌∙◌, arith}
-use Rattle.std.specs.Prelude.{All, if◌then◌else◌, neg_ℤ, ◌≤ℤ◌}
-use Rattle.std.specs.Int.Signed.{le_z}
-use Rattle.std.proofs.lemmas.Int.{ints}
-use Rattle.whole_numbers.specs.Affine.{Affine}
+use Rattle.scop_syntax.proofs.Common.{◌≡◌, ℕ, Bool, true, false, ℤ, List, [], ◌∷◌, ◌++◌, length, Option, Some, None}
+use Rattle.scop_syntax.proofs.Common.{Result, Ok, Err, refl, sym, ap, ap₂, subst, ◌∙◌, arith, All, if◌then◌else◌, neg_ℤ}
+use Rattle.scop_syntax.proofs.Common.{◌≤ℤ◌, le_z, ints, Affine, both, holds_le_z}
 use Rattle.wide_math.specs.declared.Wide.{Wide}
 use Rattle.quast_trees.specs.Source.{Source}
 use Rattle.quast_trees.specs.Tree.{Tree, initial, leaf, branch, bind, named, count, LeavesHave}
@@ -14,7 +11,6 @@ use Rattle.quast_trees.specs.declared.node.Node.{Node}
 use Rattle.quast_trees.specs.declared.node.Node.TheVariants as node
 use Rattle.quast_joins.specs.Limits.{leaf_limit}
 use Rattle.quast_joins.specs.Sizes.{IsWithin, AreWithin, IsFormWithin, AreFormsWithin, LeavesWithin}
-use Rattle.scop_syntax.proofs.Members.{both, holds_le_z}
 use Rattle.dataflow.specs.WriterRuns.{number_fits, numbers_fit, form_fits, forms_fit, leaves_fit, fitting}
 use Rattle.dataflow.specs.Problems.{all_below}
 use Rattle.dataflow.specs.Steps.{node_fits, nodes_fit}

@@ -1,12 +1,8 @@
 -- The whole points of the dependences of the reads' trees are the reads with their last writers.
-use Rattle.std.proofs.Common.{◌≡◌, ℕ, suc, ℤ, List, [], ◌∷◌, map, Ok, inl, inr, sym, subst, ◌∙◌, refl, arith}
-use Rattle.std.specs.Prelude.{◌↔◌}
+use Rattle.scop_syntax.proofs.Common.{◌≡◌, ℕ, suc, ℤ, List, [], ◌∷◌, map, Ok, inl, inr, sym, subst, ◌∙◌, refl, arith}
+use Rattle.scop_syntax.proofs.Common.{◌↔◌, In, Access, Program, Instance, instance, walk_of, in_append}
 use Rattle.quast_trees.specs.Tree.{Tree}
 use Rattle.quast_joins.specs.declared.way.Way.TheVariants.{Later}
-use Rattle.scop_syntax.specs.Members.{In}
-use Rattle.scop_syntax.specs.Tree.{Access, Program}
-use Rattle.scop_syntax.specs.Walk.{Instance, instance, walk_of}
-use Rattle.scop_syntax.proofs.Members.{in_append}
 use Rattle.iteration_domains.specs.Dependence.{Dependence}
 use Rattle.iteration_domains.specs.Model.{Modelled, KernelModel, model_of}
 use Rattle.iteration_domains.specs.Related.{Relates}

@@ -1,12 +1,10 @@
 -- Reads and their sources gone through together, as the code gathers their dependences.
-use Rattle.std.proofs.Common.{◌≡◌, ℕ, zero, suc, ◌+◌, ◌-◌, ◌<◌, ◌≤◌, List, [], ◌∷◌, ◌++◌, length, map, take, drop, get_or}
-use Rattle.std.proofs.Common.{Ok, refl, sym, ap, ap₂, subst, ◌∙◌, arith, add-one, drop-cons, append_assoc, append-nil}
-use Rattle.std.specs.List.{flat_map}
+use Rattle.scop_syntax.proofs.Common.{◌≡◌, ℕ, zero, suc, ◌+◌, ◌-◌, ◌<◌, ◌≤◌, List, [], ◌∷◌, ◌++◌, length, map, take}
+use Rattle.scop_syntax.proofs.Common.{drop, get_or, Ok, refl, sym, ap, ap₂, subst, ◌∙◌, arith, add-one, drop-cons}
+use Rattle.scop_syntax.proofs.Common.{append_assoc, append-nil, flat_map, Access, In}
 use Rattle.quast_trees.specs.Tree.{Tree}
 use Rattle.quast_joins.specs.declared.way.Way.{Way}
 use Rattle.quast_joins.specs.declared.way.Way.TheVariants.{Later}
-use Rattle.scop_syntax.specs.Tree.{Access}
-use Rattle.scop_syntax.specs.Members.{In}
 use Rattle.iteration_domains.specs.Model.{Modelled, KernelModel}
 use Rattle.iteration_domains.specs.Sizes.{IsKernelModel}
 use Rattle.iteration_domains.specs.Dependence.{Dependence}

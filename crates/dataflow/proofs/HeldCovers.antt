@@ -1,15 +1,12 @@
 -- Each cover of a walk is a pair of one of the dependences of its accesses with their writers.
-use Rattle.std.proofs.Common.{◌≡◌, ℕ, suc, ◌+◌, Bool, true, false, ℤ, pos, ◌≤ℤ◌, List, [], ◌∷◌, ◌++◌, length, All}
-use Rattle.std.proofs.Common.{Option, Some, Result, Ok, Err, inl, inr, sym, ap, subst, ◌∙◌, refl, arith}
-use Rattle.std.specs.Prelude.{◌↔◌, slice_get, nat_eq, if◌then◌else◌, option_and_then}
-use Rattle.std.specs.Option.{option_map}
-use Rattle.std.specs.List.{Contains, flat_map}
-use Rattle.std.proofs.lemmas.Bool.{eq-eqb, eqb-true}
-use Rattle.std.proofs.lemmas.List.{length-map}
-use Rattle.std.proofs.lemmas.List.Elements.{All-cons, All-nil}
+use Rattle.scop_syntax.proofs.Common.{◌≡◌, ℕ, suc, ◌+◌, Bool, true, false, ℤ, pos, ◌≤ℤ◌, List, [], ◌∷◌, ◌++◌, length}
+use Rattle.scop_syntax.proofs.Common.{All, Option, Some, Result, Ok, Err, inl, inr, sym, ap, subst, ◌∙◌, refl, arith}
+use Rattle.scop_syntax.proofs.Common.{◌↔◌, slice_get, nat_eq, if◌then◌else◌, option_and_then, option_map, Contains}
+use Rattle.scop_syntax.proofs.Common.{flat_map, eq-eqb, eqb-true, length-map, All-cons, All-nil, Affine, value_of}
+use Rattle.scop_syntax.proofs.Common.{values_of, NotNegative, Cell, accesses, cell_at, cell_of, written, In, is_marked}
+use Rattle.scop_syntax.proofs.Common.{Access, Program, Visit, instance, walk_of, last_writer, next_writer, in_back}
+use Rattle.scop_syntax.proofs.Common.{in_from_place, in_front, member_at, last_is, next_is}
 use Rattle.std.proofs.lemmas.Option.{option_and_then_some}
-use Rattle.whole_numbers.specs.Affine.{Affine, value_of, values_of}
-use Rattle.whole_numbers.specs.Lists.{NotNegative}
 use Rattle.integer_sets.specs.Points.{Satisfies}
 use Rattle.fm_projection.proofs.CondensedSystems.{condensed_points}
 use Rattle.quast_trees.specs.Leaf.{found}
@@ -19,14 +16,6 @@ use Rattle.quast_trees.specs.Tree.{Tree}
 use Rattle.quast_trees.specs.Value.{value}
 use Rattle.quast_joins.specs.declared.way.Way.{Way}
 use Rattle.quast_joins.specs.declared.way.Way.TheVariants.{Later, Earlier}
-use Rattle.scop_syntax.specs.Cells.{Cell, accesses, cell_at, cell_of, written}
-use Rattle.scop_syntax.specs.Members.{In}
-use Rattle.scop_syntax.specs.Reductions.{is_marked}
-use Rattle.scop_syntax.specs.Tree.{Access, Program}
-use Rattle.scop_syntax.specs.Walk.{Visit, instance, walk_of}
-use Rattle.scop_syntax.specs.Writers.{last_writer, next_writer}
-use Rattle.scop_syntax.proofs.Members.{in_back, in_from_place, in_front, member_at}
-use Rattle.scop_syntax.proofs.Writers.{last_is, next_is}
 use Rattle.scop_syntax.proofs.Writers as writers
 use Rattle.iteration_domains.specs.Dependence.{Dependence}
 use Rattle.iteration_domains.specs.Held.{HoldCovers, IsPairIn}

@@ -1,14 +1,9 @@
 -- Each read of a walk and its last writer are a pair of one of the dependences of the reads' trees.
-use Rattle.std.proofs.Common.{◌≡◌, ℕ, suc, ◌+◌, ◌-◌, ℤ, List, [], ◌∷◌, ◌++◌, length, map, All, Ok, inl, inr}
-use Rattle.std.proofs.Common.{sym, ap, ap₂, subst, ◌∙◌, refl, arith}
-use Rattle.std.specs.List.{flat_map}
-use Rattle.std.proofs.lemmas.List.{map-append}
-use Rattle.std.proofs.lemmas.List.Elements.{All-head, All-tail}
+use Rattle.scop_syntax.proofs.Common.{◌≡◌, ℕ, suc, ◌+◌, ◌-◌, ℤ, List, [], ◌∷◌, ◌++◌, length, map, All, Ok, inl, inr}
+use Rattle.scop_syntax.proofs.Common.{sym, ap, ap₂, subst, ◌∙◌, refl, arith, flat_map, map-append, All-head, All-tail}
+use Rattle.scop_syntax.proofs.Common.{In, Access, Program, in_append, in_back, in_front}
 use Rattle.quast_trees.specs.Tree.{Tree}
 use Rattle.quast_joins.specs.declared.way.Way.TheVariants.{Later}
-use Rattle.scop_syntax.specs.Members.{In}
-use Rattle.scop_syntax.specs.Tree.{Access, Program}
-use Rattle.scop_syntax.proofs.Members.{in_append, in_back, in_front}
 use Rattle.iteration_domains.specs.Dependence.{Dependence}
 use Rattle.iteration_domains.specs.Held.{HoldSources}
 use Rattle.iteration_domains.specs.Model.{Modelled, KernelModel, model_of}

@@ -1,8 +1,7 @@
 -- Where no candidate stops, the run gives the join over all (`run_joined`), and keeps what joins keep (`run_keeps`).
-use Rattle.std.proofs.Common.{◌≡◌, ℕ, ◌≤◌, Bool, true, false, List, [], ◌∷◌, Result, Ok, Err, inl, inr, refl, sym, subst, arith}
-use Rattle.std.specs.Prelude.{nat_lt, if◌then◌else◌}
+use Rattle.scop_syntax.proofs.Common.{◌≡◌, ℕ, ◌≤◌, Bool, true, false, List, [], ◌∷◌, Result, Ok, Err, inl, inr, refl}
+use Rattle.scop_syntax.proofs.Common.{sym, subst, arith, nat_lt, if◌then◌else◌, In}
 use Rattle.quast_trees.specs.Tree.{Tree, count}
-use Rattle.scop_syntax.specs.Members.{In}
 use Rattle.quast_joins.specs.declared.way.Way.{Way}
 use Rattle.quast_joins.specs.Joins.{join}
 use Rattle.quast_joins.specs.Counts.{join_count}

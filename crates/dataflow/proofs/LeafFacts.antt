@@ -1,12 +1,9 @@
 -- The leaves of an access's quast and the writers that they name can be told.
-use Rattle.std.proofs.Common.{◌≡◌, ℕ, suc, ◌+◌, ◌≤◌, Bool, true, false, ℤ, pos, negsuc, List, [], ◌∷◌, ◌++◌, length, not}
-use Rattle.std.proofs.Common.{Option, Some, None, Result, ap, subst, sym, ◌∙◌, refl, arith, get_or, drop, add-one, drop-cons, append_assoc, ◌<◌}
-use Rattle.std.specs.Prelude.{if◌then◌else◌}
-use Rattle.std.specs.Prelude.{All, ◌*ℤ◌, neg_ℤ, ◌≤ℤ◌}
-use Rattle.std.proofs.lemmas.Int.{ints}
-use Rattle.std.proofs.lemmas.List.Elements.{All-nil, All-cons, All-head, All-tail, All-append, All-filter}
-use Rattle.whole_numbers.specs.Affine.{Affine}
-use Rattle.whole_numbers.specs.Fits.{fits}
+use Rattle.scop_syntax.proofs.Common.{◌≡◌, ℕ, suc, ◌+◌, ◌≤◌, Bool, true, false, ℤ, pos, negsuc, List, [], ◌∷◌, ◌++◌}
+use Rattle.scop_syntax.proofs.Common.{length, not, Option, Some, None, Result, ap, subst, sym, ◌∙◌, refl, arith, get_or}
+use Rattle.scop_syntax.proofs.Common.{drop, add-one, drop-cons, append_assoc, ◌<◌, if◌then◌else◌, All, ◌*ℤ◌, neg_ℤ}
+use Rattle.scop_syntax.proofs.Common.{◌≤ℤ◌, ints, All-nil, All-cons, All-head, All-tail, All-append, All-filter, Affine}
+use Rattle.scop_syntax.proofs.Common.{fits, In, in_from_place, all_in}
 use Rattle.whole_numbers.proofs.Fits.{fits_range}
 use Rattle.quast_trees.specs.Source.{Source}
 use Rattle.quast_trees.specs.Tree.{Tree, initial, leaf, branch, bind, count, Speaks}
@@ -17,8 +14,6 @@ use Rattle.quast_joins.specs.Counts.{HasForms}
 use Rattle.quast_joins.specs.Limits.{leaf_limit}
 use Rattle.quast_joins.specs.Sizes.{IsWithin, AreWithin, IsFormWithin, AreFormsWithin, LeavesWithin}
 use Rattle.quast_joins.specs.Ways as ways
-use Rattle.scop_syntax.specs.Members.{In}
-use Rattle.scop_syntax.proofs.Members.{in_from_place, all_in}
 use Rattle.iteration_domains.specs.Model.{Modelled, KernelModel}
 use Rattle.iteration_domains.specs.Sizes.{IsKernelModel, HaveOneCount}
 use Rattle.conflict_deps.specs.Conflicts.{Side, loops_of}

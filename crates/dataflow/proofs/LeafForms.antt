@@ -1,15 +1,12 @@
 -- The forms of a leaf's rows as the code puts them together: numbers at their variables, opposites, one number more.
-use Rattle.std.proofs.Common.{◌≡◌, ℕ, zero, suc, ◌+◌, ◌-◌, ◌<◌, ℤ, pos, negsuc, List, [], ◌∷◌, ◌++◌, length, take}
-use Rattle.std.proofs.Common.{drop, ap, ap₂, sym, ◌∙◌, refl, arith, get_or, length-append, length-drop, set}
-use Rattle.std.specs.Prelude.{◌+ℤ◌, ◌-ℤ◌, ◌*ℤ◌, neg_ℤ, true, All}
-use Rattle.std.proofs.lemmas.Int.{ints}
-use Rattle.std.proofs.lemmas.List.{length-take-le, get_or-append-add, get_or_append_left}
-use Rattle.std.proofs.lemmas.List.Elements.{All-nil, All-cons, All-head, All-tail}
-use Rattle.whole_numbers.specs.Fits.{fits}
-use Rattle.whole_numbers.specs.Lists.{zeros, multiples, sums}
-use Rattle.whole_numbers.specs.Affine.{Affine, form_of, complement}
-use Rattle.whole_numbers.proofs.Dot.{length-zeros, length-multiples, get_or-zeros}
-use Rattle.whole_numbers.proofs.Lists.{multiples-append, drop-multiples, multiples-one}
+use Rattle.scop_syntax.proofs.Common.{◌≡◌, ℕ, zero, suc, ◌+◌, ◌-◌, ◌<◌, ℤ, pos, negsuc, List, [], ◌∷◌, ◌++◌, length}
+use Rattle.scop_syntax.proofs.Common.{take, drop, ap, ap₂, sym, ◌∙◌, refl, arith, get_or, length-append, set, ◌+ℤ◌}
+use Rattle.scop_syntax.proofs.Common.{◌-ℤ◌, ◌*ℤ◌, neg_ℤ, true, All, ints, length-take-le, get_or-append-add}
+use Rattle.scop_syntax.proofs.Common.{get_or_append_left, All-nil, All-cons, All-head, All-tail, fits, zeros, multiples}
+use Rattle.scop_syntax.proofs.Common.{sums, Affine, form_of, complement, length-zeros, length-multiples, get_or-zeros}
+use Rattle.scop_syntax.proofs.Common.{multiples-append, multiples-one}
+use Rattle.std.proofs.Common.{length-drop}
+use Rattle.whole_numbers.proofs.Lists.{drop-multiples}
 use Rattle.dataflow.specs.LeafRows.{width, placed_numbers, placed, bind_begins, bind_ends, turn_equality}
 use Rattle.dataflow.specs.LeafSteps.{CanPlace, HoldOpposites}
 use Rattle.dataflow.specs.declared.leaf_rows.Layout.{Layout}

@@ -1,11 +1,8 @@
 -- The rows of a path and the equalities of a leaf, put one behind another.
-use Rattle.std.proofs.Common.{◌≡◌, ℕ, suc, ◌+◌, ◌<◌, ◌≤◌, pos, List, [], ◌∷◌, ◌++◌, length, drop}
-use Rattle.std.proofs.Common.{ap, subst, sym, ◌∙◌, refl, arith, get_or, add-one, drop-cons, append_assoc}
-use Rattle.std.specs.Prelude.{All}
-use Rattle.std.proofs.lemmas.List.{append-nil, drop_all}
-use Rattle.std.proofs.lemmas.List.Elements.{All-get_or}
-use Rattle.whole_numbers.specs.Affine.{Affine}
-use Rattle.whole_numbers.proofs.Entries.{all_unmapped}
+use Rattle.scop_syntax.proofs.Common.{◌≡◌, ℕ, suc, ◌+◌, ◌<◌, ◌≤◌, pos, List, [], ◌∷◌, ◌++◌, length, drop, ap, subst}
+use Rattle.scop_syntax.proofs.Common.{sym, ◌∙◌, refl, arith, get_or, add-one, drop-cons, append_assoc, All, drop_all}
+use Rattle.scop_syntax.proofs.Common.{All-get_or, Affine, all_unmapped}
+use Rattle.std.proofs.lemmas.List.{append-nil}
 use Rattle.quast_trees.specs.Paths.{Turn, up, down, bound, binds_in, AreOver}
 use Rattle.quast_trees.specs.steps.Ways.{turn_held, turns_held}
 use Rattle.quast_trees.specs.declared.paths.Turn.{Turn as Held}

@@ -1,13 +1,9 @@
 -- A pair of instances is a whole point of the system of a leaf just where it is one of its parts.
-use Rattle.std.proofs.Common.{◌≡◌, ℕ, ◌+◌, ℤ, pos, ◌≤ℤ◌, List, [], ◌∷◌, ◌++◌, length, map, All}
-use Rattle.std.proofs.Common.{sym, ap, ap₂, subst, ◌∙◌, refl, arith, length-append}
+use Rattle.scop_syntax.proofs.Common.{◌≡◌, ℕ, ◌+◌, ℤ, pos, ◌≤ℤ◌, List, [], ◌∷◌, ◌++◌, length, map, All, sym, ap, ap₂}
+use Rattle.scop_syntax.proofs.Common.{subst, ◌∙◌, refl, arith, length-append, All-append, All-cons, All-map, All-nil}
+use Rattle.scop_syntax.proofs.Common.{Affine, value_of, NotNegative, all_back, all_front, all_unmapped, values}
 use Rattle.std.proofs.lemmas.List.{append_assoc}
-use Rattle.std.proofs.lemmas.List.Elements.{All-append, All-cons, All-map, All-nil}
-use Rattle.whole_numbers.specs.Affine.{Affine, value_of}
-use Rattle.whole_numbers.specs.Lists.{NotNegative}
-use Rattle.whole_numbers.proofs.Entries.{all_back, all_front, all_unmapped}
 use Rattle.integer_sets.specs.Points.{Satisfies}
-use Rattle.scop_syntax.specs.Cells.{values}
 use Rattle.iteration_domains.specs.Rows.{variables}
 use Rattle.iteration_domains.proofs.Points.{satisfied}
 use Rattle.iteration_domains.proofs.RowLaws.{GoesOn, goes_on_last, values-variables}

@@ -1,9 +1,8 @@
 -- Where the variables of a leaf stand, by the way in which its writer is looked for.
-use Rattle.std.proofs.Common.{◌≡◌, ℕ, ◌+◌, ◌-◌, ◌≤◌, pos, List, [], ◌∷◌, ◌++◌, length, take, drop, get_or, ap, subst, sym}
-use Rattle.std.proofs.Common.{◌∙◌, refl, arith, length-drop}
-use Rattle.std.proofs.lemmas.List.{length-take-le, get_or-append-add, get_or_append_left}
-use Rattle.whole_numbers.specs.Lists.{zeros}
-use Rattle.whole_numbers.proofs.Dot.{length-zeros, get_or-zeros}
+use Rattle.scop_syntax.proofs.Common.{◌≡◌, ℕ, ◌+◌, ◌-◌, ◌≤◌, pos, List, [], ◌∷◌, ◌++◌, length, take, drop, get_or, ap}
+use Rattle.scop_syntax.proofs.Common.{subst, sym, ◌∙◌, refl, arith, length-take-le, get_or-append-add}
+use Rattle.scop_syntax.proofs.Common.{get_or_append_left, zeros, length-zeros, get_or-zeros}
+use Rattle.std.proofs.Common.{length-drop}
 use Rattle.quast_trees.specs.Paths.{Turn, up, down, bound, LeafPath, binds_in}
 use Rattle.quast_joins.specs.declared.way.Way.TheVariants.{Later, Earlier}
 use Rattle.conflict_deps.specs.Conflicts.{Side, loops_of}

@@ -1,17 +1,13 @@
 -- The rows of what is passed hold just where the point goes so.
-use Rattle.std.proofs.Common.{◌≡◌, ℕ, zero, suc, ◌+◌, ◌-◌, ◌<◌, ◌≤◌, ℤ, pos, negsuc, List, [], ◌∷◌, ◌++◌, length, take}
-use Rattle.std.proofs.Common.{drop, ap, ap₂, subst, sym, ◌∙◌, refl, arith, get_or, length-append, length-drop}
-use Rattle.std.specs.Prelude.{◌↔◌, ◌≤ℤ◌, ◌<ℤ◌, ◌+ℤ◌, ◌-ℤ◌, ◌*ℤ◌, neg_ℤ, All, set}
-use Rattle.std.proofs.lemmas.Int.{ints}
-use Rattle.std.proofs.lemmas.List.{append_assoc, append-nil, length-take-le, get_or-append-add, get_or_append_left}
-use Rattle.std.proofs.lemmas.List.Elements.{All-nil, All-cons, All-head, All-tail}
-use Rattle.whole_numbers.specs.Lists.{dot, zeros}
-use Rattle.whole_numbers.specs.Affine.{Affine, form_of, value_of, values_of, multiple_of_form, complement}
-use Rattle.whole_numbers.specs.Division.{IsFloor}
-use Rattle.whole_numbers.proofs.Dot.{dot-nil, dot-zeros, dot-append, dot-unit, length-zeros}
-use Rattle.whole_numbers.proofs.Lists.{dot-split}
-use Rattle.whole_numbers.proofs.Ring.{mul_comm_int, mul_neg_left}
-use Rattle.whole_numbers.proofs.Values.{value_of-sum, value_of-multiple, value_of-complement}
+use Rattle.scop_syntax.proofs.Common.{◌≡◌, ℕ, zero, suc, ◌+◌, ◌-◌, ◌<◌, ◌≤◌, ℤ, pos, negsuc, List, [], ◌∷◌, ◌++◌}
+use Rattle.scop_syntax.proofs.Common.{length, take, drop, ap, ap₂, subst, sym, ◌∙◌, refl, arith, get_or, length-append}
+use Rattle.scop_syntax.proofs.Common.{◌↔◌, ◌≤ℤ◌, ◌<ℤ◌, ◌+ℤ◌, ◌-ℤ◌, ◌*ℤ◌, neg_ℤ, All, set, ints, length-take-le}
+use Rattle.scop_syntax.proofs.Common.{get_or-append-add, get_or_append_left, All-nil, All-cons, All-head, All-tail, dot}
+use Rattle.scop_syntax.proofs.Common.{zeros, Affine, form_of, value_of, values_of, multiple_of_form, complement}
+use Rattle.scop_syntax.proofs.Common.{IsFloor, dot-nil, dot-zeros, dot-append, dot-unit, length-zeros, dot-split}
+use Rattle.scop_syntax.proofs.Common.{mul_comm_int, mul_neg_left, value_of-sum, value_of-multiple, value_of-complement}
+use Rattle.std.proofs.Common.{length-drop}
+use Rattle.std.proofs.lemmas.List.{append_assoc, append-nil}
 use Rattle.quast_trees.specs.Paths.{Turn, up, down, bound, binds_in, AreOver, Goes}
 use Rattle.dataflow.specs.LeafRows.{width, bound_form, placed, bind_begins, bind_ends, path_rows, turn_equality}
 use Rattle.dataflow.specs.LeafRows.{turn_equalities}

@@ -1,10 +1,8 @@
 -- The equalities and rows of a leaf as the code puts them together, and how many variables they have.
-use Rattle.std.proofs.Common.{◌≡◌, ℕ, suc, ◌+◌, ◌≤◌, negsuc, List, [], ◌∷◌, ◌++◌, length, map}
-use Rattle.std.proofs.Common.{ap, ap₂, subst, sym, ◌∙◌, refl, arith, append_assoc}
-use Rattle.std.specs.Prelude.{All, neg_ℤ}
-use Rattle.std.proofs.lemmas.List.Elements.{All-nil, All-cons, All-head, All-tail, All-append}
-use Rattle.whole_numbers.specs.Affine.{Affine, complement, multiple_of_form}
-use Rattle.whole_numbers.proofs.Dot.{length-multiples, length-sums}
+use Rattle.scop_syntax.proofs.Common.{◌≡◌, ℕ, suc, ◌+◌, ◌≤◌, negsuc, List, [], ◌∷◌, ◌++◌, length, map, ap, ap₂, subst}
+use Rattle.scop_syntax.proofs.Common.{sym, ◌∙◌, refl, arith, append_assoc, All, neg_ℤ, All-nil, All-cons, All-head}
+use Rattle.scop_syntax.proofs.Common.{All-tail, All-append, Affine, complement, multiple_of_form, length-multiples}
+use Rattle.scop_syntax.proofs.Common.{length-sums}
 use Rattle.integer_sets.specs.Constraints.{Constraints, variables_in}
 use Rattle.iteration_domains.specs.Parts.{variables_of}
 use Rattle.iteration_domains.specs.Constraints.{equalities_in}

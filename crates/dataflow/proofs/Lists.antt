@@ -1,17 +1,10 @@
 -- Forms of a problem, put one behind another; multiples of small forms are never too wide.
-use Rattle.std.proofs.Common.{◌≡◌, ℕ, zero, suc, ◌+◌, ◌-◌, ◌^◌, ◌<◌, ◌≤◌, ℤ, pos, negsuc, ◌*ℤ◌, List, [], ◌∷◌, ◌++◌}
-use Rattle.std.proofs.Common.{set}
-use Rattle.std.proofs.Common.{map, take, drop, get_or, length, refl, sym, ap, ap₂, subst, ◌∙◌, arith, append_assoc}
-use Rattle.std.proofs.Common.{add-one, drop-cons}
-use Rattle.std.specs.Prelude.{Ok, All, unsigned_abs}
-use Rattle.std.specs.Int.{w128}
+use Rattle.scop_syntax.proofs.Common.{◌≡◌, ℕ, zero, suc, ◌+◌, ◌-◌, ◌^◌, ◌<◌, ◌≤◌, ℤ, pos, negsuc, ◌*ℤ◌, List, [], ◌∷◌}
+use Rattle.scop_syntax.proofs.Common.{◌++◌, set, map, take, drop, get_or, length, refl, sym, ap, ap₂, subst, ◌∙◌, arith}
+use Rattle.scop_syntax.proofs.Common.{append_assoc, add-one, drop-cons, Ok, All, unsigned_abs, w128, take-length}
+use Rattle.scop_syntax.proofs.Common.{map-append, unsigned_abs-mul, fits_signed_from_abs, zeros, multiples, Affine}
+use Rattle.scop_syntax.proofs.Common.{multiple_of_form, composed, fits_iff}
 use Rattle.std.proofs.Common.{length-drop}
-use Rattle.std.proofs.Math.Seq.{take-length}
-use Rattle.std.proofs.lemmas.List.{map-append}
-use Rattle.std.proofs.lemmas.Int.{unsigned_abs-mul, fits_signed_from_abs}
-use Rattle.whole_numbers.specs.Lists.{zeros, multiples}
-use Rattle.whole_numbers.specs.Affine.{Affine, multiple_of_form, composed}
-use Rattle.whole_numbers.proofs.Fits.{fits_iff}
 use Rattle.wide_math.specs.declared.Op.TheVariants.{Mul}
 use Rattle.wide_math.specs.Checked.{product_of}
 use Rattle.wide_math.proofs.Steps.{checked-fits}

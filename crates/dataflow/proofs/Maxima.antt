@@ -1,8 +1,6 @@
 -- A maximum by a minimum, and a wanted point either way by the least point of a problem.
-use Rattle.std.proofs.Common.{◌≡◌, ℕ, ℤ, ◌-ℤ◌, List, [], ◌∷◌, length, inl, inr, ◌⊎◌, refl, sym, ap₂, subst, ◌∙◌, arith}
-use Rattle.std.proofs.lemmas.List.{length-map}
-use Rattle.std.proofs.lemmas.Int.{ints}
-use Rattle.whole_numbers.specs.Lexicographic.{LexLess, LexLe}
+use Rattle.scop_syntax.proofs.Common.{◌≡◌, ℕ, ℤ, ◌-ℤ◌, List, [], ◌∷◌, length, inl, inr, ◌⊎◌, refl, sym, ap₂, subst, ◌∙◌}
+use Rattle.scop_syntax.proofs.Common.{arith, length-map, ints, LexLess, LexLe}
 use Rattle.whole_numbers.proofs.Lexicographic.{lex_total, LexLe-from_less, LexLe-refl}
 use Rattle.quast_joins.specs.declared.way.Way.{Way}
 use Rattle.quast_joins.specs.declared.way.Way.TheVariants.{Later, Earlier}

@@ -1,6 +1,5 @@
 -- What holds of each of a list that a loop looks at, and of a tree's nodes: numbers that their type holds.
-use Rattle.std.proofs.Common.{List, [], ◌∷◌, ◌++◌, All}
-use Rattle.std.proofs.lemmas.List.Elements.{All-nil, All-cons, All-head, All-tail}
+use Rattle.scop_syntax.proofs.Common.{List, [], ◌∷◌, ◌++◌, All, All-nil, All-cons, All-head, All-tail}
 use Rattle.quast_trees.specs.Tree.{Tree, initial, leaf, branch, bind, count}
 use Rattle.quast_trees.specs.Postfix.{written}
 use Rattle.quast_trees.specs.declared.node.Node.{Node}

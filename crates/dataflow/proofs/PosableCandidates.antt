@@ -1,22 +1,14 @@
 -- A candidate of a kernel's model can be posed: nothing on the way is too wide.
-use Rattle.std.proofs.Common.{◌≡◌, ℕ, zero, suc, ◌<◌, ◌+◌, ◌-◌, ◌*◌, ◌^◌, ◌≤◌, ℤ, negsuc, List, [], ◌∷◌, ◌++◌, length}
-use Rattle.std.proofs.Common.{map}
-use Rattle.std.proofs.Common.{Some, take, drop, get_or, ap, ap₂, subst, sym, ◌∙◌, refl, arith, length-append}
-use Rattle.std.specs.Prelude.{All, slice_get, nat_lt}
-use Rattle.std.specs.List.{flat_map}
-use Rattle.std.proofs.lemmas.List.{length-map}
-use Rattle.std.proofs.lemmas.List.Elements.{All-nil, All-cons, All-head, All-tail, All-append}
-use Rattle.whole_numbers.specs.Affine.{Affine, composed}
+use Rattle.scop_syntax.proofs.Common.{◌≡◌, ℕ, zero, suc, ◌<◌, ◌+◌, ◌-◌, ◌*◌, ◌^◌, ◌≤◌, ℤ, negsuc, List, [], ◌∷◌, ◌++◌}
+use Rattle.scop_syntax.proofs.Common.{length, map, Some, take, drop, get_or, ap, ap₂, subst, sym, ◌∙◌, refl, arith}
+use Rattle.scop_syntax.proofs.Common.{length-append, All, slice_get, nat_lt, flat_map, length-map, All-nil, All-cons}
+use Rattle.scop_syntax.proofs.Common.{All-head, All-tail, All-append, Affine, composed, AreAtMost, IsKernel, IsPlaced}
+use Rattle.scop_syntax.proofs.Common.{ranks_of, In, common, Placed, statements_of, Program, in_map_from, in_if_from}
+use Rattle.scop_syntax.proofs.Common.{in_from_place}
 use Rattle.affine_forms.specs.Parts.{variables_of}
 use Rattle.integer_sets.specs.Constraints.{Constraints, variables_in}
 use Rattle.quast_joins.specs.declared.way.Way.{Way}
 use Rattle.quast_joins.specs.declared.way.Way.TheVariants.{Later, Earlier}
-use Rattle.scop_syntax.specs.Kernel.{AreAtMost, IsKernel, IsPlaced, ranks_of}
-use Rattle.scop_syntax.specs.Members.{In}
-use Rattle.scop_syntax.specs.Order.{common}
-use Rattle.scop_syntax.specs.Statements.{Placed, statements_of}
-use Rattle.scop_syntax.specs.Tree.{Program}
-use Rattle.scop_syntax.proofs.Members.{in_map_from, in_if_from, in_from_place}
 use Rattle.iteration_domains.specs.Rows.{variable, variables}
 use Rattle.iteration_domains.specs.Constraints.{equalities_in, rows_in}
 use Rattle.iteration_domains.specs.Model.{Modelled, KernelModel, modelled, model_of}

@@ -1,13 +1,9 @@
 -- No quotient that an access's quast binds on the way of a walked instance is negative, and 128 bits hold the numbers by
 -- which its turns are told.
-use Rattle.std.proofs.Common.{◌≡◌, ℕ, ◌+◌, ◌^◌, ℤ, pos, ◌≤ℤ◌, ◌<ℤ◌, List, [], ◌∷◌, ◌++◌, length, All}
-use Rattle.std.proofs.Common.{Option, Some, None, Result, Ok, Err, sym, ap₂, subst, ◌∙◌, refl, arith}
-use Rattle.std.proofs.Common.{length-append}
-use Rattle.std.specs.Prelude.{slice_get}
-use Rattle.std.proofs.lemmas.Int.{ints}
-use Rattle.std.proofs.lemmas.List.Elements.{All-head, All-tail}
-use Rattle.whole_numbers.specs.Lists.{NotNegative}
-use Rattle.whole_numbers.proofs.Lists.{not_negative-append}
+use Rattle.scop_syntax.proofs.Common.{◌≡◌, ℕ, ◌+◌, ◌^◌, ℤ, pos, ◌≤ℤ◌, ◌<ℤ◌, List, [], ◌∷◌, ◌++◌, length, All, Option}
+use Rattle.scop_syntax.proofs.Common.{Some, None, Result, Ok, Err, sym, ap₂, subst, ◌∙◌, refl, arith, length-append}
+use Rattle.scop_syntax.proofs.Common.{slice_get, ints, All-head, All-tail, NotNegative, not_negative-append, Cell, In}
+use Rattle.scop_syntax.proofs.Common.{Program, Visit, walk_of}
 use Rattle.wide_math.specs.declared.Wide.{Wide}
 use Rattle.tableau_rows.specs.Problem.{row_values}
 use Rattle.pip_solver.specs.Nodes.{Counted}
@@ -25,10 +21,6 @@ use Rattle.quast_joins.proofs.JoinSigns.{join-up}
 use Rattle.quast_joins.proofs.JoinTurns.{join-tells}
 use Rattle.quast_joins.proofs.Sizes.{join_within}
 use Rattle.quast_joins.proofs.Variables.{join-speaks}
-use Rattle.scop_syntax.specs.Cells.{Cell}
-use Rattle.scop_syntax.specs.Members.{In}
-use Rattle.scop_syntax.specs.Tree.{Program}
-use Rattle.scop_syntax.specs.Walk.{Visit, walk_of}
 use Rattle.integer_sets.specs.Points.{Satisfies}
 use Rattle.iteration_domains.specs.Model.{Modelled, KernelModel, model_of}
 use Rattle.iteration_domains.specs.Sizes.{IsKernelModel}

@@ -1,17 +1,12 @@
 -- A resolved access's quast names the wanted writer.
-use Rattle.std.proofs.Common.{◌≡◌, ℕ, zero, suc, ◌+◌, ◌^◌, Bool, true, false, ℤ, pos, negsuc, ◌≤ℤ◌, ◌<ℤ◌, List, [], ◌∷◌}
-use Rattle.std.proofs.Common.{◌++◌, length, map, Option, Some, None, Result, Ok, Err, All, refl, sym, ap, ap₂, subst}
-use Rattle.std.proofs.Common.{◌∙◌, arith, length-append, inl, inr}
-use Rattle.std.specs.Prelude.{slice_get, nat_eq, if◌then◌else◌}
-use Rattle.std.proofs.lemmas.Bool.{eqb-true, eq-eqb}
-use Rattle.std.proofs.lemmas.List.Elements.{All-nil, All-cons}
-use Rattle.whole_numbers.specs.Affine.{Affine, form_of, value_of, values_of, composed}
-use Rattle.whole_numbers.specs.Lists.{zeros, NotNegative}
-use Rattle.whole_numbers.specs.Floor.{floor}
-use Rattle.std.proofs.lemmas.List.{length-set, length-map}
-use Rattle.whole_numbers.proofs.Dot.{length-zeros, length-multiples}
+use Rattle.scop_syntax.proofs.Common.{◌≡◌, ℕ, zero, suc, ◌+◌, ◌^◌, Bool, true, false, ℤ, pos, negsuc, ◌≤ℤ◌, ◌<ℤ◌, List}
+use Rattle.scop_syntax.proofs.Common.{[], ◌∷◌, ◌++◌, length, map, Option, Some, None, Result, Ok, Err, All, refl, sym}
+use Rattle.scop_syntax.proofs.Common.{ap, ap₂, subst, ◌∙◌, arith, length-append, inl, inr, slice_get, nat_eq}
+use Rattle.scop_syntax.proofs.Common.{if◌then◌else◌, eqb-true, eq-eqb, All-nil, All-cons, Affine, form_of, value_of}
+use Rattle.scop_syntax.proofs.Common.{values_of, composed, zeros, NotNegative, floor, length-set, length-map}
+use Rattle.scop_syntax.proofs.Common.{length-zeros, length-multiples, get_map, Program, In, Placed, statements_of}
+use Rattle.scop_syntax.proofs.Common.{in_from_place, place_of, Cell, Visit, walk_of}
 use Rattle.whole_numbers.proofs.Values.{length-combination}
-use Rattle.whole_numbers.proofs.Entries.{get_map}
 use Rattle.wide_math.specs.declared.Wide.{Wide}
 use Rattle.tableau_rows.specs.Problem.{problem_of, row_values, Speaks as RowsSpeak}
 use Rattle.pip_solver.specs.Nodes.{Counted, lexmin_run}
@@ -28,10 +23,6 @@ use Rattle.quast_trees.proofs.MappedTrees.{map_run-speaks, map_run-value}
 use Rattle.quast_trees.proofs.NamedTrees.{named-speaks}
 use Rattle.quast_joins.specs.declared.way.Way.{Way}
 use Rattle.quast_joins.specs.declared.way.Way.TheVariants.{Later, Earlier}
-use Rattle.scop_syntax.specs.Tree.{Program}
-use Rattle.scop_syntax.specs.Members.{In}
-use Rattle.scop_syntax.specs.Statements.{Placed, statements_of}
-use Rattle.scop_syntax.proofs.Members.{in_from_place, place_of}
 use Rattle.integer_sets.specs.Points.{Satisfies}
 use Rattle.iteration_domains.specs.Sizes.{IsKernelModel}
 use Rattle.conflict_deps.proofs.Parts.{parts_of}
@@ -41,8 +32,6 @@ use Rattle.dataflow.proofs.JoinedRuns.{run_joined}
 use Rattle.dataflow.proofs.AccessWriters.{Laws, wanted_is_found}
 use Rattle.dataflow.proofs.CandidateSolutions.{writer_of, reader_of, writer_slot, reader_slot, minimum_wanted}
 use Rattle.dataflow.proofs.CandidateSolutions.{in_statements, up_bounded}
-use Rattle.scop_syntax.specs.Cells.{Cell}
-use Rattle.scop_syntax.specs.Walk.{Visit, walk_of}
 use Rattle.iteration_domains.specs.Rows.{variable, variables}
 use Rattle.iteration_domains.specs.Model.{Modelled, model_of, modelled}
 use Rattle.iteration_domains.specs.Dependence.{Dependence}

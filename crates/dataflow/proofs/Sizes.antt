@@ -1,16 +1,10 @@
 -- The numbers of the systems of a kernel's conflicts are small.
-use Rattle.std.proofs.Common.{◌≡◌, ℕ, zero, suc, ◌+◌, ◌*◌, ◌^◌, ◌≤◌, Bool, true, false, List, [], ◌∷◌}
-use Rattle.std.proofs.Common.{◌++◌, length, map, inl, inr, ap, subst, sym, ◌∙◌, refl, arith, length-append}
-use Rattle.std.specs.Prelude.{All, ⊤}
-use Rattle.std.proofs.lemmas.List.Elements.{All-nil, All-cons, All-head, All-tail}
-use Rattle.whole_numbers.specs.Affine.{Affine, composed}
-use Rattle.scop_syntax.specs.Tree.{Access, Test, at_least, equal, Program}
-use Rattle.scop_syntax.specs.Cells.{accesses}
-use Rattle.scop_syntax.specs.Kernel.{IsAffine, IsAccess, IsComparison, IsKernel, IsPlaced, AreScopes, ranks_of}
-use Rattle.scop_syntax.specs.Kernel.{test_form}
-use Rattle.scop_syntax.specs.Members.{In}
-use Rattle.scop_syntax.specs.Statements.{Scope, round, under, loops_in, Placed, statements_of}
-use Rattle.scop_syntax.proofs.Members.{in_map_from, in_from_place, all_in}
+use Rattle.scop_syntax.proofs.Common.{◌≡◌, ℕ, zero, suc, ◌+◌, ◌*◌, ◌^◌, ◌≤◌, Bool, true, false, List, [], ◌∷◌, ◌++◌}
+use Rattle.scop_syntax.proofs.Common.{length, map, inl, inr, ap, subst, sym, ◌∙◌, refl, arith, length-append, All, ⊤}
+use Rattle.scop_syntax.proofs.Common.{All-nil, All-cons, All-head, All-tail, Affine, composed, Access, Test, at_least}
+use Rattle.scop_syntax.proofs.Common.{equal, Program, accesses, IsAffine, IsAccess, IsComparison, IsKernel, IsPlaced}
+use Rattle.scop_syntax.proofs.Common.{AreScopes, ranks_of, test_form, In, Scope, round, under, loops_in, Placed}
+use Rattle.scop_syntax.proofs.Common.{statements_of, in_map_from, in_from_place, all_in}
 use Rattle.iteration_domains.specs.Rows.{variables, composed_test, iterator, within_loop, rows_from}
 use Rattle.iteration_domains.specs.Rows.{forms_from, point_forms, rows_of}
 use Rattle.iteration_domains.specs.Constraints.{equalities_in, rows_in, tests_of}

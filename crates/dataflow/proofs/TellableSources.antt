@@ -1,11 +1,9 @@
 -- Sources are what a text can tell: their quasts speak of the variables at their places, and name instances.
-use Rattle.std.proofs.Common.{◌≡◌, ℕ, zero, suc, ◌+◌, ◌^◌, ◌<◌, ◌≤◌, Bool, true, false, List, [], ◌∷◌, ◌++◌, length}
-use Rattle.std.proofs.Common.{All, ◌-◌}
-use Rattle.std.proofs.Common.{Option, Some, None, Result, Ok, Err, refl, sym, ap, subst, ◌∙◌, arith, inl, inr}
-use Rattle.std.specs.Prelude.{⊤, IfOk, nat_eq, if◌then◌else◌, slice_get}
-use Rattle.std.proofs.lemmas.List.Elements.{All-head, All-tail}
-use Rattle.std.proofs.lemmas.List.{length-map}
-use Rattle.whole_numbers.specs.Affine.{Affine}
+use Rattle.scop_syntax.proofs.Common.{◌≡◌, ℕ, zero, suc, ◌+◌, ◌^◌, ◌<◌, ◌≤◌, Bool, true, false, List, [], ◌∷◌, ◌++◌}
+use Rattle.scop_syntax.proofs.Common.{length, All, ◌-◌, Option, Some, None, Result, Ok, Err, refl, sym, ap, subst, ◌∙◌}
+use Rattle.scop_syntax.proofs.Common.{arith, inl, inr, ⊤, IfOk, nat_eq, if◌then◌else◌, slice_get, All-head, All-tail}
+use Rattle.scop_syntax.proofs.Common.{length-map, Affine, In, Placed, loops_in, statements_of, Program, in_from_place}
+use Rattle.scop_syntax.proofs.Common.{in_map_from, place_of}
 use Rattle.wide_math.specs.Checked.{◌>>=◌}
 use Rattle.wide_math.proofs.Steps.{chain-ok}
 use Rattle.affine_forms.specs.Runs.{compose_run}
@@ -27,10 +25,6 @@ use Rattle.quast_joins.specs.declared.way.Way.{Way}
 use Rattle.quast_joins.specs.declared.way.Way.TheVariants.{Later, Earlier}
 use Rattle.quast_joins.proofs.Counts.{join-forms}
 use Rattle.quast_joins.proofs.Variables.{join-speaks}
-use Rattle.scop_syntax.specs.Members.{In}
-use Rattle.scop_syntax.specs.Statements.{Placed, loops_in, statements_of}
-use Rattle.scop_syntax.specs.Tree.{Program}
-use Rattle.scop_syntax.proofs.Members.{in_from_place, in_map_from, place_of}
 use Rattle.iteration_domains.specs.Dependence.{Dependence}
 use Rattle.iteration_domains.specs.Model.{Modelled, KernelModel, model_of, modelled}
 use Rattle.conflict_deps.specs.Conflicts.{conflicts_of}

@@ -1,13 +1,7 @@
 -- The conflicts with an access to an array that is not marked are all among those without the marked arrays.
-use Rattle.std.proofs.Common.{◌≡◌, ℕ, ◌+◌, Bool, true, false, List, [], ◌∷◌, ◌++◌, map, Some, inl, inr, ap, ap₂, subst}
-use Rattle.std.proofs.Common.{sym, ◌∙◌, refl, arith}
-use Rattle.std.specs.Prelude.{slice_get, nat_eq, if◌then◌else◌}
-use Rattle.std.specs.List.{flat_map}
-use Rattle.std.proofs.lemmas.Bool.{eqb-true}
-use Rattle.scop_syntax.specs.Members.{In}
-use Rattle.scop_syntax.specs.Reductions.{is_marked}
-use Rattle.scop_syntax.specs.Tree.{Access}
-use Rattle.scop_syntax.proofs.Members.{both, in_if_from, in_map_from, place_of}
+use Rattle.scop_syntax.proofs.Common.{◌≡◌, ℕ, ◌+◌, Bool, true, false, List, [], ◌∷◌, ◌++◌, map, Some, inl, inr, ap, ap₂}
+use Rattle.scop_syntax.proofs.Common.{subst, sym, ◌∙◌, refl, arith, slice_get, nat_eq, if◌then◌else◌, flat_map}
+use Rattle.scop_syntax.proofs.Common.{eqb-true, In, is_marked, Access, both, in_if_from, in_map_from, place_of}
 use Rattle.quast_joins.specs.declared.way.Way.{Way}
 use Rattle.quast_joins.specs.declared.way.Way.TheVariants.{Later, Earlier}
 use Rattle.iteration_domains.specs.Dependence.{Dependence}

@@ -1,10 +1,8 @@
 -- Lists one behind another, and what a function gives for the numbers below n.
-use Rattle.std.proofs.Common.{◌≡◌, ◌<◌, ◌≤◌, ◌+◌, ℕ, zero, suc, List, [], ◌∷◌, ◌++◌, Some, ap, refl, sym, ◌∙◌, arith}
-use Rattle.std.proofs.Common.{length, drop, get_or, subst}
-use Rattle.std.specs.Prelude.{slice_get}
+use Rattle.scop_syntax.proofs.Common.{◌≡◌, ◌<◌, ◌≤◌, ◌+◌, ℕ, zero, suc, List, [], ◌∷◌, ◌++◌, Some, ap, refl, sym, ◌∙◌}
+use Rattle.scop_syntax.proofs.Common.{arith, length, drop, get_or, subst, slice_get, get_or_from_slice_get, nat_cases}
+use Rattle.scop_syntax.proofs.Common.{there_is}
 use Rattle.std.proofs.lemmas.List.{append_assoc, length-append}
-use Rattle.std.proofs.lemmas.Option.{get_or_from_slice_get}
-use Rattle.scop_syntax.proofs.Members.{nat_cases, there_is}
 use Rattle.expansions.specs.steps.Marks.{firsts}
 
 pub at_front : {A : Type 0} (xs ys : List A) (i : ℕ) (x : A) → slice_get xs i ≡ Some x

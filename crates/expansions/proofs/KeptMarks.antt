@@ -1,15 +1,11 @@
 -- The marks of cells and the numbers of places, one place more.
-use Rattle.std.proofs.Common.{◌≡◌, ◌<◌, ◌+◌, ◌*◌, ℕ, suc, Bool, true, false, ℤ, List, [], ◌++◌, Some, ap}
-use Rattle.std.proofs.Common.{ap₂, refl, sym, ◌∙◌, arith, length, get_or, take}
-use Rattle.std.specs.Prelude.{Option, slice_get, slice_index_or, slice_set, nat_eq, if◌then◌else◌}
-use Rattle.std.proofs.lemmas.Bool.{eqb-true, eqb-false}
-use Rattle.std.proofs.lemmas.List.{get_or-set_other, get_or-set_same, length-append}
-use Rattle.scop_syntax.specs.Cells.{Cell, written}
-use Rattle.scop_syntax.specs.Execution.{IsCell, cell_number, offset_from, total_cells}
-use Rattle.scop_syntax.specs.Walk.{Visit}
-use Rattle.scop_syntax.specs.Writers.{last_of, last_writer, same_cell, writes}
-use Rattle.scop_syntax.proofs.Members.{nat_cases}
-use Rattle.scop_syntax.proofs.Writers.{cell_same, same_cells}
+use Rattle.scop_syntax.proofs.Common.{◌≡◌, ◌<◌, ◌+◌, ◌*◌, ℕ, suc, Bool, true, false, ℤ, List, [], ◌++◌, Some, ap, ap₂}
+use Rattle.scop_syntax.proofs.Common.{refl, sym, ◌∙◌, arith, length, get_or, take, Option, slice_get, slice_index_or}
+use Rattle.scop_syntax.proofs.Common.{slice_set, nat_eq, if◌then◌else◌, eqb-true, eqb-false, get_or-set_other}
+use Rattle.scop_syntax.proofs.Common.{get_or-set_same, Cell, written, IsCell, cell_number, offset_from, total_cells}
+use Rattle.scop_syntax.proofs.Common.{Visit, last_of, last_writer, writes, nat_cases, cell_same, same_cells}
+use Rattle.std.proofs.lemmas.List.{length-append}
+use Rattle.scop_syntax.specs.Writers.{same_cell}
 use Rattle.expansions.specs.Expansions.{number_of}
 use Rattle.expansions.specs.steps.Marks.{AreKept, IsMarked, firsts}
 use Rattle.expansions.proofs.Firsts.{at_back, at_front, firsts_at, firsts_long}

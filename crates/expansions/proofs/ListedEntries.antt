@@ -1,15 +1,11 @@
 -- Entries of statements: one more is listed, and what is found by its turns.
-use Rattle.std.proofs.Common.{◌≡◌, ◌≢◌, ◌⊎◌, ◌<◌, ◌+◌, ℕ, zero, suc, inl, inr, ⊎_elim, ℤ, pos, List, [], ◌∷◌, ◌++◌, Some, ap, ap₂, sym}
-use Rattle.std.proofs.Common.{refl, ◌∙◌, subst, arith, length, map, get_or}
-use Rattle.std.specs.Prelude.{slice_get, slice_set}
-use Rattle.std.proofs.lemmas.List.{get_or-set_same, get_or-map, get_or-set_other, length-append, length-map, map-set}
-use Rattle.std.proofs.lemmas.Option.{get_or_from_slice_get, slice_get_within}
-use Rattle.scop_syntax.specs.Members.{In}
-use Rattle.scop_syntax.specs.Statements.{Placed, Runs, Scope, loops_in, statements_of, visit_of}
-use Rattle.scop_syntax.specs.Tree.{Program}
-use Rattle.scop_syntax.specs.Walk.{Instance, Visit, instance, walk_of}
-use Rattle.scop_syntax.proofs.Members.{in_append, in_from_place, in_map_from, nat_cases}
-use Rattle.scop_syntax.proofs.Statements.{one_instance}
+use Rattle.scop_syntax.proofs.Common.{◌≡◌, ◌≢◌, ◌⊎◌, ◌<◌, ◌+◌, ℕ, zero, suc, inl, inr, ⊎_elim, ℤ, pos, List, [], ◌∷◌}
+use Rattle.scop_syntax.proofs.Common.{◌++◌, Some, ap, ap₂, sym, refl, ◌∙◌, subst, arith, length, map, get_or, slice_get}
+use Rattle.scop_syntax.proofs.Common.{slice_set, get_or-set_same, get_or-map, get_or-set_other, length-map, map-set}
+use Rattle.scop_syntax.proofs.Common.{get_or_from_slice_get, slice_get_within, In, Placed, Runs, Scope, loops_in}
+use Rattle.scop_syntax.proofs.Common.{statements_of, visit_of, Program, Instance, Visit, instance, walk_of, in_append}
+use Rattle.scop_syntax.proofs.Common.{in_from_place, in_map_from, nat_cases, one_instance}
+use Rattle.std.proofs.lemmas.List.{length-append}
 use Rattle.loop_tree.specs.Plans.{walked}
 use Rattle.expansions.specs.Expansions.{ArePlacesIn}
 use Rattle.expansions.specs.steps.Listing.{AreListed, AreTurns, HasEntry, IsIndexOf, IsPlaceIn, entries_in}

@@ -1,19 +1,10 @@
 -- A pass over the walk goes on by one place.
-use Rattle.std.proofs.Common.{◌≡◌, ◌<◌, ◌≤◌, ◌*◌, ◌^◌, ℕ, suc, ℤ, List, [], ◌∷◌, Some, None, ap, sym, refl, ◌∙◌, subst, arith}
-use Rattle.std.proofs.Common.{length, map, get_or, drop}
-use Rattle.std.specs.Prelude.{Option, option_and_then, slice_get}
-use Rattle.std.specs.Option.{option_map}
-use Rattle.std.proofs.lemmas.List.{length-map}
-use Rattle.std.proofs.lemmas.Option.{slice_get-map, slice_get_past, slice_get_within}
-use Rattle.whole_numbers.specs.Affine.{Affine, value_of}
-use Rattle.scop_syntax.specs.Cells.{Cell, accesses, cell_at, cell_of, reads, written}
-use Rattle.scop_syntax.specs.Execution.{IsCell, cell_number, layout}
-use Rattle.scop_syntax.specs.Limits.{WithinLimits}
-use Rattle.scop_syntax.specs.Tree.{Access, Program, Statement}
-use Rattle.scop_syntax.specs.Values.{wrapped}
-use Rattle.scop_syntax.specs.Walk.{Instance, Visit, instance, walk_of}
-use Rattle.scop_syntax.specs.Writers.{last_of, last_writer}
-use Rattle.scop_syntax.proofs.Members.{in_from_place, nat_cases, there_is}
+use Rattle.scop_syntax.proofs.Common.{◌≡◌, ◌<◌, ◌≤◌, ◌*◌, ◌^◌, ℕ, suc, ℤ, List, [], ◌∷◌, Some, None, ap, sym, refl, ◌∙◌}
+use Rattle.scop_syntax.proofs.Common.{subst, arith, length, map, get_or, drop, Option, option_and_then, slice_get}
+use Rattle.scop_syntax.proofs.Common.{option_map, length-map, slice_get-map, slice_get_past, slice_get_within, Affine}
+use Rattle.scop_syntax.proofs.Common.{value_of, Cell, accesses, cell_at, cell_of, reads, written, IsCell, cell_number}
+use Rattle.scop_syntax.proofs.Common.{layout, WithinLimits, Access, Program, Statement, wrapped, Instance, Visit}
+use Rattle.scop_syntax.proofs.Common.{instance, walk_of, last_of, last_writer, in_from_place, nat_cases, there_is}
 use Rattle.tile_table.specs.declared.table.Row.{Row}
 use Rattle.tile_table.specs.declared.table.Table.{Table}
 use Rattle.tile_table.proofs.Visits.{HasRow, WalkLaws, cell_told, reads_told, row_of}

@@ -1,7 +1,6 @@
 -- Runs that may halt, one step after another.
-use Rattle.std.proofs.Common.{◌≡◌, ℕ, ◌≤◌, Bool, true, false, refl, ap, ◌∙◌, sym, arith}
-use Rattle.std.specs.Prelude.{Result, Ok, Err, nat_lt, if◌then◌else◌}
-use Rattle.std.proofs.lemmas.Bool.{ltb-true, lt-ltb}
+use Rattle.whole_numbers.proofs.Common.{◌≡◌, ℕ, ◌≤◌, Bool, true, false, refl, ap, ◌∙◌, sym, arith, Result, Ok, Err}
+use Rattle.whole_numbers.proofs.Common.{nat_lt, if◌then◌else◌, ltb-true, lt-ltb}
 use Rattle.wide_math.specs.declared.Wide.{Wide}
 use Rattle.affine_forms.specs.declared.stop.FormStop.{FormStop}
 use Rattle.affine_forms.specs.declared.stop.FormStop.TheVariants as form_stop

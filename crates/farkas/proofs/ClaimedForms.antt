@@ -1,16 +1,12 @@
 -- The claimed form is linear in the unknowns, with the factors that the matching has.
-use Rattle.std.proofs.Common.{◌≡◌, ℕ, zero, suc, ◌+◌, ◌<◌, ◌≤◌, ℤ, pos, ◌+ℤ◌, ◌-ℤ◌, ◌*ℤ◌, Bool, true, false, List}
-use Rattle.std.proofs.Common.{◌∷◌, ◌++◌, length, get_or, set, refl, sym, ◌∙◌, ap, ap₂, subst, All, arith}
-use Rattle.std.specs.Prelude.{map, nat_eq, nat_lt, if◌then◌else◌}
-use Rattle.std.proofs.lemmas.Int.{ints}
-use Rattle.std.proofs.lemmas.Bool.{eqb-true}
-use Rattle.std.proofs.lemmas.List.{length-append, map-append, length-set, get_or-set_other}
-use Rattle.std.proofs.lemmas.List.Elements.{All-cons, All-nil, All-append}
-use Rattle.whole_numbers.specs.Affine.{form_of, value_of}
-use Rattle.whole_numbers.specs.Lists.{dot, zeros, multiples}
-use Rattle.whole_numbers.proofs.Ring.{mul_neg_left, mul_one_left, mul_distrib_left}
-use Rattle.whole_numbers.proofs.Dot.{dot-zeros, dot-set_left, dot-append, dot-multiples, get_or-zeros, length-zeros}
-use Rattle.whole_numbers.proofs.Dot.{length-multiples}
+use Rattle.whole_numbers.proofs.Common.{◌≡◌, ℕ, zero, suc, ◌+◌, ◌<◌, ◌≤◌, ℤ, pos, ◌+ℤ◌, ◌-ℤ◌, ◌*ℤ◌, Bool, true, false}
+use Rattle.whole_numbers.proofs.Common.{List, ◌∷◌, ◌++◌, length, get_or, set, refl, sym, ◌∙◌, ap, ap₂, subst, All}
+use Rattle.whole_numbers.proofs.Common.{arith, map, nat_eq, nat_lt, if◌then◌else◌, ints, eqb-true, map-append}
+use Rattle.whole_numbers.proofs.Common.{length-set, get_or-set_other, All-cons, All-nil, All-append, form_of, value_of}
+use Rattle.whole_numbers.proofs.Common.{dot, zeros, multiples, mul_neg_left, mul_one_left, mul_distrib_left, dot-zeros}
+use Rattle.whole_numbers.proofs.Common.{dot-set_left, dot-append, dot-multiples, get_or-zeros, length-zeros}
+use Rattle.whole_numbers.proofs.Common.{length-multiples}
+use Rattle.std.proofs.lemmas.List.{length-append}
 use Rattle.fractions.specs.Farkas.{form_at}
 use Rattle.farkas.specs.declared.claim.Claim.{Claim}
 use Rattle.farkas.specs.declared.claim.Claim.TheVariants.{Legality, Bounding}

@@ -1,14 +1,9 @@
 -- What the matching's run forms is the matching of coefficients, of the size of all its columns.
-use Rattle.std.proofs.Common.{◌≡◌, ℕ, zero, suc, ◌+◌, ℤ, pos, negsuc, neg_ℤ, List, [], ◌∷◌, ◌++◌, length, refl, sym}
-use Rattle.std.proofs.Common.{◌∙◌, ap, ap₂, All, arith}
-use Rattle.std.specs.Prelude.{map, Ok, ◌*◌}
-use Rattle.std.proofs.lemmas.Int.{ints}
-use Rattle.std.proofs.lemmas.List.{length-append, length-map, map-append}
-use Rattle.std.proofs.lemmas.List.Elements.{All-cons, All-nil, All-head, All-tail}
-use Rattle.whole_numbers.specs.Affine.{Affine, form_of, multiple_of_form}
-use Rattle.whole_numbers.specs.Lists.{zeros}
-use Rattle.whole_numbers.proofs.Ring.{mul_neg_left, mul_one_left}
-use Rattle.whole_numbers.proofs.Dot.{get_or-multiples, length-zeros}
+use Rattle.whole_numbers.proofs.Common.{◌≡◌, ℕ, zero, suc, ◌+◌, ℤ, pos, negsuc, neg_ℤ, List, [], ◌∷◌, ◌++◌, length}
+use Rattle.whole_numbers.proofs.Common.{refl, sym, ◌∙◌, ap, ap₂, All, arith, map, Ok, ◌*◌, ints, length-map, map-append}
+use Rattle.whole_numbers.proofs.Common.{All-cons, All-nil, All-head, All-tail, Affine, form_of, multiple_of_form, zeros}
+use Rattle.whole_numbers.proofs.Common.{mul_neg_left, mul_one_left, get_or-multiples, length-zeros}
+use Rattle.std.proofs.lemmas.List.{length-append}
 use Rattle.wide_math.specs.Checked.{difference_of, ◌>>=◌}
 use Rattle.wide_math.proofs.Steps.{chain-ok, difference_of-ok}
 use Rattle.affine_forms.specs.Parts.{variables_of}

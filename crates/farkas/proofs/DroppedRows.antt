@@ -1,15 +1,11 @@
 -- Rows that a run drops are implied by those that it keeps.
-use Rattle.std.proofs.Common.{◌≡◌, ℕ, ◌+◌, ℤ, pos, negsuc, ◌≤ℤ◌, Bool, true, false, List, [], ◌∷◌}
-use Rattle.std.proofs.Common.{◌++◌, length, refl, sym, ◌∙◌, subst, All, arith, inl, inr, append_assoc}
-use Rattle.std.specs.Prelude.{Ok, if◌then◌else◌}
-use Rattle.std.proofs.lemmas.Int.{ints}
+use Rattle.whole_numbers.proofs.Common.{◌≡◌, ℕ, ◌+◌, ℤ, pos, negsuc, ◌≤ℤ◌, Bool, true, false, List, [], ◌∷◌, ◌++◌}
+use Rattle.whole_numbers.proofs.Common.{length, refl, sym, ◌∙◌, subst, All, arith, inl, inr, append_assoc, Ok}
+use Rattle.whole_numbers.proofs.Common.{if◌then◌else◌, ints, All-cons, All-nil, All-append, All-head, All-tail, Affine}
+use Rattle.whole_numbers.proofs.Common.{complement, length-multiples, not_negative_all, value_of-complement, all_front}
+use Rattle.whole_numbers.proofs.Common.{all_back}
 use Rattle.std.proofs.lemmas.List.{append-nil}
-use Rattle.std.proofs.lemmas.List.Elements.{All-cons, All-nil, All-append, All-head, All-tail}
-use Rattle.whole_numbers.specs.Affine.{Affine, complement}
-use Rattle.whole_numbers.proofs.Dot.{length-multiples}
-use Rattle.whole_numbers.proofs.Lists.{not_negative_all}
-use Rattle.whole_numbers.proofs.Values.{value_of-complement, form_same}
-use Rattle.whole_numbers.proofs.Entries.{all_front, all_back}
+use Rattle.whole_numbers.proofs.Values.{form_same}
 use Rattle.affine_forms.specs.Parts.{variables_of}
 use Rattle.fractions.specs.Fractions.{HoldsOver}
 use Rattle.fractions.specs.Farkas.{HasNoPoint, Dropped}

@@ -1,14 +1,10 @@
 -- The run of the eliminations leaves what Farkas's lemma asks for.
-use Rattle.std.proofs.Common.{◌≡◌, ℕ, zero, suc, ◌+◌, ◌<◌, ℤ, pos, ◌≤ℤ◌, List, [], ◌∷◌, ◌++◌}
-use Rattle.std.proofs.Common.{length, get_or, take, drop, refl, sym, ◌∙◌, ap, subst, All, arith, add-one}
-use Rattle.std.specs.Prelude.{map, Option, Some, None, Ok}
-use Rattle.std.proofs.lemmas.List.{map-append, take-append-drop, append_assoc}
-use Rattle.std.proofs.Math.Seq.{take-append_seam}
-use Rattle.std.proofs.lemmas.List.Elements.{All-head, All-tail, All-map}
-use Rattle.whole_numbers.specs.Affine.{Affine, form_of}
-use Rattle.whole_numbers.specs.Lists.{zeros}
+use Rattle.whole_numbers.proofs.Common.{◌≡◌, ℕ, zero, suc, ◌+◌, ◌<◌, ℤ, pos, ◌≤ℤ◌, List, [], ◌∷◌, ◌++◌, length, get_or}
+use Rattle.whole_numbers.proofs.Common.{take, drop, refl, sym, ◌∙◌, ap, subst, All, arith, add-one, map, Option, Some}
+use Rattle.whole_numbers.proofs.Common.{None, Ok, map-append, take-append-drop, take-append_seam, All-head, All-tail}
+use Rattle.whole_numbers.proofs.Common.{All-map, Affine, form_of, zeros, all_front}
+use Rattle.std.proofs.lemmas.List.{append_assoc}
 use Rattle.whole_numbers.specs.Content.{lowest_of_form}
-use Rattle.whole_numbers.proofs.Entries.{all_front}
 use Rattle.affine_forms.specs.Parts.{variables_of}
 use Rattle.fractions.specs.Fractions.{value_over}
 use Rattle.fractions.specs.Elimination.{coefficient_of, is_zero, is_positive, is_negative, is_not_zero, chosen, pairs}

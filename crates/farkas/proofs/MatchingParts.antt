@@ -1,8 +1,6 @@
 -- The matching is formed, part by part.
-use Rattle.std.proofs.Common.{◌≡◌, ℕ, suc, ◌+◌, ◌≤◌, List, ◌++◌, length, sym, ◌∙◌, ap, ap₂, subst, All, arith}
-use Rattle.std.proofs.Common.{append_assoc}
-use Rattle.std.specs.Prelude.{Result, Ok, Err}
-use Rattle.whole_numbers.specs.Affine.{Affine}
+use Rattle.whole_numbers.proofs.Common.{◌≡◌, ℕ, suc, ◌+◌, ◌≤◌, List, ◌++◌, length, sym, ◌∙◌, ap, ap₂, subst, All, arith}
+use Rattle.whole_numbers.proofs.Common.{append_assoc, Result, Ok, Err, Affine}
 use Rattle.wide_math.specs.declared.Wide.{Wide}
 use Rattle.wide_math.specs.Checked.{◌>>=◌}
 use Rattle.affine_forms.specs.declared.stop.FormStop.{FormStop}

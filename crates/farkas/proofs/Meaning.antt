@@ -1,14 +1,9 @@
 -- What the rows of a claim mean.
-use Rattle.std.proofs.Common.{◌≡◌, ◌↔◌, ℕ, suc, ◌+◌, ◌≤◌, ℤ, pos, negsuc, ◌+ℤ◌, ◌*ℤ◌, ◌≤ℤ◌, List, [], ◌∷◌, ◌++◌}
-use Rattle.std.proofs.Common.{length, get_or, refl, sym, ◌∙◌, ap, subst, All, arith}
-use Rattle.std.specs.Prelude.{Ok}
-use Rattle.std.proofs.lemmas.Int.{ints}
+use Rattle.whole_numbers.proofs.Common.{◌≡◌, ◌↔◌, ℕ, suc, ◌+◌, ◌≤◌, ℤ, pos, negsuc, ◌+ℤ◌, ◌*ℤ◌, ◌≤ℤ◌, List, [], ◌∷◌}
+use Rattle.whole_numbers.proofs.Common.{◌++◌, length, get_or, refl, sym, ◌∙◌, ap, subst, All, arith, Ok, ints, All-cons}
+use Rattle.whole_numbers.proofs.Common.{All-nil, All-append, All-head, All-tail, Affine, multiple_of_form, dot}
+use Rattle.whole_numbers.proofs.Common.{mul_neg_left, mul_one_left, mul_zero_left, length-multiples}
 use Rattle.std.proofs.lemmas.List.{append-nil}
-use Rattle.std.proofs.lemmas.List.Elements.{All-cons, All-nil, All-append, All-head, All-tail}
-use Rattle.whole_numbers.specs.Affine.{Affine, multiple_of_form}
-use Rattle.whole_numbers.specs.Lists.{dot}
-use Rattle.whole_numbers.proofs.Ring.{mul_neg_left, mul_one_left, mul_zero_left}
-use Rattle.whole_numbers.proofs.Dot.{length-multiples}
 use Rattle.affine_forms.specs.Parts.{variables_of}
 use Rattle.fractions.specs.Fractions.{HoldsOver}
 use Rattle.fractions.specs.Farkas.{HasFarkas, Leaves, matched_from, own_rows, two_rows}

@@ -1,14 +1,11 @@
 -- Questions of rows, one after another.
-use Rattle.std.proofs.Common.{◌≡◌, ℕ, zero, suc, ◌+◌, ◌<◌, ◌≤◌, Bool, true, false, List, [], ◌∷◌, ◌++◌, length}
-use Rattle.std.proofs.Common.{get_or, take, drop, refl, sym, ◌∙◌, ap, ap₂, subst, All, arith, inl, inr, ◌⊎◌, add-one}
-use Rattle.std.proofs.Common.{drop-cons, ◌-◌}
-use Rattle.std.specs.Prelude.{negsuc, if◌then◌else◌, Result, Ok, Err}
-use Rattle.std.proofs.lemmas.List.{take_all, length-append}
+use Rattle.whole_numbers.proofs.Common.{◌≡◌, ℕ, zero, suc, ◌+◌, ◌<◌, ◌≤◌, Bool, true, false, List, [], ◌∷◌, ◌++◌}
+use Rattle.whole_numbers.proofs.Common.{length, get_or, take, drop, refl, sym, ◌∙◌, ap, ap₂, subst, All, arith, inl}
+use Rattle.whole_numbers.proofs.Common.{inr, ◌⊎◌, add-one, drop-cons, ◌-◌, negsuc, if◌then◌else◌, Result, Ok, Err}
+use Rattle.whole_numbers.proofs.Common.{take_all, take-append_seam, All-cons, All-nil, All-append, All-tail, All-take}
+use Rattle.whole_numbers.proofs.Common.{All-drop, Affine, length-multiples}
+use Rattle.std.proofs.lemmas.List.{length-append}
 use Rattle.std.proofs.Math.ListN.{drop_of_length-le}
-use Rattle.std.proofs.Math.Seq.{take-append_seam}
-use Rattle.std.proofs.lemmas.List.Elements.{All-cons, All-nil, All-append, All-tail, All-take, All-drop}
-use Rattle.whole_numbers.specs.Affine.{Affine}
-use Rattle.whole_numbers.proofs.Dot.{length-multiples}
 use Rattle.affine_forms.specs.declared.stop.FormStop.{FormStop}
 use Rattle.affine_forms.specs.Gives.{Fails}
 use Rattle.affine_forms.specs.Parts.{variables_of}

@@ -1,9 +1,7 @@
 -- The loops, step by step.
-use Rattle.std.proofs.Common.{◌≡◌, ℕ, zero, suc, ◌+◌, ◌<◌, ℤ, pos, List, [], ◌∷◌, ◌++◌, length, get_or, drop}
-use Rattle.std.proofs.Common.{set, refl, sym, ◌∙◌, ap, ap₂, subst, arith, append_assoc, add-one, drop-cons}
-use Rattle.std.specs.Prelude.{Result, Ok, Err}
-use Rattle.whole_numbers.specs.Affine.{Affine, form_of}
-use Rattle.whole_numbers.specs.Lists.{zeros}
+use Rattle.whole_numbers.proofs.Common.{◌≡◌, ℕ, zero, suc, ◌+◌, ◌<◌, ℤ, pos, List, [], ◌∷◌, ◌++◌, length, get_or, drop}
+use Rattle.whole_numbers.proofs.Common.{set, refl, sym, ◌∙◌, ap, ap₂, subst, arith, append_assoc, add-one, drop-cons}
+use Rattle.whole_numbers.proofs.Common.{Result, Ok, Err, Affine, form_of, zeros}
 use Rattle.wide_math.specs.declared.Wide.{Wide}
 use Rattle.wide_math.specs.Checked.{difference_of, ◌>>=◌}
 use Rattle.fractions.specs.Farkas.{own_rows}

@@ -1,17 +1,12 @@
 -- Which unknown stands where in the list of a dependence's unknowns, and what the claimed forms are there.
-use Rattle.std.proofs.Common.{◌≡◌, ℕ, zero, suc, ◌+◌, Bool, true, false, ℤ, pos, negsuc, List, [], ◌∷◌, ◌++◌}
-use Rattle.std.proofs.Common.{◌+ℤ◌, ◌-ℤ◌, ◌*ℤ◌, length, reverse, get_or, refl, sym, ◌∙◌, ap, ap₂, subst, arith}
-use Rattle.std.proofs.Common.{append_assoc}
-use Rattle.std.specs.Prelude.{nat_eq, nat_lt, if◌then◌else◌, ◌<◌, ◌↔◌}
-use Rattle.std.proofs.Math.Seq.{get_or-append_seam}
-use Rattle.std.proofs.lemmas.Bool.{eqb-true, eq-eqb, lt-ltb, le-ltb}
-use Rattle.std.proofs.lemmas.Int.{ints}
-use Rattle.std.proofs.lemmas.List.{append-nil, length-append, length-reverse, reverse-append}
-use Rattle.whole_numbers.specs.Affine.{Affine, form_of}
-use Rattle.whole_numbers.specs.Lists.{multiples, zeros}
-use Rattle.whole_numbers.proofs.Ring.{mul_one_left, mul_zero_left, mul_neg_left}
-use Rattle.whole_numbers.proofs.Tests.{nat_eq_above, nat_eq_below}
-use Rattle.whole_numbers.proofs.Lists.{multiples-one}
+use Rattle.whole_numbers.proofs.Common.{◌≡◌, ℕ, zero, suc, ◌+◌, Bool, true, false, ℤ, pos, negsuc, List, [], ◌∷◌, ◌++◌}
+use Rattle.whole_numbers.proofs.Common.{◌+ℤ◌, ◌-ℤ◌, ◌*ℤ◌, length, reverse, get_or, refl, sym, ◌∙◌, ap, ap₂, subst}
+use Rattle.whole_numbers.proofs.Common.{arith, append_assoc, nat_eq, nat_lt, if◌then◌else◌, ◌<◌, ◌↔◌}
+use Rattle.whole_numbers.proofs.Common.{get_or-append_seam, eqb-true, eq-eqb, lt-ltb, le-ltb, ints, length-reverse}
+use Rattle.whole_numbers.proofs.Common.{reverse-append, Affine, form_of, multiples, zeros, mul_one_left, mul_zero_left}
+use Rattle.whole_numbers.proofs.Common.{mul_neg_left, nat_eq_below, multiples-one}
+use Rattle.std.proofs.lemmas.List.{append-nil, length-append}
+use Rattle.whole_numbers.proofs.Tests.{nat_eq_above}
 use Rattle.fractions.specs.Farkas.{AreNotNegative, HasFarkas}
 use Rattle.integer_sets.specs.Constraints.{Constraints}
 use Rattle.integer_sets.specs.Points.{Satisfies}

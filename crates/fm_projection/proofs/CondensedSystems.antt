@@ -1,18 +1,11 @@
 -- A condensed system has the same points over each denominator, and its forms are over as many variables.
-use Rattle.std.proofs.Common.{◌≡◌, ℕ, suc, ◌<◌, ℤ, pos, negsuc, neg_ℤ, ◌*ℤ◌, ◌≤ℤ◌, ◌<ℤ◌, unsigned_abs, Bool, true}
-use Rattle.std.proofs.Common.{false, get_or}
-use Rattle.std.proofs.Common.{List, [], ◌∷◌, ◌++◌, length, ◌↔◌, refl, sym, ◌∙◌, ap, subst, All, arith}
-use Rattle.std.specs.Prelude.{Result, Ok, Err, not, ◌&&◌, if◌then◌else◌, nat_eq}
-use Rattle.std.specs.List.{list_all}
-use Rattle.std.proofs.lemmas.Bool.{eq-eqb, eqb-true, false≢true}
-use Rattle.std.proofs.lemmas.Int.{ints}
-use Rattle.std.proofs.lemmas.List.Elements.{All-append, All-cons, All-head, All-nil, All-tail}
-use Rattle.whole_numbers.specs.Affine.{Affine, multiple_of_form}
+use Rattle.whole_numbers.proofs.Common.{◌≡◌, ℕ, suc, ◌<◌, ℤ, pos, negsuc, neg_ℤ, ◌*ℤ◌, ◌≤ℤ◌, ◌<ℤ◌, unsigned_abs, Bool}
+use Rattle.whole_numbers.proofs.Common.{true, false, get_or, List, [], ◌∷◌, ◌++◌, length, ◌↔◌, refl, sym, ◌∙◌, ap}
+use Rattle.whole_numbers.proofs.Common.{subst, All, arith, Result, Ok, Err, not, ◌&&◌, if◌then◌else◌, nat_eq, list_all}
+use Rattle.whole_numbers.proofs.Common.{eq-eqb, eqb-true, false≢true, ints, All-append, All-cons, All-head, All-nil}
+use Rattle.whole_numbers.proofs.Common.{All-tail, Affine, multiple_of_form, dot, all_front, all_back, mul_not_negative}
+use Rattle.whole_numbers.proofs.Common.{mul_zero_right}
 use Rattle.whole_numbers.specs.Content.{lowest_of_form}
-use Rattle.whole_numbers.specs.Lists.{dot}
-use Rattle.whole_numbers.proofs.Entries.{all_front, all_back}
-use Rattle.whole_numbers.proofs.Order.{mul_not_negative}
-use Rattle.whole_numbers.proofs.Ring.{mul_zero_right}
 use Rattle.wide_math.specs.declared.Wide.{Wide}
 use Rattle.fractions.specs.Elimination.{coefficient_of, is_negative, is_zero, reduced, sign}
 use Rattle.fractions.specs.Fractions.{HoldsOver, value_over}

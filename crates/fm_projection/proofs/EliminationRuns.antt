@@ -1,7 +1,6 @@
 -- Eliminations one after another, each of which passes or stops.
-use Rattle.std.proofs.Common.{◌≡◌, ℕ, zero, suc, ◌+◌, ◌-◌, ◌<◌, inl, inr, ◌∙◌, ap, subst, arith}
-use Rattle.std.specs.Prelude.{Ok, Err}
-use Rattle.std.proofs.lemmas.Bool.{cases_lt}
+use Rattle.whole_numbers.proofs.Common.{◌≡◌, ℕ, zero, suc, ◌+◌, ◌-◌, ◌<◌, inl, inr, ◌∙◌, ap, subst, arith, Ok, Err}
+use Rattle.whole_numbers.proofs.Common.{cases_lt}
 use Rattle.integer_sets.specs.Constraints.{Constraints}
 use Rattle.fm_projection.specs.declared.stop.FmStop.{FmStop}
 use Rattle.fm_projection.specs.declared.stop.FmStop.TheVariants as fm

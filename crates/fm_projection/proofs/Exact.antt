@@ -1,15 +1,9 @@
 -- A run of an elimination that is Ok gives the exact elimination.
-use Rattle.std.proofs.Common.{◌≡◌, ℕ, ℤ, pos, negsuc, neg_ℤ, unsigned_abs, Bool, List, [], ◌∷◌}
-use Rattle.std.proofs.Common.{◌++◌, refl, sym, ◌∙◌, ap, ap₂, All, arith}
-use Rattle.std.specs.Prelude.{map, Result, Ok, Option, Some, None}
-use Rattle.std.proofs.lemmas.Int.{ints}
-use Rattle.whole_numbers.specs.Affine.{Affine, sum_of_forms, multiple_of_form}
+use Rattle.whole_numbers.proofs.Common.{◌≡◌, ℕ, ℤ, pos, negsuc, neg_ℤ, unsigned_abs, Bool, List, [], ◌∷◌, ◌++◌, refl}
+use Rattle.whole_numbers.proofs.Common.{sym, ◌∙◌, ap, ap₂, All, arith, map, Result, Ok, Option, Some, None, ints}
+use Rattle.whole_numbers.proofs.Common.{Affine, sum_of_forms, multiple_of_form, floor, multiples, length-multiples}
+use Rattle.whole_numbers.proofs.Common.{length-sums, length-map, map-append, All-head, All-tail}
 use Rattle.whole_numbers.specs.Content.{content_of_form, lowest_of_form}
-use Rattle.whole_numbers.specs.Floor.{floor}
-use Rattle.whole_numbers.specs.Lists.{multiples}
-use Rattle.whole_numbers.proofs.Dot.{length-multiples, length-sums}
-use Rattle.std.proofs.lemmas.List.{length-map, map-append}
-use Rattle.std.proofs.lemmas.List.Elements.{All-head, All-tail}
 use Rattle.fractions.proofs.CarriedProperties.{eliminated_all, sums_carry}
 use Rattle.fractions.proofs.SystemElimination.{taken_out}
 use Rattle.fractions.specs.Elimination.{coefficient_of, is_zero, is_not_zero, is_positive, is_negative, chosen}

@@ -1,17 +1,11 @@
 -- Eliminations one after another are exact over fractions: what they leave holds at a point where some fractions for
 -- the eliminated dimensions, in their places, satisfy the system.
-use Rattle.std.proofs.Common.{◌≡◌, ℕ, zero, suc, ◌+◌, ◌-◌, ◌<◌, ℤ, pos, List, [], ◌∷◌, ◌++◌, length, set, refl, sym}
-use Rattle.std.proofs.Common.{◌∙◌}
-use Rattle.std.proofs.Common.{ap, subst, arith, length-append}
-use Rattle.std.specs.Prelude.{◌≤◌, ◌*ℤ◌, ◌<ℤ◌}
-use Rattle.std.proofs.lemmas.Int.{ints}
+use Rattle.whole_numbers.proofs.Common.{◌≡◌, ℕ, zero, suc, ◌+◌, ◌-◌, ◌<◌, ℤ, pos, List, [], ◌∷◌, ◌++◌, length, set}
+use Rattle.whole_numbers.proofs.Common.{refl, sym, ◌∙◌, ap, subst, arith, length-append, ◌≤◌, ◌*ℤ◌, ◌<ℤ◌, ints}
+use Rattle.whole_numbers.proofs.Common.{multiples, multiples-append, multiples-multiples, multiples-one}
+use Rattle.whole_numbers.proofs.Common.{length-multiples, mul_positive, mul_assoc_int, mul_one_left}
 use Rattle.std.proofs.lemmas.List.{append-nil}
 use Rattle.std.proofs.Math.Seq.{set-append_seam}
-use Rattle.whole_numbers.specs.Lists.{multiples}
-use Rattle.whole_numbers.proofs.Lists.{multiples-append, multiples-multiples, multiples-one}
-use Rattle.whole_numbers.proofs.Dot.{length-multiples}
-use Rattle.whole_numbers.proofs.Order.{mul_positive}
-use Rattle.whole_numbers.proofs.Ring.{mul_assoc_int, mul_one_left}
 use Rattle.fractions.specs.Fractions.{HoldsOver}
 use Rattle.fractions.proofs.SystemElimination.{elimination_is_exact}
 use Rattle.fractions.proofs.AbsentVariables.{eliminated_absent}

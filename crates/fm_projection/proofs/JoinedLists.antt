@@ -1,9 +1,8 @@
 -- Runs over joined lists, and the first form with the variable.
-use Rattle.std.proofs.Common.{◌≡◌, ℕ, suc, ◌<◌, ◌≤◌, Bool, true, false, List, [], ◌∷◌, ◌++◌, length, get_or}
-use Rattle.std.proofs.Common.{take, drop, refl, sym, ◌∙◌, ap, append_assoc, arith}
-use Rattle.std.specs.Prelude.{map, Result, Ok, Err, Some, None}
-use Rattle.std.proofs.lemmas.List.{append-nil, map-append}
-use Rattle.whole_numbers.specs.Affine.{Affine}
+use Rattle.whole_numbers.proofs.Common.{◌≡◌, ℕ, suc, ◌<◌, ◌≤◌, Bool, true, false, List, [], ◌∷◌, ◌++◌, length, get_or}
+use Rattle.whole_numbers.proofs.Common.{take, drop, refl, sym, ◌∙◌, ap, append_assoc, arith, map, Result, Ok, Err, Some}
+use Rattle.whole_numbers.proofs.Common.{None, map-append, Affine}
+use Rattle.std.proofs.lemmas.List.{append-nil}
 use Rattle.whole_numbers.specs.Content.{lowest_of_form}
 use Rattle.fractions.specs.Elimination.{coefficient_of, is_zero, is_not_zero, chosen, first_with, in_front}
 use Rattle.fractions.proofs.ChosenRows.{chosen-append}

@@ -1,6 +1,5 @@
 -- What an elimination means for the points; a point over 1 is a whole point.
-use Rattle.std.proofs.Common.{◌≡◌, ℕ, ◌<◌, ℤ, pos, ◌≤ℤ◌, List, get_or, ◌↔◌, sym, ◌∙◌, subst, arith}
-use Rattle.std.specs.Prelude.{Ok}
+use Rattle.whole_numbers.proofs.Common.{◌≡◌, ℕ, ◌<◌, ℤ, pos, ◌≤ℤ◌, List, get_or, ◌↔◌, sym, ◌∙◌, subst, arith, Ok}
 use Rattle.fractions.specs.Fractions.{HoldsOver}
 use Rattle.fractions.proofs.PointValues.{value_over-one}
 use Rattle.fractions.proofs.SystemElimination.{elimination_is_exact}

@@ -1,12 +1,9 @@
 -- What a loop over forms keeps, form by form: those that pass a test, how many, where the first stands, and runs over
 -- them.
-use Rattle.std.proofs.Common.{◌≡◌, ℕ, zero, suc, ◌+◌, ◌<◌, ◌≤◌, ℤ, pos, negsuc, ◌<ℤ◌, ◌≤ℤ◌, Bool, true, false}
-use Rattle.std.proofs.Common.{List, [], ◌∷◌, ◌++◌, length, get_or, drop, drop-cons, refl, sym, ◌∙◌, ap, append_assoc}
-use Rattle.std.proofs.Common.{add-one, arith}
-use Rattle.std.specs.Prelude.{map, Result, Ok, Err}
-use Rattle.std.proofs.lemmas.Int.{ints}
+use Rattle.whole_numbers.proofs.Common.{◌≡◌, ℕ, zero, suc, ◌+◌, ◌<◌, ◌≤◌, ℤ, pos, negsuc, ◌<ℤ◌, ◌≤ℤ◌, Bool, true, false}
+use Rattle.whole_numbers.proofs.Common.{List, [], ◌∷◌, ◌++◌, length, get_or, drop, drop-cons, refl, sym, ◌∙◌, ap}
+use Rattle.whole_numbers.proofs.Common.{append_assoc, add-one, arith, map, Result, Ok, Err, ints, Affine}
 use Rattle.std.proofs.lemmas.List.{append-nil}
-use Rattle.whole_numbers.specs.Affine.{Affine}
 use Rattle.whole_numbers.specs.Content.{lowest_of_form}
 use Rattle.fractions.specs.Elimination.{coefficient_of, is_zero, is_not_zero, is_positive, is_negative, chosen}
 use Rattle.wide_math.specs.declared.Wide.{Wide}

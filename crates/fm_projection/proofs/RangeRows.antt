@@ -1,14 +1,9 @@
 -- The rows of a range.
-use Rattle.std.proofs.Common.{◌≡◌, ℕ, zero, suc, ◌+◌, ◌-◌, ◌<◌, pos, List, [], ◌∷◌, ◌++◌, refl, sym, ◌∙◌, ap, subst}
-use Rattle.std.proofs.Common.{All}
-use Rattle.std.proofs.Common.{arith, append_assoc}
-use Rattle.std.specs.Prelude.{negsuc}
+use Rattle.whole_numbers.proofs.Common.{◌≡◌, ℕ, zero, suc, ◌+◌, ◌-◌, ◌<◌, pos, List, [], ◌∷◌, ◌++◌, refl, sym, ◌∙◌, ap}
+use Rattle.whole_numbers.proofs.Common.{subst, All, arith, append_assoc, negsuc, All-cons, All-nil, zeros, Affine}
+use Rattle.whole_numbers.proofs.Common.{length-zeros}
 use Rattle.std.proofs.Math.ListN.{length-set}
 use Rattle.std.proofs.lemmas.List.{append-nil}
-use Rattle.std.proofs.lemmas.List.Elements.{All-cons, All-nil}
-use Rattle.whole_numbers.specs.Lists.{zeros}
-use Rattle.whole_numbers.specs.Affine.{Affine}
-use Rattle.whole_numbers.proofs.Dot.{length-zeros}
 use Rattle.affine_forms.specs.Parts.{variables_of}
 use Rattle.fm_projection.specs.Alone.{place_form, range_rows}
 

@@ -1,15 +1,11 @@
 -- A system's last dimension keeps its value where the others and the parameters are eliminated; values of forms of one
 -- variable.
-use Rattle.std.proofs.Common.{◌≡◌, ℕ, zero, suc, ◌+◌, ◌-◌, ◌<◌, ℤ, pos, List, [], ◌∷◌, ◌++◌, length, get_or, refl, sym}
-use Rattle.std.proofs.Common.{◌∙◌, ap, subst, All, arith, length-append}
-use Rattle.std.specs.Prelude.{negsuc, ◌≤◌, ◌≤ℤ◌, ◌+ℤ◌, ◌-ℤ◌, ◌*ℤ◌}
-use Rattle.std.proofs.lemmas.Int.{ints}
+use Rattle.whole_numbers.proofs.Common.{◌≡◌, ℕ, zero, suc, ◌+◌, ◌-◌, ◌<◌, ℤ, pos, List, [], ◌∷◌, ◌++◌, length, get_or}
+use Rattle.whole_numbers.proofs.Common.{refl, sym, ◌∙◌, ap, subst, All, arith, length-append, negsuc, ◌≤◌, ◌≤ℤ◌, ◌+ℤ◌}
+use Rattle.whole_numbers.proofs.Common.{◌-ℤ◌, ◌*ℤ◌, ints, All-cons, All-nil, All-append, dot, zeros, Affine, value_of}
+use Rattle.whole_numbers.proofs.Common.{mul_zero_right, mul_one_left, mul_neg_left, dot-set_left, dot-zeros}
+use Rattle.whole_numbers.proofs.Common.{get_or-zeros, length-zeros}
 use Rattle.std.proofs.lemmas.List.{append-nil}
-use Rattle.std.proofs.lemmas.List.Elements.{All-cons, All-nil, All-append}
-use Rattle.whole_numbers.specs.Lists.{dot, zeros}
-use Rattle.whole_numbers.specs.Affine.{Affine, value_of}
-use Rattle.whole_numbers.proofs.Ring.{mul_zero_right, mul_one_left, mul_neg_left}
-use Rattle.whole_numbers.proofs.Dot.{dot-set_left, dot-zeros, get_or-zeros, length-zeros}
 use Rattle.affine_forms.specs.Parts.{variables_of}
 use Rattle.integer_sets.specs.Constraints.{Constraints, IsSized, variables_in}
 use Rattle.integer_sets.specs.Points.{Satisfies}

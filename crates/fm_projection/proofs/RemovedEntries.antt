@@ -1,10 +1,7 @@
 -- Lists and forms without an entry.
-use Rattle.std.proofs.Common.{◌≡◌, ℕ, zero, suc, ◌<◌, ℤ, List, [], ◌∷◌, ◌++◌, length, get_or, take, drop, refl, sym, ap}
-use Rattle.std.proofs.Common.{◌+◌, ◌∙◌, ap₂, subst, All, arith}
-use Rattle.std.specs.Prelude.{map, Result, Ok}
-use Rattle.std.proofs.lemmas.List.{take_more, map-append}
-use Rattle.std.proofs.lemmas.List.Elements.{All-map}
-use Rattle.whole_numbers.specs.Affine.{Affine}
+use Rattle.whole_numbers.proofs.Common.{◌≡◌, ℕ, zero, suc, ◌<◌, ℤ, List, [], ◌∷◌, ◌++◌, length, get_or, take, drop}
+use Rattle.whole_numbers.proofs.Common.{refl, sym, ap, ◌+◌, ◌∙◌, ap₂, subst, All, arith, map, Result, Ok, take_more}
+use Rattle.whole_numbers.proofs.Common.{map-append, All-map, Affine}
 use Rattle.affine_forms.specs.Parts.{variables_of}
 use Rattle.fractions.specs.Elimination.{removed, narrowed}
 

@@ -1,16 +1,9 @@
 -- Of rows with the same coefficients the tightest: it is one of them, and holds exactly where all of them do.
-use Rattle.std.proofs.Common.{◌≡◌, ℕ, ◌<◌, ◌≤◌, ℤ, pos, ◌≤ℤ◌, Bool, true, false, List, [], ◌∷◌, ◌++◌, length, get_or}
-use Rattle.std.proofs.Common.{set, refl, sym, ◌∙◌, ap, subst, All, arith}
-use Rattle.std.specs.Prelude.{◌<ℤ◌, ◌-ℤ◌, if◌then◌else◌}
-use Rattle.std.proofs.lemmas.Int.{ints, by_lt_z}
-use Rattle.std.proofs.lemmas.Bool.{false≢true}
-use Rattle.std.proofs.lemmas.Bool.Decides.{Decides-int_eq}
-use Rattle.std.proofs.lemmas.Slice.Eq.{slice_eq-Decides}
+use Rattle.whole_numbers.proofs.Common.{◌≡◌, ℕ, ◌<◌, ◌≤◌, ℤ, pos, ◌≤ℤ◌, Bool, true, false, List, [], ◌∷◌, ◌++◌, length}
+use Rattle.whole_numbers.proofs.Common.{get_or, set, refl, sym, ◌∙◌, ap, subst, All, arith, ◌<ℤ◌, ◌-ℤ◌, if◌then◌else◌}
+use Rattle.whole_numbers.proofs.Common.{ints, by_lt_z, false≢true, Decides-int_eq, slice_eq-Decides, All-cons, All-head}
+use Rattle.whole_numbers.proofs.Common.{All-nil, All-tail, Affine, dot, mul_le}
 use Rattle.std.proofs.lemmas.List.{set-get_or}
-use Rattle.std.proofs.lemmas.List.Elements.{All-cons, All-head, All-nil, All-tail}
-use Rattle.whole_numbers.specs.Affine.{Affine}
-use Rattle.whole_numbers.specs.Lists.{dot}
-use Rattle.whole_numbers.proofs.Order.{mul_le}
 use Rattle.fractions.specs.Elimination.{is_negative}
 use Rattle.fractions.specs.Fractions.{HoldsOver, value_over}
 use Rattle.fractions.proofs.ChosenRows.{is_negative_iff}

@@ -1,13 +1,8 @@
 -- Whole points of a system are points of what its eliminations leave.
-use Rattle.std.proofs.Common.{◌≡◌, ℕ, zero, suc, ◌-◌, ◌<◌, ℤ, pos, List, [], ◌∷◌, ◌++◌, length, set, get_or, refl, sym}
-use Rattle.std.proofs.Common.{◌∙◌, ap, subst, All, arith, length-append}
-use Rattle.std.specs.Prelude.{◌≤◌, ◌*ℤ◌}
-use Rattle.std.proofs.lemmas.Int.{ints}
+use Rattle.whole_numbers.proofs.Common.{◌≡◌, ℕ, zero, suc, ◌-◌, ◌<◌, ℤ, pos, List, [], ◌∷◌, ◌++◌, length, set, get_or}
+use Rattle.whole_numbers.proofs.Common.{refl, sym, ◌∙◌, ap, subst, All, arith, length-append, ◌≤◌, ◌*ℤ◌, ints}
+use Rattle.whole_numbers.proofs.Common.{multiples, Affine, multiples-one, mul_one_left}
 use Rattle.std.proofs.lemmas.List.{set-get_or}
-use Rattle.whole_numbers.specs.Lists.{multiples}
-use Rattle.whole_numbers.specs.Affine.{Affine}
-use Rattle.whole_numbers.proofs.Lists.{multiples-one}
-use Rattle.whole_numbers.proofs.Ring.{mul_one_left}
 use Rattle.fractions.specs.Fractions.{HoldsOver, HoldsForSome}
 use Rattle.fractions.proofs.SystemElimination.{elimination_is_exact}
 use Rattle.fractions.proofs.AbsentVariables.{eliminated_absent}

@@ -1,12 +1,9 @@
 -- Given bytes in front of a text are taken off it; no call stands in front of a form.
-use Rattle.std.proofs.Common.{◌≡◌, ◌∙◌, ap, sym, subst, refl, ℕ, suc, ◌^◌, ◌<◌, Bool, true, false, List, []}
-use Rattle.std.proofs.Common.{◌∷◌, ◌++◌, length, decimal, ne_eqb}
-use Rattle.std.specs.Prelude.{◌==◌, ◌&&◌, ℤ, pos, negsuc, Some, None, Option, codes, if◌then◌else◌}
-use Rattle.std.specs.List.{list_all}
-use Rattle.std.proofs.lemmas.Bool.{false≢true, eq-eqb}
+use Rattle.whole_numbers.proofs.Common.{◌≡◌, ◌∙◌, ap, sym, subst, refl, ℕ, suc, ◌^◌, ◌<◌, Bool, true, false, List, []}
+use Rattle.whole_numbers.proofs.Common.{◌∷◌, ◌++◌, length, decimal, ◌==◌, ◌&&◌, ℤ, pos, negsuc, Some, None, Option}
+use Rattle.whole_numbers.proofs.Common.{codes, if◌then◌else◌, list_all, false≢true, eq-eqb, Affine, fits}
+use Rattle.std.proofs.Common.{ne_eqb}
 use Rattle.std.proofs.lemmas.List.{append_assoc}
-use Rattle.whole_numbers.specs.Affine.{Affine}
-use Rattle.whole_numbers.specs.Fits.{fits}
 use Rattle.scop_lexer.specs.Bytes.{Text, is_digit}
 use Rattle.form_text.specs.Forms.{factor_text, signed_text, is_zero, terms_text, form_text}
 use Rattle.form_text.specs.Names.{begins_name, is_name_byte, AreNameBytes, IsVariableName, AreNames, AllFit, IsFormOver}

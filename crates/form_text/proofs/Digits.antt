@@ -1,10 +1,9 @@
 -- Digits and names in front of a text are read back.
-use Rattle.std.proofs.Common.{◌≡◌, ◌∙◌, ap, sym, refl, ℕ, ◌+◌, ◌-◌, ◌*◌, ◌/◌, ◌%◌, ◌^◌, ◌<◌, ◌≤◌, Bool, true, false, []}
-use Rattle.std.proofs.Common.{◌∷◌, ◌++◌, decimal, le-leb, arith}
-use Rattle.std.specs.Prelude.{◌==◌, ◌||◌, ⊤}
-use Rattle.std.proofs.lemmas.Bool.{false≢true, not-true}
+use Rattle.whole_numbers.proofs.Common.{◌≡◌, ◌∙◌, ap, sym, refl, ℕ, ◌+◌, ◌-◌, ◌*◌, ◌/◌, ◌%◌, ◌^◌, ◌<◌, ◌≤◌, Bool, true}
+use Rattle.whole_numbers.proofs.Common.{false, [], ◌∷◌, ◌++◌, decimal, arith, ◌==◌, ◌||◌, ⊤, false≢true, not-true}
+use Rattle.whole_numbers.proofs.Common.{decimal_by_steps_wide}
+use Rattle.std.proofs.Common.{le-leb}
 use Rattle.std.proofs.lemmas.List.{append_assoc}
-use Rattle.std.proofs.lemmas.Fmt.{decimal_by_steps_wide}
 use Rattle.scop_lexer.specs.Bytes.{Text, is_letter, is_digit, is_word_byte}
 use Rattle.form_text.specs.Names.{is_mark, is_name_byte, AreNameBytes}
 use Rattle.form_text.specs.Reading.{number_in_front, behind_digits, name_in_front, behind_name, ends_factor}

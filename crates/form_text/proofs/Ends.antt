@@ -1,6 +1,5 @@
 -- What may stand behind a form.
-use Rattle.std.proofs.Common.{◌≡◌, ◌∙◌, ap, refl, ℕ, ◌^◌, ◌<◌, ◌++◌, decimal}
-use Rattle.std.specs.Prelude.{codes, None}
+use Rattle.whole_numbers.proofs.Common.{◌≡◌, ◌∙◌, ap, refl, ℕ, ◌^◌, ◌<◌, ◌++◌, decimal, codes, None}
 use Rattle.std.proofs.lemmas.List.{append_assoc}
 use Rattle.scop_lexer.specs.Bytes.{Text}
 use Rattle.form_text.specs.Reading.{term_in_front, factor_in_front, minus, when, EndsForm}

@@ -1,14 +1,10 @@
 -- The terms of a form are read back, name by name.
-use Rattle.std.proofs.Common.{◌≡◌, ◌∙◌, ap, sym, subst, refl, zero, suc, Bool, true, false, List, [], ◌∷◌, ◌++◌}
-use Rattle.std.proofs.Common.{length, arith}
-use Rattle.std.specs.Prelude.{◌≢◌, ◌&&◌, ℤ, pos, negsuc, Some, None, Option, codes, if◌then◌else◌}
-use Rattle.std.specs.Str.{bytes_eq}
-use Rattle.std.proofs.lemmas.Bool.{false≢true, false_from_ne_true}
-use Rattle.std.proofs.lemmas.Slice.Eq.{bytes_eq-Decides}
+use Rattle.whole_numbers.proofs.Common.{◌≡◌, ◌∙◌, ap, sym, subst, refl, zero, suc, Bool, true, false, List, [], ◌∷◌}
+use Rattle.whole_numbers.proofs.Common.{◌++◌, length, arith, ◌≢◌, ◌&&◌, ℤ, pos, negsuc, Some, None, Option, codes}
+use Rattle.whole_numbers.proofs.Common.{if◌then◌else◌, bytes_eq, false≢true, false_from_ne_true, bytes_eq-Decides}
+use Rattle.whole_numbers.proofs.Common.{Affine, form_of, fits}
 use Rattle.std.proofs.lemmas.List.{append_assoc}
 use Rattle.std.proofs.lemmas.Fmt.{decimal_digit}
-use Rattle.whole_numbers.specs.Affine.{Affine, form_of}
-use Rattle.whole_numbers.specs.Fits.{fits}
 use Rattle.scop_lexer.specs.Bytes.{Text}
 use Rattle.form_text.specs.Forms.{signed_text, is_zero, terms_text, form_text}
 use Rattle.form_text.specs.Names.{IsVariableName, IsFresh, AreNames, AllFit, IsFormOver}

@@ -1,7 +1,6 @@
 -- Bytes of names in two parts, words as names, and a name told apart from two lists.
-use Rattle.std.proofs.Common.{◌≡◌, true, List, [], ◌∷◌, ◌++◌}
-use Rattle.std.specs.List.{list_all}
-use Rattle.std.proofs.lemmas.Bool.{false≢true, and_parts, or_left}
+use Rattle.whole_numbers.proofs.Common.{◌≡◌, true, List, [], ◌∷◌, ◌++◌, list_all, false≢true, and_parts}
+use Rattle.std.proofs.lemmas.Bool.{or_left}
 use Rattle.scop_lexer.specs.Bytes.{Text, is_letter, is_word_byte}
 use Rattle.scop_lexer.specs.Words.{IsName}
 use Rattle.form_text.specs.Names.{is_mark, AreNameBytes, IsVariableName, IsFresh}

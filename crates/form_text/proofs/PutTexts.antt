@@ -1,8 +1,7 @@
 -- Terms put behind one another.
-use Rattle.std.proofs.Common.{◌≡◌, ◌∙◌, ap, sym, refl, ℕ, zero, suc, ◌<◌, ◌≤◌, Bool, true, false, List, [], ◌∷◌, ◌++◌}
-use Rattle.std.proofs.Common.{length, drop, decimal, arith, add-one, ap₂, drop-cons, get_or, map, ◌+◌}
-use Rattle.std.specs.Prelude.{◌==◌, ◌≢◌, ◌&&◌, ℤ, if◌then◌else◌}
-use Rattle.std.proofs.lemmas.Bool.{eqb-true, eq-eqb}
+use Rattle.whole_numbers.proofs.Common.{◌≡◌, ◌∙◌, ap, sym, refl, ℕ, zero, suc, ◌<◌, ◌≤◌, Bool, true, false, List, []}
+use Rattle.whole_numbers.proofs.Common.{◌∷◌, ◌++◌, length, drop, decimal, arith, add-one, ap₂, drop-cons, get_or, map}
+use Rattle.whole_numbers.proofs.Common.{◌+◌, ◌==◌, ◌≢◌, ◌&&◌, ℤ, if◌then◌else◌, eqb-true, eq-eqb}
 use Rattle.std.proofs.lemmas.List.{append_assoc}
 use Rattle.scop_lexer.specs.Bytes.{Text}
 use Rattle.form_text.specs.Forms.{factor_text, constant_text, is_zero, term_text, terms_text}

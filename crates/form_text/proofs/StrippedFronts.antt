@@ -1,14 +1,13 @@
 -- What the code's own words for fronts of slices say, and numbers that are read up to 2^128 - 1.
-use Rattle.std.proofs.Common.{◌≡◌, ◌∙◌, ap, sym, refl, ℕ, suc, Bool, true, false, [], ◌∷◌, ◌++◌, take, drop, arith, ◌+◌}
-use Rattle.std.proofs.Common.{List, ◌-◌, ◌*◌, ◌^◌, ◌<◌, length, get_or, ◌≤◌, ne_eqb, map, append-nil}
-use Rattle.std.proofs.Common.{drop-cons, add-one}
-use Rattle.std.specs.Prelude.{ℤ, Option, Some, None, MatchOption, ◌≢◌, ◌==◌, nat_lt, nat_le, if◌then◌else◌}
+use Rattle.whole_numbers.proofs.Common.{◌≡◌, ◌∙◌, ap, sym, refl, ℕ, suc, Bool, true, false, [], ◌∷◌, ◌++◌, take, drop}
+use Rattle.whole_numbers.proofs.Common.{arith, ◌+◌, List, ◌-◌, ◌*◌, ◌^◌, ◌<◌, length, get_or, ◌≤◌, map, append-nil}
+use Rattle.whole_numbers.proofs.Common.{drop-cons, add-one, ℤ, Option, Some, None, MatchOption, ◌≢◌, ◌==◌, nat_lt}
+use Rattle.whole_numbers.proofs.Common.{nat_le, if◌then◌else◌, prefix_len, eqb-true, eq-eqb, ltb-true, ltb-false}
+use Rattle.whole_numbers.proofs.Common.{leb-true, le-ltb, lt-leb, drop_all, none-some, same_Some, Affine, form_of}
+use Rattle.std.proofs.Common.{ne_eqb}
 use Rattle.std.specs.Borrow.{Bor}
-use Rattle.std.specs.List.{prefix_len}
-use Rattle.std.proofs.lemmas.Bool.{eqb-true, eq-eqb, ltb-true, ltb-false, leb-true, leb-false, le-ltb, lt-leb}
-use Rattle.std.proofs.lemmas.List.{append_assoc, drop_all}
-use Rattle.std.proofs.lemmas.Option.{none-some, same_Some}
-use Rattle.whole_numbers.specs.Affine.{Affine, form_of}
+use Rattle.std.proofs.lemmas.Bool.{leb-false}
+use Rattle.std.proofs.lemmas.List.{append_assoc}
 use Rattle.scop_lexer.specs.Bytes.{Text, is_digit}
 use Rattle.form_text.specs.Names.{is_name_byte}
 use Rattle.form_text.specs.Reading.{strip, when, name_in_front, behind_name, Factor, factor_of, named_as, named}

@@ -1,10 +1,10 @@
 -- A term in front of a text is read back.
-use Rattle.std.proofs.Common.{◌≡◌, ◌∙◌, ap, sym, subst, refl, ℕ, suc, ◌^◌, ◌<◌, ◌≤◌, Bool, true, false, [], ◌∷◌, ◌++◌}
-use Rattle.std.proofs.Common.{decimal, le-leb, ne_eqb, arith}
-use Rattle.std.specs.Prelude.{◌==◌, ◌||◌, ◌&&◌, nat_le, nat_lt, ⊤, ℤ, pos, negsuc, Some, None, codes, if◌then◌else◌}
-use Rattle.std.proofs.lemmas.Bool.{false≢true, false_from_ne_true, eqb-true, leb-true, ltb-true, lt-leb}
+use Rattle.whole_numbers.proofs.Common.{◌≡◌, ◌∙◌, ap, sym, subst, refl, ℕ, suc, ◌^◌, ◌<◌, ◌≤◌, Bool, true, false, []}
+use Rattle.whole_numbers.proofs.Common.{◌∷◌, ◌++◌, decimal, arith, ◌==◌, ◌||◌, ◌&&◌, nat_le, nat_lt, ⊤, ℤ, pos, negsuc}
+use Rattle.whole_numbers.proofs.Common.{Some, None, codes, if◌then◌else◌, false≢true, false_from_ne_true, eqb-true}
+use Rattle.whole_numbers.proofs.Common.{leb-true, ltb-true, lt-leb, fits}
+use Rattle.std.proofs.Common.{le-leb, ne_eqb}
 use Rattle.std.proofs.lemmas.List.{append_assoc}
-use Rattle.whole_numbers.specs.Fits.{fits}
 use Rattle.scop_lexer.specs.Bytes.{Text, is_letter, is_digit}
 use Rattle.form_text.specs.Forms.{factor_text, signed_text}
 use Rattle.form_text.specs.Names.{is_mark, begins_name, is_name_byte, AreNameBytes, IsVariableName}

@@ -1,14 +1,8 @@
 -- The result of an elimination does not have the variable.
-use Rattle.std.proofs.Common.{◌≡◌, ℕ, ℤ, pos, ◌*ℤ◌, neg_ℤ, unsigned_abs, List, ap}
-use Rattle.std.proofs.Common.{All, arith}
-use Rattle.std.specs.Prelude.{⊤}
-use Rattle.std.proofs.lemmas.Int.{ints}
+use Rattle.whole_numbers.proofs.Common.{◌≡◌, ℕ, ℤ, pos, ◌*ℤ◌, neg_ℤ, unsigned_abs, List, ap, All, arith, ⊤, ints}
+use Rattle.whole_numbers.proofs.Common.{Affine, multiples, mul_neg_left, mul_assoc_int, get_or-sums, get_or-multiples}
 use Rattle.fractions.proofs.CarriedProperties.{eliminated_all}
 use Rattle.fractions.proofs.Content.{lowest_zero}
-use Rattle.whole_numbers.specs.Affine.{Affine}
-use Rattle.whole_numbers.specs.Lists.{multiples}
-use Rattle.whole_numbers.proofs.Ring.{mul_neg_left, mul_assoc_int}
-use Rattle.whole_numbers.proofs.Dot.{get_or-sums, get_or-multiples}
 use Rattle.fractions.specs.Elimination.{coefficient_of}
 use Rattle.fractions.specs.Elimination.{combined, sign, reduced}
 use Rattle.fractions.specs.Elimination.{eliminated}

@@ -1,9 +1,7 @@
 -- What holds of each form that an elimination makes, from what holds of the forms that it makes them of
 -- (`eliminated_all`).
-use Rattle.std.proofs.Common.{◌≡◌, ℕ, ℤ, pos, ◌*ℤ◌, neg_ℤ, unsigned_abs, Bool, List, get_or, refl, All}
-use Rattle.std.specs.Prelude.{map, Option, Some, None}
-use Rattle.std.proofs.lemmas.List.Elements.{All-append, All-map}
-use Rattle.whole_numbers.specs.Affine.{Affine, sum_of_forms, multiple_of_form}
+use Rattle.whole_numbers.proofs.Common.{◌≡◌, ℕ, ℤ, pos, ◌*ℤ◌, neg_ℤ, unsigned_abs, Bool, List, get_or, refl, All, map}
+use Rattle.whole_numbers.proofs.Common.{Option, Some, None, All-append, All-map, Affine, sum_of_forms, multiple_of_form}
 use Rattle.whole_numbers.specs.Content.{lowest_of_form}
 use Rattle.fractions.specs.Elimination.{coefficient_of, is_zero, is_not_zero, is_positive, is_negative, chosen}
 use Rattle.fractions.specs.Elimination.{combined, pairs, projected_rows, sign, reduced, reduced_all, first_with}

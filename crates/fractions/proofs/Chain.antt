@@ -1,20 +1,12 @@
 -- Eliminations one after another, with the variable's column dropped.
-use Rattle.std.proofs.Common.{◌≡◌, ℕ, suc, ◌<◌, ℤ, pos, ◌*ℤ◌, ◌≤ℤ◌, ◌<ℤ◌, List, [], ◌∷◌, ◌++◌, length, set}
-use Rattle.std.proofs.Common.{get_or, ◌↔◌, refl, sym, ◌∙◌, ap, subst, All, arith}
-use Rattle.std.specs.Prelude.{map}
-use Rattle.std.proofs.lemmas.Int.{ints}
-use Rattle.whole_numbers.specs.Lists.{dot, multiples}
-use Rattle.whole_numbers.specs.Affine.{Affine}
+use Rattle.whole_numbers.proofs.Common.{◌≡◌, ℕ, suc, ◌<◌, ℤ, pos, ◌*ℤ◌, ◌≤ℤ◌, ◌<ℤ◌, List, [], ◌∷◌, ◌++◌, length, set}
+use Rattle.whole_numbers.proofs.Common.{get_or, ◌↔◌, refl, sym, ◌∙◌, ap, subst, All, arith, map, ints, dot, multiples}
+use Rattle.whole_numbers.proofs.Common.{Affine, All-map, multiples-append, multiples-multiples, multiples-one}
+use Rattle.whole_numbers.proofs.Common.{mul_positive, mul_assoc_int, mul_one_left, length-multiples, all_unmapped}
 use Rattle.std.proofs.lemmas.List.{append-nil, length-append}
 use Rattle.std.proofs.Math.Seq.{set-append_seam}
-use Rattle.std.proofs.lemmas.List.Elements.{All-map}
-use Rattle.whole_numbers.proofs.Lists.{multiples-append, multiples-multiples, multiples-one}
-use Rattle.whole_numbers.proofs.Order.{mul_positive}
 use Rattle.fractions.proofs.PointValues.{value_over-scaled}
 use Rattle.fractions.proofs.EqualityElimination.{zero_scales, least_scales}
-use Rattle.whole_numbers.proofs.Ring.{mul_assoc_int, mul_one_left}
-use Rattle.whole_numbers.proofs.Dot.{length-multiples}
-use Rattle.whole_numbers.proofs.Entries.{all_unmapped}
 use Rattle.fractions.specs.Fractions.{value_over, HoldsOver, HoldsForSome}
 use Rattle.fractions.specs.Elimination.{removed, narrowed, eliminated}
 use Rattle.fractions.specs.Farkas.{HoldsForSomeMore}

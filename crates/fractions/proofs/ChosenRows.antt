@@ -1,12 +1,7 @@
 -- Facts on each of the chosen rows, and on each pair.
-use Rattle.std.proofs.Common.{◌≡◌, ℕ, zero, suc, ℤ, pos, negsuc, ◌<ℤ◌, Bool, true, false, List, [], ◌∷◌, ◌++◌, ap, ◌∙◌}
-use Rattle.std.proofs.Common.{◌↔◌, refl, All, arith}
-use Rattle.std.specs.Prelude.{if◌then◌else◌}
-use Rattle.std.proofs.lemmas.Int.{ints}
-use Rattle.std.proofs.lemmas.Bool.{false≢true}
-use Rattle.std.proofs.lemmas.List.Elements.{All-append, All-cons, All-nil, All-head, All-tail}
-use Rattle.whole_numbers.specs.Affine.{Affine}
-use Rattle.whole_numbers.proofs.Entries.{all_front, all_back}
+use Rattle.whole_numbers.proofs.Common.{◌≡◌, ℕ, zero, suc, ℤ, pos, negsuc, ◌<ℤ◌, Bool, true, false, List, [], ◌∷◌, ◌++◌}
+use Rattle.whole_numbers.proofs.Common.{ap, ◌∙◌, ◌↔◌, refl, All, arith, if◌then◌else◌, ints, false≢true, All-append}
+use Rattle.whole_numbers.proofs.Common.{All-cons, All-nil, All-head, All-tail, Affine, all_front, all_back}
 use Rattle.fractions.specs.Elimination.{coefficient_of, is_zero, is_positive, is_negative, chosen, combined}
 use Rattle.fractions.specs.Elimination.{paired, pairs}
 

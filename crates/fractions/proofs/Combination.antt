@@ -1,15 +1,9 @@
 -- Combinations of forms, and what Farkas's identity is for.
-use Rattle.std.proofs.Common.{◌≡◌, ℕ, ℤ, pos, negsuc, ◌*ℤ◌, neg_ℤ, ◌≤ℤ◌, List, [], ◌∷◌, ◌++◌, refl}
-use Rattle.std.proofs.Common.{◌∙◌, ap, All, arith}
-use Rattle.std.proofs.lemmas.List.Elements.{All-cons, All-nil, All-append, All-head, All-tail}
-use Rattle.std.specs.Prelude.{map}
-use Rattle.std.proofs.lemmas.Int.{ints}
+use Rattle.whole_numbers.proofs.Common.{◌≡◌, ℕ, ℤ, pos, negsuc, ◌*ℤ◌, neg_ℤ, ◌≤ℤ◌, List, [], ◌∷◌, ◌++◌, refl, ◌∙◌, ap}
+use Rattle.whole_numbers.proofs.Common.{All, arith, All-cons, All-nil, All-append, All-head, All-tail, map, ints, dot}
+use Rattle.whole_numbers.proofs.Common.{multiples, Affine, multiple_of_form, mul_distrib_right, mul_zero_left}
+use Rattle.whole_numbers.proofs.Common.{mul_not_negative, cancel_le, get_or-sums, get_or-multiples, dot-nil}
 use Rattle.whole_numbers.proofs.Lists.{dot_same}
-use Rattle.whole_numbers.specs.Lists.{dot, multiples}
-use Rattle.whole_numbers.specs.Affine.{Affine, multiple_of_form}
-use Rattle.whole_numbers.proofs.Ring.{mul_distrib_right, mul_zero_left}
-use Rattle.whole_numbers.proofs.Order.{mul_not_negative, cancel_le}
-use Rattle.whole_numbers.proofs.Dot.{get_or-sums, get_or-multiples, dot-nil}
 use Rattle.fractions.specs.Fractions.{value_over, HoldsOver}
 use Rattle.fractions.specs.Elimination.{coefficient_of}
 use Rattle.fractions.specs.Farkas.{two_rows, combination, AreNotNegative, HasFarkas}

@@ -1,17 +1,11 @@
 -- Contents and lowest terms; a form in lowest terms has the sign that it had.
-use Rattle.std.proofs.Common.{◌≡◌, ℕ, zero, suc, ℤ, pos, ◌*ℤ◌, ◌≤ℤ◌, ◌<ℤ◌, List, get_or, ◌↔◌, refl}
-use Rattle.std.proofs.Common.{sym, ◌∙◌, ap, arith}
-use Rattle.std.specs.Prelude.{map}
-use Rattle.std.proofs.lemmas.Int.{ints}
-use Rattle.std.proofs.lemmas.List.Elements.{All-map}
-use Rattle.whole_numbers.specs.Affine.{Affine, multiple_of_form}
-use Rattle.whole_numbers.proofs.Order.{cancel_le, cancel_eq, mul_not_negative}
-use Rattle.whole_numbers.proofs.Ring.{mul_zero_right}
+use Rattle.whole_numbers.proofs.Common.{◌≡◌, ℕ, zero, suc, ℤ, pos, ◌*ℤ◌, ◌≤ℤ◌, ◌<ℤ◌, List, get_or, ◌↔◌, refl, sym, ◌∙◌}
+use Rattle.whole_numbers.proofs.Common.{ap, arith, map, ints, All-map, Affine, multiple_of_form, cancel_le, cancel_eq}
+use Rattle.whole_numbers.proofs.Common.{mul_not_negative, mul_zero_right, all_unmapped}
 use Rattle.whole_numbers.specs.Content.{content_of_form, lowest_of_form}
 use Rattle.fractions.specs.Fractions.{value_over, HoldsOver}
 use Rattle.fractions.proofs.PointValues.{value_over-multiple}
 use Rattle.whole_numbers.proofs.Lowest.{lowest_of_form_is, lowest_form_stays}
-use Rattle.whole_numbers.proofs.Entries.{all_unmapped}
 
 -- lowest terms keep a linear number of a form at 0
 pub lowest_zero : (z : Affine → ℤ) → ((k : ℤ) (f : Affine) → z (multiple_of_form k f) ≡ k *ℤ z f) → (f : Affine)

@@ -1,15 +1,10 @@
 -- Rows that are dropped between eliminations, and the own rows that stay.
-use Rattle.std.proofs.Common.{◌≡◌, ℕ, zero, suc, ◌+◌, ◌≤◌, ℤ, pos, ◌*ℤ◌, ◌≤ℤ◌, ◌<ℤ◌, List, [], ◌∷◌, ◌++◌}
-use Rattle.std.proofs.Common.{length, get_or, ◌↔◌, refl, sym, ◌∙◌, ap, ap₂, subst, All, arith}
-use Rattle.std.specs.Prelude.{map}
-use Rattle.std.proofs.lemmas.Int.{ints}
-use Rattle.std.proofs.lemmas.List.Elements.{All-cons, All-nil, All-append, All-head, All-tail}
+use Rattle.whole_numbers.proofs.Common.{◌≡◌, ℕ, zero, suc, ◌+◌, ◌≤◌, ℤ, pos, ◌*ℤ◌, ◌≤ℤ◌, ◌<ℤ◌, List, [], ◌∷◌, ◌++◌}
+use Rattle.whole_numbers.proofs.Common.{length, get_or, ◌↔◌, refl, sym, ◌∙◌, ap, ap₂, subst, All, arith, map, ints}
+use Rattle.whole_numbers.proofs.Common.{All-cons, All-nil, All-append, All-head, All-tail, multiples, zeros, Affine}
+use Rattle.whole_numbers.proofs.Common.{form_of, mul_not_negative, length-multiples, content, content_from}
 use Rattle.std.proofs.lemmas.List.{length-append}
-use Rattle.whole_numbers.specs.Lists.{multiples, zeros}
-use Rattle.whole_numbers.specs.Affine.{Affine, form_of}
-use Rattle.whole_numbers.proofs.Order.{mul_not_negative}
-use Rattle.whole_numbers.proofs.Dot.{length-multiples}
-use Rattle.whole_numbers.specs.Content.{content, content_from, lowest_of_form}
+use Rattle.whole_numbers.specs.Content.{lowest_of_form}
 use Rattle.fractions.specs.Fractions.{value_over, HoldsOver}
 use Rattle.fractions.specs.Elimination.{coefficient_of, removed, narrowed}
 use Rattle.fractions.specs.Farkas.{HoldsForSomeMore, AreNotNegative, own_rows}

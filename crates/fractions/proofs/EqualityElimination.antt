@@ -1,16 +1,10 @@
 -- The elimination of a variable by an equality, over fractions: what the equality asks of a fraction.
-use Rattle.std.proofs.Common.{◌≡◌, ℕ, zero, suc, ℤ, pos, negsuc, ◌+ℤ◌, ◌-ℤ◌, ◌*ℤ◌, neg_ℤ, ◌≤ℤ◌, ◌<ℤ◌}
-use Rattle.std.proofs.Common.{unsigned_abs, Bool, true, false, List, get_or, ◌↔◌, refl, sym, ◌∙◌, ap, All}
-use Rattle.std.proofs.Common.{arith}
-use Rattle.std.specs.Prelude.{not, map}
-use Rattle.std.proofs.lemmas.Int.{ints}
-use Rattle.std.proofs.lemmas.Bool.{false≢true}
-use Rattle.std.proofs.lemmas.List.Elements.{All-append, All-map}
-use Rattle.whole_numbers.specs.Affine.{Affine, multiple_of_form}
-use Rattle.whole_numbers.proofs.Ring.{mul_zero_right, mul_sub_left, mul_distrib_left, mul_assoc_int}
-use Rattle.whole_numbers.proofs.Ring.{mul_neg_left, mul_neg_right, left_comm}
-use Rattle.whole_numbers.proofs.Order.{cancel_le, cancel_eq, mul_not_negative}
-use Rattle.whole_numbers.proofs.Entries.{all_front, all_back, all_unmapped}
+use Rattle.whole_numbers.proofs.Common.{◌≡◌, ℕ, zero, suc, ℤ, pos, negsuc, ◌+ℤ◌, ◌-ℤ◌, ◌*ℤ◌, neg_ℤ, ◌≤ℤ◌, ◌<ℤ◌}
+use Rattle.whole_numbers.proofs.Common.{unsigned_abs, Bool, true, false, List, get_or, ◌↔◌, refl, sym, ◌∙◌, ap, All}
+use Rattle.whole_numbers.proofs.Common.{arith, not, map, ints, false≢true, All-append, All-map, Affine}
+use Rattle.whole_numbers.proofs.Common.{multiple_of_form, mul_zero_right, mul_sub_left, mul_distrib_left, mul_assoc_int}
+use Rattle.whole_numbers.proofs.Common.{mul_neg_left, mul_neg_right, left_comm, cancel_le, cancel_eq, mul_not_negative}
+use Rattle.whole_numbers.proofs.Common.{all_front, all_back, all_unmapped}
 use Rattle.fractions.specs.Fractions.{value_over}
 use Rattle.fractions.specs.Elimination.{coefficient_of, is_zero, is_not_zero, chosen, sign, reduced, reduced_all}
 use Rattle.fractions.proofs.PointValues.{rest_over, value_over-sum, value_over-multiple}

@@ -1,13 +1,8 @@
 -- An elimination of a system without constants has none.
-use Rattle.std.proofs.Common.{ℕ, ℤ, ◌*ℤ◌, List, refl}
-use Rattle.std.proofs.Common.{ap, All, arith}
-use Rattle.std.specs.Prelude.{map}
-use Rattle.std.proofs.lemmas.Int.{ints}
-use Rattle.std.proofs.lemmas.List.Elements.{All-map}
+use Rattle.whole_numbers.proofs.Common.{ℕ, ℤ, ◌*ℤ◌, List, refl, ap, All, arith, map, ints, All-map, Affine}
+use Rattle.whole_numbers.proofs.Common.{sum_of_forms, multiple_of_form, mul_zero_right}
 use Rattle.fractions.proofs.CarriedProperties.{eliminated_all, sums_carry}
 use Rattle.fractions.proofs.Content.{lowest_zero}
-use Rattle.whole_numbers.specs.Affine.{Affine, sum_of_forms, multiple_of_form}
-use Rattle.whole_numbers.proofs.Ring.{mul_zero_right}
 use Rattle.fractions.specs.Elimination.{eliminated, narrowed}
 use Rattle.fractions.specs.Farkas.{IsHomogeneous}
 

@@ -1,14 +1,9 @@
 -- A row whose complement with the other rows has no whole point is implied by them over fractions, where all are
 -- homogeneous.
-use Rattle.std.proofs.Common.{◌≡◌, ℤ, pos, negsuc, ◌-ℤ◌, ◌*ℤ◌, neg_ℤ, ◌≤ℤ◌, ◌<ℤ◌, List, [], ◌∷◌, ◌++◌, length}
-use Rattle.std.proofs.Common.{get_or, refl, sym, ◌∙◌, ap, subst, All, arith}
-use Rattle.std.proofs.lemmas.Int.{ints, by_lt_z}
-use Rattle.std.proofs.lemmas.List.Elements.{All-cons, All-nil, All-append}
-use Rattle.whole_numbers.specs.Lists.{dot}
-use Rattle.whole_numbers.specs.Affine.{Affine, complement}
-use Rattle.whole_numbers.proofs.Ring.{mul_neg_left, mul_one_left}
-use Rattle.whole_numbers.proofs.Dot.{dot-multiples}
-use Rattle.whole_numbers.proofs.Entries.{all_front, all_back}
+use Rattle.whole_numbers.proofs.Common.{◌≡◌, ℤ, pos, negsuc, ◌-ℤ◌, ◌*ℤ◌, neg_ℤ, ◌≤ℤ◌, ◌<ℤ◌, List, [], ◌∷◌, ◌++◌, length}
+use Rattle.whole_numbers.proofs.Common.{get_or, refl, sym, ◌∙◌, ap, subst, All, arith, ints, by_lt_z, All-cons, All-nil}
+use Rattle.whole_numbers.proofs.Common.{All-append, dot, Affine, complement, mul_neg_left, mul_one_left, dot-multiples}
+use Rattle.whole_numbers.proofs.Common.{all_front, all_back}
 use Rattle.fractions.specs.Fractions.{value_over, HoldsOver}
 use Rattle.fractions.specs.Farkas.{AreNotNegative, IsHomogeneous, HasNoPoint}
 

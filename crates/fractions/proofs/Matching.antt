@@ -1,18 +1,12 @@
 -- Coefficient matching: the equalities in unknowns and multipliers hold exactly where Farkas's identity does.
-use Rattle.std.proofs.Common.{◌≡◌, ℕ, zero, suc, ◌+◌, ◌<◌, ◌≤◌, ℤ, pos, negsuc, ◌+ℤ◌, ◌*ℤ◌, neg_ℤ, ◌≤ℤ◌, ◌<ℤ◌}
-use Rattle.std.proofs.Common.{List, [], ◌∷◌, ◌++◌, length, get_or, ◌↔◌, refl, sym, ◌∙◌, ap, append_assoc, subst}
-use Rattle.std.proofs.Common.{All, arith}
-use Rattle.std.specs.Prelude.{map}
-use Rattle.std.proofs.lemmas.Int.{ints}
-use Rattle.std.proofs.lemmas.List.Elements.{All-cons, All-nil, All-head, All-tail}
-use Rattle.std.proofs.lemmas.List.{length-append, length-map, get_or_past}
-use mathlib.Core.Logic.{dite}
+use Rattle.whole_numbers.proofs.Common.{◌≡◌, ℕ, zero, suc, ◌+◌, ◌<◌, ◌≤◌, ℤ, pos, negsuc, ◌+ℤ◌, ◌*ℤ◌, neg_ℤ, ◌≤ℤ◌, ◌<ℤ◌}
+use Rattle.whole_numbers.proofs.Common.{List, [], ◌∷◌, ◌++◌, length, get_or, ◌↔◌, refl, sym, ◌∙◌, ap, append_assoc}
+use Rattle.whole_numbers.proofs.Common.{subst, All, arith, map, ints, All-cons, All-nil, All-head, All-tail, length-map}
+use Rattle.whole_numbers.proofs.Common.{get_or_past, dite, dot, multiples, zeros, Affine, form_of, mul_zero_right}
+use Rattle.whole_numbers.proofs.Common.{mul_zero_left, mul_one_left, dot-append, dot-zeros, dot-multiples_right}
+use Rattle.whole_numbers.proofs.Common.{length-multiples, length-zeros, get_or-sums, get_or-multiples}
+use Rattle.std.proofs.lemmas.List.{length-append}
 use native.Mathlib.Decide.{dec_lt}
-use Rattle.whole_numbers.specs.Lists.{dot, multiples, zeros}
-use Rattle.whole_numbers.specs.Affine.{Affine, form_of}
-use Rattle.whole_numbers.proofs.Ring.{mul_zero_right, mul_zero_left, mul_one_left}
-use Rattle.whole_numbers.proofs.Dot.{dot-append, dot-zeros, dot-multiples_right, length-multiples, length-zeros}
-use Rattle.whole_numbers.proofs.Dot.{get_or-sums, get_or-multiples}
 use Rattle.fractions.specs.Fractions.{value_over, HoldsOver}
 use Rattle.fractions.specs.Elimination.{coefficient_of}
 use Rattle.fractions.specs.Farkas.{HoldsForSomeMore, combination, AreNotNegative, HasFarkas, form_at, matched}

@@ -1,11 +1,9 @@
 -- The values of forms at points of fractions.
-use Rattle.std.proofs.Common.{◌≡◌, ℕ, ◌<◌, ℤ, pos, ◌+ℤ◌, ◌-ℤ◌, ◌*ℤ◌, neg_ℤ, List, length, set, get_or, arith}
-use Rattle.std.proofs.lemmas.Int.{ints}
-use Rattle.whole_numbers.specs.Lists.{dot, multiples}
-use Rattle.whole_numbers.specs.Affine.{Affine, value_of, sum_of_forms, multiple_of_form}
-use Rattle.whole_numbers.proofs.Ring.{mul_distrib_left, mul_distrib_right, mul_sub_left, mul_assoc_int, left_comm}
-use Rattle.whole_numbers.proofs.Dot.{dot-sums, dot-multiples, dot-multiples_right, dot-set, length-multiples}
-use Rattle.whole_numbers.proofs.Dot.{get_or-multiples}
+use Rattle.whole_numbers.proofs.Common.{◌≡◌, ℕ, ◌<◌, ℤ, pos, ◌+ℤ◌, ◌-ℤ◌, ◌*ℤ◌, neg_ℤ, List, length, set, get_or, arith}
+use Rattle.whole_numbers.proofs.Common.{ints, dot, multiples, Affine, value_of, sum_of_forms, multiple_of_form}
+use Rattle.whole_numbers.proofs.Common.{mul_distrib_left, mul_distrib_right, mul_sub_left, mul_assoc_int, left_comm}
+use Rattle.whole_numbers.proofs.Common.{dot-sums, dot-multiples, dot-multiples_right, dot-set, length-multiples}
+use Rattle.whole_numbers.proofs.Common.{get_or-multiples}
 use Rattle.fractions.specs.Fractions.{value_over}
 use Rattle.fractions.specs.Elimination.{coefficient_of, combined}
 

@@ -1,11 +1,8 @@
 -- Eliminations with rows dropped between them leave exactly the points for which some fractions serve.
-use Rattle.std.proofs.Common.{◌≡◌, ℕ, zero, suc, ◌+◌, ◌≤◌, ℤ, pos, ◌≤ℤ◌, List, [], ◌∷◌, ◌++◌, length, ◌↔◌, inl}
-use Rattle.std.proofs.Common.{inr, sym, ◌∙◌, append_assoc, subst, All}
-use Rattle.std.specs.Prelude.{map}
-use Rattle.std.proofs.lemmas.List.Elements.{All-append, All-head, All-tail}
+use Rattle.whole_numbers.proofs.Common.{◌≡◌, ℕ, zero, suc, ◌+◌, ◌≤◌, ℤ, pos, ◌≤ℤ◌, List, [], ◌∷◌, ◌++◌, length, ◌↔◌}
+use Rattle.whole_numbers.proofs.Common.{inl, inr, sym, ◌∙◌, append_assoc, subst, All, map, All-append, All-head}
+use Rattle.whole_numbers.proofs.Common.{All-tail, Affine, all_front, all_back}
 use Rattle.std.proofs.lemmas.List.{append-nil}
-use Rattle.whole_numbers.specs.Affine.{Affine}
-use Rattle.whole_numbers.proofs.Entries.{all_front, all_back}
 use Rattle.fractions.specs.Fractions.{value_over, HoldsOver}
 use Rattle.fractions.specs.Elimination.{narrowed, eliminated}
 use Rattle.fractions.specs.Farkas.{HoldsForSomeMore, AreNotNegative, IsHomogeneous, HasFarkas, form_at}

@@ -1,11 +1,6 @@
 -- The elimination of a variable from rows, over fractions.
-use Rattle.std.proofs.Common.{◌≡◌, ℕ, ◌<◌, ℤ, pos, ◌*ℤ◌, ◌≤ℤ◌, ◌<ℤ◌, List, length, set, get_or, ap, All, arith}
-use Rattle.std.proofs.lemmas.Int.{ints}
-use Rattle.std.proofs.lemmas.List.Elements.{All-append}
-use Rattle.whole_numbers.specs.Lists.{multiples}
-use Rattle.whole_numbers.specs.Affine.{Affine}
-use Rattle.whole_numbers.proofs.Order.{cancel_le}
-use Rattle.whole_numbers.proofs.Entries.{all_front, all_back}
+use Rattle.whole_numbers.proofs.Common.{◌≡◌, ℕ, ◌<◌, ℤ, pos, ◌*ℤ◌, ◌≤ℤ◌, ◌<ℤ◌, List, length, set, get_or, ap, All}
+use Rattle.whole_numbers.proofs.Common.{arith, ints, All-append, multiples, Affine, cancel_le, all_front, all_back}
 use Rattle.fractions.specs.Fractions.{value_over}
 use Rattle.fractions.specs.Elimination.{coefficient_of, is_zero, is_positive, is_negative, chosen, combined}
 use Rattle.fractions.specs.Elimination.{pairs, projected_rows}

@@ -1,10 +1,7 @@
 -- The elimination of a variable from equalities and rows is exact over fractions.
-use Rattle.std.proofs.Common.{◌≡◌, ℕ, ◌<◌, ℤ, pos, ◌*ℤ◌, ◌≤ℤ◌, unsigned_abs, Bool, true, false, List, [], ◌∷◌}
-use Rattle.std.proofs.Common.{length, set, get_or, ◌↔◌, refl, sym, ◌∙◌, ap, subst, All}
-use Rattle.std.specs.Prelude.{Option, Some, None, if◌then◌else◌}
-use Rattle.std.proofs.lemmas.List.Elements.{All-cons, All-nil, All-head, All-tail}
-use Rattle.whole_numbers.specs.Lists.{multiples}
-use Rattle.whole_numbers.specs.Affine.{Affine}
+use Rattle.whole_numbers.proofs.Common.{◌≡◌, ℕ, ◌<◌, ℤ, pos, ◌*ℤ◌, ◌≤ℤ◌, unsigned_abs, Bool, true, false, List, [], ◌∷◌}
+use Rattle.whole_numbers.proofs.Common.{length, set, get_or, ◌↔◌, refl, sym, ◌∙◌, ap, subst, All, Option, Some, None}
+use Rattle.whole_numbers.proofs.Common.{if◌then◌else◌, All-cons, All-nil, All-head, All-tail, multiples, Affine}
 use Rattle.fractions.specs.Fractions.{value_over, HoldsOver, HoldsForSome}
 use Rattle.fractions.specs.Elimination.{coefficient_of, is_zero, first_with, in_front, reduced_all}
 use Rattle.fractions.specs.Elimination.{projected_rows, eliminated_by, eliminated}

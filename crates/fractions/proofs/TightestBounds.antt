@@ -1,12 +1,9 @@
 -- Fourier's and Motzkin's lemma on lists of any things x that ask 0 <= k r(x) + a(x) n of a fraction n / k: the
 -- tightest bound of such a list.
-use Rattle.std.proofs.Common.{◌≡◌, ℤ, pos, ◌+ℤ◌, ◌*ℤ◌, ◌≤ℤ◌, ◌<ℤ◌, neg_ℤ, List, [], ◌∷◌, get_or, ◌⊎◌, inl}
-use Rattle.std.proofs.Common.{inr, All, ap, arith}
-use Rattle.std.specs.Prelude.{⊤}
-use Rattle.std.proofs.lemmas.Int.{ints, by_lt_z}
-use Rattle.std.proofs.lemmas.List.Elements.{All-cons, All-nil, All-head, All-tail}
-use Rattle.whole_numbers.proofs.Ring.{mul_neg_left, mul_neg_right, mul_distrib_left, left_comm}
-use Rattle.whole_numbers.proofs.Order.{le_or_lt, mul_not_negative, mul_le_left, cancel_le}
+use Rattle.whole_numbers.proofs.Common.{◌≡◌, ℤ, pos, ◌+ℤ◌, ◌*ℤ◌, ◌≤ℤ◌, ◌<ℤ◌, neg_ℤ, List, [], ◌∷◌, get_or, ◌⊎◌, inl}
+use Rattle.whole_numbers.proofs.Common.{inr, All, ap, arith, ⊤, ints, by_lt_z, All-cons, All-nil, All-head, All-tail}
+use Rattle.whole_numbers.proofs.Common.{mul_neg_left, mul_neg_right, mul_distrib_left, left_comm, le_or_lt}
+use Rattle.whole_numbers.proofs.Common.{mul_not_negative, mul_le_left, cancel_le}
 
 -- the bound of p is at least that of q, and that of q at least that of x
 pub bound_trans : (ap rp aq rq ax rx : ℤ) → pos 0 <ℤ ap → pos 0 <ℤ aq → pos 0 <ℤ ax

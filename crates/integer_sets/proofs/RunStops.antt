@@ -1,7 +1,6 @@
 -- Where a run of tests stops at a number that is too wide.
-use Rattle.std.proofs.Common.{◌≡◌, Bool, true, false, ℤ, List, [], ◌∷◌, ◌++◌, refl, ap, ◌∙◌, ◌⊎◌, inl}
-use Rattle.std.proofs.Common.{inr, ◌↔◌}
-use Rattle.std.specs.Prelude.{Result, Ok, Err, if◌then◌else◌}
+use Rattle.std.proofs.Common.{◌≡◌, Bool, true, false, ℤ, List, [], ◌∷◌, ◌++◌, refl, ap, ◌∙◌, ◌⊎◌, inl, inr, ◌↔◌, Result}
+use Rattle.std.proofs.Common.{Ok, Err, if◌then◌else◌}
 use Rattle.affine_forms.specs.Affine.{Affine}
 use Rattle.affine_forms.specs.Wide.{Wide}
 use Rattle.affine_forms.specs.Checked.{◌>>=◌}

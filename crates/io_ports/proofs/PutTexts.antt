@@ -1,8 +1,7 @@
 -- How the writes of several texts compose, where a sink may tell what it has taken and how much it takes in all
 -- (`send_then`, `next_put`, `written`, `flushed`).
 use Rattle.std.proofs.Common.{◌≡◌, ◌∙◌, sym, ap, subst, refl, ℕ, ◌+◌, List, [], ◌++◌, length, take, drop, Option, None}
-use Rattle.std.proofs.Common.{Some, Result, Ok, Err, append-nil, append_assoc, length-append, arith}
-use Rattle.std.specs.Prelude.{OnOk, OnErr}
+use Rattle.std.proofs.Common.{Some, Result, Ok, Err, append-nil, append_assoc, length-append, arith, OnOk, OnErr}
 use Rattle.std.specs.Io.KnownBytes.{Appends, Keeps}
 use Rattle.std.proofs.KnownBytes.{Appends-trans}
 use Rattle.std.proofs.lemmas.List.{take-append-drop}

@@ -1,9 +1,7 @@
 -- The points of a system with one constraint more.
-use Rattle.std.proofs.Common.{◌≡◌, ℕ, ℤ, pos, List, [], ◌∷◌, ◌++◌, length, subst, sym}
-use Rattle.std.specs.Prelude.{◌≤ℤ◌, All, ◌↔◌}
-use Rattle.std.proofs.Math.Seq.{take-append_seam, drop-append_seam}
-use Rattle.std.proofs.lemmas.List.Elements.{All-nil, All-cons, All-head, All-append, All-take, All-drop}
-use Rattle.whole_numbers.specs.Affine.{Affine, value_of}
+use Rattle.scop_syntax.proofs.Common.{◌≡◌, ℕ, ℤ, pos, List, [], ◌∷◌, ◌++◌, length, subst, sym, ◌≤ℤ◌, All, ◌↔◌}
+use Rattle.scop_syntax.proofs.Common.{take-append_seam, drop-append_seam, All-nil, All-cons, All-head, All-append}
+use Rattle.scop_syntax.proofs.Common.{All-take, All-drop, Affine, value_of}
 use Rattle.integer_sets.specs.Parts.{variables_of}
 use Rattle.integer_sets.specs.Constraints.{Constraints, IsSized, system_of}
 use Rattle.integer_sets.specs.Points.{Satisfies}

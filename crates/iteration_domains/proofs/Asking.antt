@@ -1,23 +1,12 @@
 -- The systems of the index check can be written for each statement of a kernel within the limits.
-use Rattle.std.proofs.Common.{◌≡◌, ℕ, ◌+◌, ◌*◌, ◌^◌, ◌≤◌, ℤ, pos, negsuc}
-use Rattle.std.proofs.Common.{List, [], ◌∷◌, length, map, subst, sym, ◌∙◌}
-use Rattle.std.proofs.Common.{arith, length-append}
-use Rattle.std.specs.Prelude.{◌≤ℤ◌, All}
-use Rattle.std.proofs.lemmas.Int.{ints}
-use Rattle.std.proofs.lemmas.List.{length-map}
-use Rattle.std.proofs.lemmas.List.Elements.{All-nil, All-cons, All-head, All-tail, All-append}
-use Rattle.std.proofs.lemmas.Option.{get_or_from_slice_get}
-use Rattle.whole_numbers.specs.Affine.{Affine, composed, value_of}
-use Rattle.whole_numbers.proofs.Entries.{get_map}
+use Rattle.scop_syntax.proofs.Common.{◌≡◌, ℕ, ◌+◌, ◌*◌, ◌^◌, ◌≤◌, ℤ, pos, negsuc, List, [], ◌∷◌, length, map, subst}
+use Rattle.scop_syntax.proofs.Common.{sym, ◌∙◌, arith, length-append, ◌≤ℤ◌, All, ints, length-map, All-nil, All-cons}
+use Rattle.scop_syntax.proofs.Common.{All-head, All-tail, All-append, get_or_from_slice_get, Affine, composed, value_of}
+use Rattle.scop_syntax.proofs.Common.{get_map, accesses, values, layout, size_of, AreScopes, IsAccess, IsComparison}
+use Rattle.scop_syntax.proofs.Common.{IsPlaced, ranks_of, test_form, WithinLimits, In, Placed, Scope, loops_in, round}
+use Rattle.scop_syntax.proofs.Common.{statements_of, under, Access, Declaration, Program, Test, at_least, equal, all_in}
+use Rattle.scop_syntax.proofs.Common.{in_from_place, in_map, in_map_from}
 use Rattle.integer_sets.specs.Parts.{variables_of}
-use Rattle.scop_syntax.specs.Cells.{accesses, values}
-use Rattle.scop_syntax.specs.Execution.{layout, size_of}
-use Rattle.scop_syntax.specs.Kernel.{AreScopes, IsAccess, IsComparison, IsPlaced, ranks_of, test_form}
-use Rattle.scop_syntax.specs.Limits.{WithinLimits}
-use Rattle.scop_syntax.specs.Members.{In}
-use Rattle.scop_syntax.specs.Statements.{Placed, Scope, loops_in, round, statements_of, under}
-use Rattle.scop_syntax.specs.Tree.{Access, Declaration, Program, Test, at_least, equal}
-use Rattle.scop_syntax.proofs.Members.{all_in, in_from_place, in_map, in_map_from}
 use Rattle.iteration_domains.specs.Constraints.{equalities_in, rows_in}
 use Rattle.iteration_domains.specs.Model.{Modelled, access_over, model_of, modelled}
 use Rattle.iteration_domains.specs.Rows.{composed_test, iterator, parameter_forms, point_forms, rows_from, variable}

@@ -1,19 +1,14 @@
 -- Forms over a statement's turns alone: their lengths and sizes, and the values of forms and systems over them.
-use Rattle.std.proofs.Common.{◌≡◌, ℕ, ◌+◌, ◌*◌, ◌^◌, ◌≤◌, ℤ, pos, negsuc, List, [], ◌∷◌, ◌++◌, length, map}
-use Rattle.std.proofs.Common.{ap, ap₂, subst, sym, ◌∙◌, refl, arith, length-append}
-use Rattle.std.specs.Prelude.{◌≤ℤ◌, ◌+ℤ◌, ◌*ℤ◌, neg_ℤ, All, ◌↔◌, unsigned_abs}
-use Rattle.std.proofs.lemmas.Int.{ints}
-use Rattle.std.proofs.lemmas.List.{map-append, length-map}
-use Rattle.std.proofs.lemmas.List.Elements.{All-nil, All-cons, All-head, All-tail, All-append}
-use Rattle.whole_numbers.specs.Lists.{zeros, multiples}
-use Rattle.whole_numbers.specs.Affine.{Affine, value_of, form_of, multiple_of_form, sum_of_forms}
-use Rattle.whole_numbers.proofs.Dot.{dot-zeros, length-multiples, length-sums, length-zeros}
-use Rattle.whole_numbers.proofs.Values.{value_of-sum, value_of-multiple, value_of-composed}
+use Rattle.scop_syntax.proofs.Common.{◌≡◌, ℕ, ◌+◌, ◌*◌, ◌^◌, ◌≤◌, ℤ, pos, negsuc, List, [], ◌∷◌, ◌++◌, length, map, ap}
+use Rattle.scop_syntax.proofs.Common.{ap₂, subst, sym, ◌∙◌, refl, arith, length-append, ◌≤ℤ◌, ◌+ℤ◌, ◌*ℤ◌, neg_ℤ, All}
+use Rattle.scop_syntax.proofs.Common.{◌↔◌, unsigned_abs, ints, map-append, length-map, All-nil, All-cons, All-head}
+use Rattle.scop_syntax.proofs.Common.{All-tail, All-append, zeros, multiples, Affine, value_of, form_of}
+use Rattle.scop_syntax.proofs.Common.{multiple_of_form, sum_of_forms, dot-zeros, length-multiples, length-sums}
+use Rattle.scop_syntax.proofs.Common.{length-zeros, value_of-sum, value_of-multiple, value_of-composed, values}
+use Rattle.scop_syntax.proofs.Common.{AreAtMost, IsForm}
 use Rattle.integer_sets.specs.Constraints.{Constraints, IsSized}
 use Rattle.integer_sets.specs.Parts.{variables_of}
 use Rattle.integer_sets.specs.Points.{Satisfies}
-use Rattle.scop_syntax.specs.Cells.{values}
-use Rattle.scop_syntax.specs.Kernel.{AreAtMost, IsForm}
 use Rattle.iteration_domains.specs.Rows.{variables}
 use Rattle.iteration_domains.specs.Outside.{Side, below, past, IsOutside, outside_row, fixed, fixed_forms, fixed_domain}
 use Rattle.iteration_domains.specs.Outside.{outside_system}

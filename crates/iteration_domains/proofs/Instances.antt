@@ -1,14 +1,9 @@
 -- The whole points of a statement's domain are the turns of its instances, and its accesses touch their cells.
-use Rattle.std.proofs.Common.{◌≡◌, ℕ, ℤ, List, [], ◌∷◌, ◌++◌, length, map, ap, ap₂, subst, sym, ◌∙◌, refl}
-use Rattle.whole_numbers.specs.Affine.{Affine, composed}
-use Rattle.whole_numbers.proofs.Values.{value_of-composed}
+use Rattle.scop_syntax.proofs.Common.{◌≡◌, ℕ, ℤ, List, [], ◌∷◌, ◌++◌, length, map, ap, ap₂, subst, sym, ◌∙◌, refl}
+use Rattle.scop_syntax.proofs.Common.{Affine, composed, value_of-composed, Access, Program, In, Visit, walk_of, Cell}
+use Rattle.scop_syntax.proofs.Common.{accesses, values, cell_of, Scope, Placed, loops_in, point_of, Runs, statements_of}
+use Rattle.scop_syntax.proofs.Common.{visit_of, in_map, in_map_from}
 use Rattle.integer_sets.specs.Points.{Satisfies}
-use Rattle.scop_syntax.specs.Tree.{Access, Program}
-use Rattle.scop_syntax.specs.Members.{In}
-use Rattle.scop_syntax.specs.Walk.{Visit, walk_of}
-use Rattle.scop_syntax.specs.Cells.{Cell, accesses, values, cell_of}
-use Rattle.scop_syntax.specs.Statements.{Scope, Placed, loops_in, point_of, Runs, statements_of, visit_of}
-use Rattle.scop_syntax.proofs.Members.{in_map, in_map_from}
 use Rattle.iteration_domains.specs.Rows.{variables_of_statement, point_forms, rows_of}
 use Rattle.iteration_domains.specs.Model.{Modelled, access_over, modelled, model_of, domain_of}
 use Rattle.iteration_domains.specs.Instances.{IsInstanceOf}

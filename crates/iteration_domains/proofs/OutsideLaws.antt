@@ -1,23 +1,13 @@
 -- The systems of the index check stand in their order, and their whole points are the instances that fail.
-use Rattle.std.proofs.Common.{◌≡◌, ℕ, zero, suc, ℤ, pos, negsuc, List}
-use Rattle.std.proofs.Common.{[], ◌∷◌, ◌++◌, length, map, inl, inr, Some, None}
-use Rattle.std.proofs.Common.{Option, ap, ap₂, subst, sym, ◌∙◌, refl, arith}
-use Rattle.std.specs.Prelude.{◌≤ℤ◌, All, slice_get, slice_index_or}
-use Rattle.std.specs.List.{flat_map}
-use Rattle.std.proofs.lemmas.Int.{ints}
-use Rattle.std.proofs.lemmas.List.Elements.{All-head, All-tail}
-use Rattle.whole_numbers.specs.Affine.{Affine, value_of}
-use Rattle.whole_numbers.specs.Lists.{NotNegative}
-use Rattle.whole_numbers.proofs.Entries.{get_map}
+use Rattle.scop_syntax.proofs.Common.{◌≡◌, ℕ, zero, suc, ℤ, pos, negsuc, List, [], ◌∷◌, ◌++◌, length, map, inl, inr}
+use Rattle.scop_syntax.proofs.Common.{Some, None, Option, ap, ap₂, subst, sym, ◌∙◌, refl, arith, ◌≤ℤ◌, All, slice_get}
+use Rattle.scop_syntax.proofs.Common.{slice_index_or, flat_map, ints, All-head, All-tail, Affine, value_of, NotNegative}
+use Rattle.scop_syntax.proofs.Common.{get_map, Cell, accesses, cell_of, values, IsInside, layout, Failure}
+use Rattle.scop_syntax.proofs.Common.{first_outside, In, Access, Program, Visit, walk_of, in_append, in_back}
+use Rattle.scop_syntax.proofs.Common.{in_from_place, in_front, nat_cases, place_of}
 use Rattle.integer_sets.specs.Constraints.{Constraints}
 use Rattle.integer_sets.specs.Points.{Satisfies}
-use Rattle.scop_syntax.specs.Cells.{Cell, accesses, cell_of, values}
-use Rattle.scop_syntax.specs.Execution.{IsInside, layout}
-use Rattle.scop_syntax.specs.Failures.{Failure, IsFirstOutside, LiesIn, first_outside}
-use Rattle.scop_syntax.specs.Members.{In}
-use Rattle.scop_syntax.specs.Tree.{Access, Program}
-use Rattle.scop_syntax.specs.Walk.{Visit, walk_of}
-use Rattle.scop_syntax.proofs.Members.{in_append, in_back, in_from_place, in_front, nat_cases, place_of}
+use Rattle.scop_syntax.specs.Failures.{IsFirstOutside, LiesIn}
 use Rattle.scop_syntax.proofs.Statements.{runs_not_negative}
 use Rattle.iteration_domains.specs.Model.{Modelled, model_of}
 use Rattle.iteration_domains.specs.Outside.{Asks, FailsAt, IsOutside, Side, below, fixed, fixed_domain, fixed_forms}

@@ -1,20 +1,10 @@
 -- The systems of the index check one after another: those of one dimension more, and of one access or statement more.
-use Rattle.std.proofs.Common.{◌≡◌, ℕ, ◌+◌, ◌<◌, ◌≤◌, ◌^◌, ℤ, pos}
-use Rattle.std.proofs.Common.{negsuc, List, [], ◌∷◌, ◌++◌, length, map, drop, get_or}
-use Rattle.std.proofs.Common.{ap, sym, subst, ◌∙◌, refl}
-use Rattle.std.proofs.Common.{arith, add-one, append_assoc, drop-cons}
-use Rattle.std.specs.Prelude.{◌≤ℤ◌, All, Some, slice_get}
-use Rattle.std.specs.List.{flat_map}
-use Rattle.std.proofs.lemmas.Int.{ints}
-use Rattle.std.proofs.lemmas.List.{get_or-map, length-map}
-use Rattle.std.proofs.lemmas.Option.{get_or_from_slice_get}
-use Rattle.whole_numbers.specs.Affine.{Affine, value_of}
+use Rattle.scop_syntax.proofs.Common.{◌≡◌, ℕ, ◌+◌, ◌<◌, ◌≤◌, ◌^◌, ℤ, pos, negsuc, List, [], ◌∷◌, ◌++◌, length, map}
+use Rattle.scop_syntax.proofs.Common.{drop, get_or, ap, sym, subst, ◌∙◌, refl, arith, add-one, append_assoc, drop-cons}
+use Rattle.scop_syntax.proofs.Common.{◌≤ℤ◌, All, Some, slice_get, flat_map, ints, get_or-map, length-map}
+use Rattle.scop_syntax.proofs.Common.{get_or_from_slice_get, Affine, value_of, values, size_of, Access, Declaration}
+use Rattle.scop_syntax.proofs.Common.{wrapped, there_is}
 use Rattle.integer_sets.specs.Constraints.{Constraints}
-use Rattle.scop_syntax.specs.Cells.{values}
-use Rattle.scop_syntax.specs.Execution.{size_of}
-use Rattle.scop_syntax.specs.Tree.{Access, Declaration}
-use Rattle.scop_syntax.specs.Values.{wrapped}
-use Rattle.scop_syntax.proofs.Members.{there_is}
 use Rattle.iteration_domains.specs.Outside.{below, fixed, outside_dimensions, outside_system, past}
 use Rattle.iteration_domains.specs.steps.Asking.{CanAsk, IsExtent}
 

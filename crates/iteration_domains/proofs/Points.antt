@@ -1,12 +1,8 @@
 -- Comparisons that hold at a point, one by one and as a system.
-use Rattle.std.proofs.Common.{◌≡◌, ℕ, ℤ, pos, List, [], ◌∷◌, ◌++◌, map, ap, refl}
-use Rattle.std.specs.Prelude.{◌≤ℤ◌, All}
-use Rattle.std.proofs.lemmas.List.Elements.{All-nil, All-cons, All-head, All-tail}
-use Rattle.whole_numbers.specs.Affine.{Affine, value_of}
+use Rattle.scop_syntax.proofs.Common.{◌≡◌, ℕ, ℤ, pos, List, [], ◌∷◌, ◌++◌, map, ap, refl, ◌≤ℤ◌, All, All-nil, All-cons}
+use Rattle.scop_syntax.proofs.Common.{All-head, All-tail, Affine, value_of, Test, at_least, equal, AllHold}
 use Rattle.integer_sets.specs.Constraints.{Constraints}
 use Rattle.integer_sets.specs.Points.{Satisfies}
-use Rattle.scop_syntax.specs.Tree.{Test, at_least, equal}
-use Rattle.scop_syntax.specs.Statements.{AllHold}
 use Rattle.iteration_domains.specs.Constraints.{equalities_in, rows_in, constraints_of, tests_of}
 
 pub hold_append : (rows others : List Test) (x : List ℤ) → AllHold rows x → AllHold others x

@@ -1,17 +1,12 @@
 -- The rows of a statement hold at the turns at which it runs, and its point's forms have the point's values.
-use Rattle.std.proofs.Common.{◌≡◌, ℕ, zero, suc, ◌+◌, ◌<◌, ℤ, pos, List, [], ◌∷◌, ◌++◌, length, map, get_or, ap, ap₂}
-use Rattle.std.proofs.Common.{subst, sym, ◌∙◌, refl, arith, length-append}
-use Rattle.std.specs.Prelude.{◌+ℤ◌, ◌*ℤ◌, ◌≤ℤ◌, slice_index_or, ⊤}
-use Rattle.std.proofs.lemmas.Int.{ints}
-use Rattle.std.proofs.lemmas.List.{map-append, append_assoc, append-nil}
-use Rattle.std.proofs.Math.Seq.{get_or-append_seam}
-use Rattle.whole_numbers.specs.Affine.{Affine, value_of, multiple_of_form, composed}
-use Rattle.whole_numbers.proofs.Dot.{dot-unit}
-use Rattle.whole_numbers.proofs.Values.{value_of-sum, value_of-multiple, value_of-composed}
-use Rattle.scop_syntax.specs.Tree.{Test, at_least, equal, Head}
-use Rattle.scop_syntax.specs.Walk.{turn_point}
-use Rattle.scop_syntax.specs.Statements.{Scope, round, under, Placed, loops_in, point_of, Holds, AllHold, Runs}
-use Rattle.scop_syntax.specs.Cells.{values}
+use Rattle.scop_syntax.proofs.Common.{◌≡◌, ℕ, zero, suc, ◌+◌, ◌<◌, ℤ, pos, List, [], ◌∷◌, ◌++◌, length, map, get_or, ap}
+use Rattle.scop_syntax.proofs.Common.{ap₂, subst, sym, ◌∙◌, refl, arith, length-append, ◌+ℤ◌, ◌*ℤ◌, ◌≤ℤ◌}
+use Rattle.scop_syntax.proofs.Common.{slice_index_or, ⊤, ints, map-append, get_or-append_seam, Affine, value_of}
+use Rattle.scop_syntax.proofs.Common.{multiple_of_form, composed, dot-unit, value_of-sum, value_of-multiple}
+use Rattle.scop_syntax.proofs.Common.{value_of-composed, Test, at_least, equal, Head, turn_point, Scope, round, under}
+use Rattle.scop_syntax.proofs.Common.{Placed, loops_in, point_of, AllHold, Runs, values}
+use Rattle.std.proofs.lemmas.List.{append_assoc, append-nil}
+use Rattle.scop_syntax.specs.Statements.{Holds}
 use Rattle.iteration_domains.specs.Rows.{variable, variables, composed_test, iterator, within_loop, rows_from}
 use Rattle.iteration_domains.specs.Rows.{forms_from, variables_of_statement, parameter_forms, rows_of, point_forms}
 use Rattle.iteration_domains.proofs.Points.{hold_append, hold_front, hold_back}

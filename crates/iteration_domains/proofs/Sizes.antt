@@ -1,13 +1,8 @@
 -- The numbers of forms: sums, multiples and compositions.
-use Rattle.std.proofs.Common.{◌≡◌, ℕ, zero, suc, ◌+◌, ◌*◌, ◌^◌, ◌≤◌, ℤ, pos, List, [], ◌∷◌, ◌++◌, set, refl, arith}
-use Rattle.std.proofs.Common.{mul-le-mul, mul-add}
-use Rattle.std.specs.Prelude.{unsigned_abs}
-use Rattle.std.proofs.lemmas.Int.{unsigned_abs-mul}
-use Rattle.whole_numbers.specs.Lists.{sums, multiples, zeros}
-use Rattle.whole_numbers.specs.Affine.{Affine, form_of, sum_of_forms, multiple_of_form, plus_combination, composed}
-use Rattle.whole_numbers.proofs.Sizes.{abs_sum}
-use Rattle.scop_syntax.specs.Tree.{Head}
-use Rattle.scop_syntax.specs.Kernel.{AreAtMost, IsForm, IsAffine}
+use Rattle.scop_syntax.proofs.Common.{◌≡◌, ℕ, zero, suc, ◌+◌, ◌*◌, ◌^◌, ◌≤◌, ℤ, pos, List, [], ◌∷◌, ◌++◌, set, refl}
+use Rattle.scop_syntax.proofs.Common.{arith, mul-le-mul, mul-add, unsigned_abs, unsigned_abs-mul, sums, multiples}
+use Rattle.scop_syntax.proofs.Common.{zeros, Affine, form_of, sum_of_forms, multiple_of_form, plus_combination}
+use Rattle.scop_syntax.proofs.Common.{composed, abs_sum, Head, AreAtMost, IsForm, IsAffine}
 use Rattle.iteration_domains.specs.Rows.{variable, variables, iterator, within_loop}
 use Rattle.iteration_domains.specs.Sizes.{size, form_size, forms_size}
 

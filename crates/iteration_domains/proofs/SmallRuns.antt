@@ -1,24 +1,16 @@
 -- Runs whose numbers stay small are never too wide.
-use Rattle.std.proofs.Common.{◌≡◌, ℕ, ◌+◌, ◌*◌, ◌^◌, ◌≤◌, ℤ, pos, ◌+ℤ◌, ◌*ℤ◌, List, [], ◌∷◌, length, sym, ◌∙◌, refl}
-use Rattle.std.proofs.Common.{arith, mul-le-mul, mul-add}
-use Rattle.std.specs.Prelude.{Ok, IsTrue, All, unsigned_abs}
-use Rattle.std.specs.Int.{w128}
-use Rattle.std.proofs.lemmas.Int.{unsigned_abs-mul, fits_signed_from_abs}
-use Rattle.std.proofs.lemmas.List.Elements.{All-head, All-tail}
-use Rattle.whole_numbers.specs.Fits.{fits}
-use Rattle.whole_numbers.specs.Lists.{sums, multiples, zeros}
-use Rattle.whole_numbers.specs.Affine.{Affine, form_of, sum_of_forms, multiple_of_form, plus_combination, composed}
-use Rattle.whole_numbers.proofs.Fits.{fits_iff}
-use Rattle.whole_numbers.proofs.Ring.{mul_one_left}
-use Rattle.whole_numbers.proofs.Dot.{length-zeros, length-sums, length-multiples}
-use Rattle.whole_numbers.proofs.Sizes.{abs_sum}
+use Rattle.scop_syntax.proofs.Common.{◌≡◌, ℕ, ◌+◌, ◌*◌, ◌^◌, ◌≤◌, ℤ, pos, ◌+ℤ◌, ◌*ℤ◌, List, [], ◌∷◌, length, sym, ◌∙◌}
+use Rattle.scop_syntax.proofs.Common.{refl, arith, mul-le-mul, mul-add, Ok, All, unsigned_abs, w128, unsigned_abs-mul}
+use Rattle.scop_syntax.proofs.Common.{fits_signed_from_abs, All-head, All-tail, fits, sums, multiples, zeros, Affine}
+use Rattle.scop_syntax.proofs.Common.{form_of, sum_of_forms, multiple_of_form, plus_combination, composed, fits_iff}
+use Rattle.scop_syntax.proofs.Common.{mul_one_left, length-zeros, length-sums, length-multiples, abs_sum, AreAtMost}
+use Rattle.std.specs.Prelude.{IsTrue}
 use Rattle.integer_sets.specs.Op.TheVariants.{Add, Mul}
 use Rattle.integer_sets.specs.Checked.{cross_sum_of}
 use Rattle.integer_sets.proofs.CheckedSteps.{checked-fits}
 use Rattle.integer_sets.specs.Parts.{variables_of}
 use Rattle.integer_sets.specs.FormRuns.{multiply_add_run, zip_run, added_multiple_run, plus_multiple_run}
 use Rattle.integer_sets.specs.FormRuns.{plus_combination_run, compose_run, multiples_sum_run, forms_sum_run}
-use Rattle.scop_syntax.specs.Kernel.{AreAtMost}
 use Rattle.iteration_domains.specs.Sizes.{size, form_size, forms_size, CanCompose}
 use Rattle.iteration_domains.proofs.Sizes.{size-sum, size-multiple, size-zeros}
 

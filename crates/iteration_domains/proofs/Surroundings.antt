@@ -1,20 +1,14 @@
 -- What stands round a statement gone through one by one: its rows, the lengths of its forms, and their sizes.
-use Rattle.std.proofs.Common.{◌≡◌, ℕ, zero, suc, ◌+◌, ◌-◌, ◌*◌, ◌^◌, ◌<◌, ◌≤◌, pos, List, [], ◌∷◌, ◌++◌, length, map}
-use Rattle.std.proofs.Common.{drop, get_or, ap, ap₂, subst, sym, ◌∙◌, refl, arith, add-one, drop-cons, length-append}
-use Rattle.std.proofs.Common.{mul-le-mul}
-use Rattle.std.specs.Prelude.{All}
+use Rattle.scop_syntax.proofs.Common.{◌≡◌, ℕ, zero, suc, ◌+◌, ◌-◌, ◌*◌, ◌^◌, ◌<◌, ◌≤◌, pos, List, [], ◌∷◌, ◌++◌, length}
+use Rattle.scop_syntax.proofs.Common.{map, drop, get_or, ap, ap₂, subst, sym, ◌∙◌, refl, arith, add-one, drop-cons}
+use Rattle.scop_syntax.proofs.Common.{length-append, mul-le-mul, All, All-nil, All-cons, All-head, All-tail, All-append}
+use Rattle.scop_syntax.proofs.Common.{zeros, multiples, Affine, form_of, composed, length-zeros, length-sums}
+use Rattle.scop_syntax.proofs.Common.{length-multiples, Test, Head, IsForm, IsComparison, AreScopes, test_form, Scope}
+use Rattle.scop_syntax.proofs.Common.{round, under, loops_in, test_of}
 use Rattle.std.proofs.Math.ListN.{length-set}
 use Rattle.std.proofs.lemmas.List.{append_assoc}
-use Rattle.std.proofs.lemmas.List.Elements.{All-nil, All-cons, All-head, All-tail, All-append}
-use Rattle.whole_numbers.specs.Lists.{zeros, multiples}
-use Rattle.whole_numbers.specs.Affine.{Affine, form_of, composed}
-use Rattle.whole_numbers.proofs.Dot.{length-zeros, length-sums, length-multiples}
 use Rattle.whole_numbers.proofs.Values.{length-combination}
 use Rattle.integer_sets.specs.Parts.{variables_of}
-use Rattle.scop_syntax.specs.Tree.{Test, Head}
-use Rattle.scop_syntax.specs.Kernel.{IsForm, IsComparison, AreScopes, test_form}
-use Rattle.scop_syntax.specs.Statements.{Scope, round, under, loops_in}
-use Rattle.scop_syntax.specs.View.{test_of}
 use Rattle.scop_syntax.specs.declared.tree.Test.{Test as CodeTest}
 use Rattle.iteration_domains.specs.Rows.{variable, variables, composed_test, iterator, within_loop, rows_from}
 use Rattle.iteration_domains.specs.Rows.{forms_from}

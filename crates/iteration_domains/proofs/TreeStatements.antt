@@ -1,29 +1,22 @@
 -- The statements of a tree by their models, from the place at which the tree stands.
-use Rattle.std.proofs.Common.{◌≡◌, ℕ, zero, suc, ◌+◌, ◌-◌, ◌*◌, ◌^◌, ◌<◌, ◌≤◌, List, [], ◌∷◌, ◌++◌, length, map, drop}
-use Rattle.std.proofs.Common.{get_or, ap, ap₂, subst, sym, ◌∙◌, refl, arith, length-append, inl}
-use Rattle.std.proofs.Common.{inr, take}
-use Rattle.std.proofs.Math.Seq.{take-append_seam}
-use Rattle.std.specs.Prelude.{All, slice_get, Some}
-use Rattle.std.proofs.lemmas.List.{append_assoc, map-append, length-map, take-map}
-use Rattle.std.proofs.lemmas.List.Elements.{All-nil, All-cons, All-head, All-tail, All-append}
-use Rattle.whole_numbers.specs.Affine.{Affine, composed}
+use Rattle.scop_syntax.proofs.Common.{◌≡◌, ℕ, zero, suc, ◌+◌, ◌-◌, ◌*◌, ◌^◌, ◌<◌, ◌≤◌, List, [], ◌∷◌, ◌++◌, length, map}
+use Rattle.scop_syntax.proofs.Common.{drop, get_or, ap, ap₂, subst, sym, ◌∙◌, refl, arith, length-append, inl, inr}
+use Rattle.scop_syntax.proofs.Common.{take, take-append_seam, All, slice_get, Some, map-append, length-map, take-map}
+use Rattle.scop_syntax.proofs.Common.{All-nil, All-cons, All-head, All-tail, All-append, Affine, composed, Access}
+use Rattle.scop_syntax.proofs.Common.{Expression, read, affine, negated, complemented, cast, binary, shifted_left}
+use Rattle.scop_syntax.proofs.Common.{shifted_right, narrowed, Right, assigned, combined, moved_left, moved_right}
+use Rattle.scop_syntax.proofs.Common.{combined_narrow, moved_left_narrow, Statement, Test, at_least, equal, Head, Tree}
+use Rattle.scop_syntax.proofs.Common.{loop, guard, statement, Trees, none, more, Program, reads_of, reads_with}
+use Rattle.scop_syntax.proofs.Common.{IsAffine, IsAccess, IsExpression, IsRight, IsStatement, AreScopes, AreTrees}
+use Rattle.scop_syntax.proofs.Common.{IsKernel, ranks_of, statements_in, Scope, round, under, loops_in, Placed}
+use Rattle.scop_syntax.proofs.Common.{in_loop_of, in_guard_of, placed_all, statements_of, In, tree_of, items_of}
+use Rattle.scop_syntax.proofs.Common.{length-placed, item_here}
+use Rattle.std.proofs.lemmas.List.{append_assoc}
 use Rattle.integer_sets.specs.Parts.{variables_of}
 use Rattle.integer_sets.specs.Constraints.{IsSized, Constraints, system_of}
-use Rattle.scop_syntax.specs.Tree.{Access, Expression, read, constant, affine, negated, complemented, cast, binary}
-use Rattle.scop_syntax.specs.Tree.{shifted_left, shifted_right, narrowed, Right, assigned, combined, moved_left}
-use Rattle.scop_syntax.specs.Tree.{moved_right, combined_narrow, moved_left_narrow, Statement, Test, at_least, equal}
-use Rattle.scop_syntax.specs.Tree.{Head, Tree, loop, guard, statement, Trees, none, more, Program}
-use Rattle.scop_syntax.specs.Cells.{reads_of, reads_with}
-use Rattle.scop_syntax.specs.Kernel.{IsAffine, IsAccess, IsExpression, IsRight, IsStatement, AreScopes, AreTrees}
-use Rattle.scop_syntax.specs.Kernel.{IsKernel, ranks_of}
-use Rattle.scop_syntax.specs.Walk.{statements_in}
-use Rattle.scop_syntax.specs.Statements.{Scope, round, under, loops_in, Placed, in_loop_of, in_guard_of, placed}
-use Rattle.scop_syntax.specs.Statements.{placed_all, statements_of}
-use Rattle.scop_syntax.specs.Members.{In}
-use Rattle.scop_syntax.specs.View.{tree_of, items_of}
+use Rattle.scop_syntax.specs.Tree.{constant}
+use Rattle.scop_syntax.specs.Statements.{placed}
 use Rattle.scop_syntax.specs.declared.tree.Item.{Item}
-use Rattle.scop_syntax.proofs.Statements.{length-placed}
-use Rattle.scop_syntax.proofs.Weights.{item_here}
 use Rattle.iteration_domains.specs.Rows.{variable, variables, composed_test, iterator, within_loop, rows_from}
 use Rattle.iteration_domains.specs.Rows.{forms_from}
 use Rattle.iteration_domains.specs.Constraints.{equalities_in, rows_in, constraints_of}

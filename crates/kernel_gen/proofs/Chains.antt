@@ -1,20 +1,11 @@
 -- A chain lies inside and within the limits: its digits are below 4.
-use Rattle.std.proofs.Common.{◌≡◌, ◌∙◌, ap, ◌+◌, ◌*◌, ◌^◌, ◌<◌, ◌≤◌, List, [], ◌∷◌, ℕ, zero, suc, inl, inr, sym}
-use Rattle.std.proofs.Common.{subst, refl, map, arith, Bool, false}
-use Rattle.std.specs.Prelude.{ℤ, pos, negsuc, ◌≤ℤ◌, ◌<ℤ◌, codes, slice_index_or}
-use Rattle.std.specs.List.{range_with_len}
-use Rattle.std.proofs.lemmas.Int.{ints}
-use Rattle.whole_numbers.specs.Affine.{Affine, form_of, value_of}
-use Rattle.scop_syntax.specs.Tree.{Access, Statement, combined, plus, read}
-use Rattle.scop_syntax.specs.View.{trees_of}
-use Rattle.scop_syntax.specs.Members.{In}
-use Rattle.scop_syntax.specs.Walk.{statements_in_all}
-use Rattle.scop_syntax.specs.Statements.{Placed, in_loop_of, placed_all}
-use Rattle.scop_syntax.specs.Cells.{accesses, cell_of}
-use Rattle.scop_syntax.specs.Execution.{AreWithin, IsCell, IsInside, layout, size_of}
-use Rattle.scop_syntax.proofs.Members.{in_append, in_map_from}
-use Rattle.scop_syntax.specs.Kernel.{AreTrees, HasWidth, IsAccess, IsAffine, IsKernel, KeepWidths}
-use Rattle.scop_syntax.specs.Limits.{WithinLimits}
+use Rattle.scop_syntax.proofs.Common.{◌≡◌, ◌∙◌, ap, ◌+◌, ◌*◌, ◌^◌, ◌<◌, ◌≤◌, List, [], ◌∷◌, ℕ, zero, suc, inl, inr, sym}
+use Rattle.scop_syntax.proofs.Common.{subst, refl, map, arith, Bool, false, ℤ, pos, negsuc, ◌≤ℤ◌, ◌<ℤ◌, codes}
+use Rattle.scop_syntax.proofs.Common.{slice_index_or, range_with_len, ints, Affine, form_of, value_of, Access}
+use Rattle.scop_syntax.proofs.Common.{Statement, combined, plus, read, trees_of, In, statements_in_all, Placed}
+use Rattle.scop_syntax.proofs.Common.{in_loop_of, placed_all, accesses, cell_of, AreWithin, IsCell, IsInside, layout}
+use Rattle.scop_syntax.proofs.Common.{size_of, in_append, in_map_from, AreTrees, HasWidth, IsAccess, IsAffine, IsKernel}
+use Rattle.scop_syntax.proofs.Common.{KeepWidths, WithinLimits}
 use Rattle.kernel_gen.specs.Programs.{chain, chain_body, chained, digit, linked, upwards}
 use Rattle.kernel_gen.proofs.Forms.{IsParameter, IsPositive, all_one, declared, in_order, is_form, is_head, positive}
 use Rattle.kernel_gen.proofs.InsideAccesses.{PlacedInside, inside_by}

@@ -1,7 +1,7 @@
 -- Arrays that have as many cells as their extents say have as many in all.
-use Rattle.std.proofs.Common.{◌≡◌, ◌∙◌, ℕ, ◌+◌, List, [], ◌∷◌, length, map, refl, ap₂}
+use Rattle.scop_syntax.proofs.Common.{◌≡◌, ◌∙◌, ℕ, ◌+◌, List, [], ◌∷◌, length, map, refl, ap₂, IsShaped, cell_count}
+use Rattle.scop_syntax.proofs.Common.{total_cells}
 use Rattle.std.proofs.lemmas.List.Sums.{sum_by-cons}
-use Rattle.scop_syntax.specs.Execution.{IsShaped, cell_count, total_cells}
 use Rattle.kernel_gen.specs.Totals.{cells_in}
 
 pub cells_of_shape : (extents contents : List (List ℕ)) → IsShaped extents contents

@@ -1,14 +1,9 @@
 -- Heads, declarations and forms of kernels within the limits: a literal form by one test that computes.
-use Rattle.std.proofs.Common.{◌≡◌, ◌==◌, ℕ, ◌+◌, ◌≤◌, Bool, true, false, if◌then◌else◌, List, [], ◌∷◌, length, inl}
-use Rattle.std.proofs.Common.{subst, sym, leb, leb-true, eqb-true, arith}
-use Rattle.std.specs.Prelude.{ℤ, pos, negsuc, ◌≤ℤ◌, All, unsigned_abs}
-use Rattle.std.proofs.lemmas.Int.{ints}
-use Rattle.std.proofs.lemmas.List.Elements.{All-nil, All-cons}
-use Rattle.whole_numbers.specs.Affine.{Affine, value_of}
-use Rattle.scop_syntax.specs.Tree.{Declaration}
-use Rattle.scop_syntax.specs.Members.{Sorted}
-use Rattle.scop_syntax.specs.Kernel.{AreAtMost, IsAffine, IsCondition, IsDeclaration, IsForm, IsHead, own}
-use Rattle.scop_syntax.proofs.Members.{both, in_map_from}
+use Rattle.scop_syntax.proofs.Common.{◌≡◌, ◌==◌, ℕ, ◌+◌, ◌≤◌, Bool, true, false, if◌then◌else◌, List, [], ◌∷◌, length}
+use Rattle.scop_syntax.proofs.Common.{inl, subst, sym, leb, arith, ℤ, pos, negsuc, ◌≤ℤ◌, All, unsigned_abs, ints}
+use Rattle.scop_syntax.proofs.Common.{All-nil, All-cons, Affine, value_of, Declaration, Sorted, AreAtMost, IsAffine}
+use Rattle.scop_syntax.proofs.Common.{IsCondition, IsDeclaration, IsForm, IsHead, own, both, in_map_from}
+use Rattle.std.proofs.Common.{leb-true, eqb-true}
 use Rattle.kernel_gen.specs.Programs.{arrays_of, upwards}
 
 -- whether each entry is at most k in absolute value

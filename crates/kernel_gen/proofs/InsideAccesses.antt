@@ -1,12 +1,6 @@
 -- A program is inside where each access of each statement is, at all turns at which the statement runs (`inside_by`).
-use Rattle.std.proofs.Common.{List, ℕ, sym, subst}
-use Rattle.std.specs.Prelude.{ℤ}
-use Rattle.scop_syntax.specs.Tree.{Access, Program}
-use Rattle.scop_syntax.specs.Members.{In}
-use Rattle.scop_syntax.specs.Walk.{Visit}
-use Rattle.scop_syntax.specs.Statements.{Placed, Runs, point_of, statements_of}
-use Rattle.scop_syntax.specs.Cells.{accesses, cell_of}
-use Rattle.scop_syntax.specs.Execution.{IsCell, IsInside, layout}
+use Rattle.scop_syntax.proofs.Common.{List, ℕ, sym, subst, ℤ, Access, Program, In, Visit, Placed, Runs, point_of}
+use Rattle.scop_syntax.proofs.Common.{statements_of, accesses, cell_of, IsCell, IsInside, layout}
 use Rattle.scop_syntax.proofs.Statements.{found_at}
 
 -- each access of a statement lies inside at all turns at which the statement runs

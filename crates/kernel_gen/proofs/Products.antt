@@ -1,16 +1,10 @@
 -- The product lies inside and within the limits.
-use Rattle.std.proofs.Common.{◌≡◌, ◌≤◌, ◌<◌, ◌+◌, ◌*◌, ◌^◌, List, [], ◌∷◌, ℕ, inl, inr, sym, subst, refl, arith}
-use Rattle.std.specs.Prelude.{ℤ, pos, negsuc, ◌≤ℤ◌, ◌<ℤ◌, slice_index_or, codes}
-use Rattle.std.proofs.lemmas.Int.{ints}
+use Rattle.scop_syntax.proofs.Common.{◌≡◌, ◌≤◌, ◌<◌, ◌+◌, ◌*◌, ◌^◌, List, [], ◌∷◌, ℕ, inl, inr, sym, subst, refl, arith}
+use Rattle.scop_syntax.proofs.Common.{ℤ, pos, negsuc, ◌≤ℤ◌, ◌<ℤ◌, slice_index_or, codes, ints, Affine, form_of}
+use Rattle.scop_syntax.proofs.Common.{value_of, Access, Statement, combined, plus, times, binary, read, In, Placed}
+use Rattle.scop_syntax.proofs.Common.{in_loop_of, accesses, cell_of, AreWithin, IsCell, IsInside, layout, IsAccess}
+use Rattle.scop_syntax.proofs.Common.{IsAffine, IsKernel, IsStatement, ranks_of, WithinLimits}
 use Rattle.std.proofs.Math.Nat.{mul-le-mul_right}
-use Rattle.whole_numbers.specs.Affine.{Affine, form_of, value_of}
-use Rattle.scop_syntax.specs.Tree.{Access, Statement, combined, plus, times, binary, read}
-use Rattle.scop_syntax.specs.Members.{In}
-use Rattle.scop_syntax.specs.Statements.{Placed, in_loop_of}
-use Rattle.scop_syntax.specs.Cells.{accesses, cell_of}
-use Rattle.scop_syntax.specs.Execution.{AreWithin, IsCell, IsInside, layout}
-use Rattle.scop_syntax.specs.Kernel.{IsAccess, IsAffine, IsKernel, IsStatement, ranks_of}
-use Rattle.scop_syntax.specs.Limits.{WithinLimits}
 use Rattle.kernel_gen.specs.Programs.{product, place, upwards, i_of_cube, j_of_cube, k_of_cube}
 use Rattle.kernel_gen.proofs.Forms.{IsParameter, IsPositive, all_one, all_two, declared, in_order, is_form, is_head}
 use Rattle.kernel_gen.proofs.Forms.{positive}

@@ -1,7 +1,5 @@
 -- Each generated case is within the limits, and every index lies inside.
-use Rattle.std.proofs.Common.{◌≤◌, ℕ}
-use Rattle.scop_syntax.specs.Execution.{IsInside}
-use Rattle.scop_syntax.specs.Limits.{WithinLimits}
+use Rattle.scop_syntax.proofs.Common.{◌≤◌, ℕ, IsInside, WithinLimits}
 use Rattle.kernel_gen.specs.declared.kind.Kind.{Kind}
 use Rattle.kernel_gen.specs.declared.kind.Kind.TheVariants.{Product, Sweep, Chain}
 use Rattle.kernel_gen.specs.Cases.{params, program}

@@ -1,15 +1,8 @@
 -- The sweeps lie inside and within the limits.
-use Rattle.std.proofs.Common.{◌+◌, ◌^◌, ◌≤◌, refl, List, [], ◌∷◌, ℕ, inl, inr, sym, subst, arith}
-use Rattle.std.specs.Prelude.{ℤ, pos, negsuc, ◌≤ℤ◌, ◌<ℤ◌, codes}
-use Rattle.std.proofs.lemmas.Int.{ints}
-use Rattle.whole_numbers.specs.Affine.{Affine, form_of}
-use Rattle.scop_syntax.specs.Tree.{Access, Statement, assigned, binary, plus, read}
-use Rattle.scop_syntax.specs.Members.{In}
-use Rattle.scop_syntax.specs.Statements.{Placed, in_loop_of}
-use Rattle.scop_syntax.specs.Cells.{accesses, cell_of}
-use Rattle.scop_syntax.specs.Execution.{IsCell, IsInside, layout}
-use Rattle.scop_syntax.specs.Kernel.{IsAccess, IsAffine, IsKernel, IsStatement, ranks_of}
-use Rattle.scop_syntax.specs.Limits.{WithinLimits}
+use Rattle.scop_syntax.proofs.Common.{◌+◌, ◌^◌, ◌≤◌, refl, List, [], ◌∷◌, ℕ, inl, inr, sym, subst, arith, ℤ, pos}
+use Rattle.scop_syntax.proofs.Common.{negsuc, ◌≤ℤ◌, ◌<ℤ◌, codes, ints, Affine, form_of, Access, Statement, assigned}
+use Rattle.scop_syntax.proofs.Common.{binary, plus, read, In, Placed, in_loop_of, accesses, cell_of, IsCell, IsInside}
+use Rattle.scop_syntax.proofs.Common.{layout, IsAccess, IsAffine, IsKernel, IsStatement, ranks_of, WithinLimits}
 use Rattle.kernel_gen.specs.Programs.{near, sweep, upwards}
 use Rattle.kernel_gen.proofs.Forms.{IsParameter, IsPositive, all_one, all_two, declared, in_order, is_form, is_head}
 use Rattle.kernel_gen.proofs.Forms.{positive}

@@ -1,16 +1,10 @@
 -- A tableau with one parameter more, and the parts of rows as forms over parameters.
-use Rattle.std.proofs.Common.{◌≡◌, ℕ, zero, suc, ◌+◌, ◌<◌, ◌≤◌, ℤ, pos, negsuc, ◌+ℤ◌, ◌-ℤ◌, ◌*ℤ◌, Bool, true, false}
-use Rattle.std.proofs.Common.{List, [], ◌∷◌, ◌++◌, length, get_or, map, drop, take, refl, subst, ap, ap₂, sym, ◌∙◌}
-use Rattle.std.proofs.Common.{arith, length-append, append_assoc, add-one}
-use Rattle.std.specs.Prelude.{All, if◌then◌else◌}
-use Rattle.std.proofs.lemmas.Int.{ints}
-use Rattle.std.proofs.lemmas.List.{drop-map, take-map, length-map}
-use Rattle.std.proofs.lemmas.List.Elements.{All-cons, All-nil}
-use Rattle.whole_numbers.specs.Lexicographic.{LexNotNegative}
-use Rattle.whole_numbers.specs.Lists.{dot, zeros, NotNegative}
-use Rattle.whole_numbers.specs.Affine.{Affine, value_of}
-use Rattle.whole_numbers.proofs.Ring.{mul_zero_left, mul_zero_right, mul_one_right}
-use Rattle.whole_numbers.proofs.Dot.{dot-padded, dot-append, dot-past}
+use Rattle.whole_numbers.proofs.Common.{◌≡◌, ℕ, zero, suc, ◌+◌, ◌<◌, ◌≤◌, ℤ, pos, negsuc, ◌+ℤ◌, ◌-ℤ◌, ◌*ℤ◌, Bool, true}
+use Rattle.whole_numbers.proofs.Common.{false, List, [], ◌∷◌, ◌++◌, length, get_or, map, drop, take, refl, subst, ap}
+use Rattle.whole_numbers.proofs.Common.{ap₂, sym, ◌∙◌, arith, length-append, append_assoc, add-one, All, if◌then◌else◌}
+use Rattle.whole_numbers.proofs.Common.{ints, drop-map, take-map, length-map, All-cons, All-nil, LexNotNegative, dot}
+use Rattle.whole_numbers.proofs.Common.{zeros, NotNegative, Affine, value_of, mul_zero_left, mul_zero_right}
+use Rattle.whole_numbers.proofs.Common.{mul_one_right, dot-padded, dot-append, dot-past}
 use Rattle.tableau_rows.specs.Rows.{Row, Means, Sized}
 use Rattle.tableau_rows.specs.Solutions.{IsSolution, IsColumn, HasColumn, IsTableau}
 use Rattle.tableau_rows.specs.Moves.{row_at}

@@ -1,15 +1,8 @@
 -- No quotient that the tree of a run binds is negative at a point of the context.
-use Rattle.std.proofs.Common.{◌≡◌, ℕ, zero, suc, ◌+◌, ◌<◌, ◌≤◌, Bool, true, false, ℤ, pos, ◌≤ℤ◌, ◌<ℤ◌}
-use Rattle.std.proofs.Common.{List, [], ◌∷◌, ◌++◌, length, map, drop, take, subst, sym, ◌∙◌, arith}
-use Rattle.std.proofs.Common.{length-append}
-use Rattle.std.specs.Prelude.{Ok, if◌then◌else◌}
-use Rattle.std.proofs.lemmas.Int.{ints}
-use Rattle.std.proofs.lemmas.List.{length-drop}
-use Rattle.whole_numbers.specs.Lists.{zeros, NotNegative}
-use Rattle.whole_numbers.specs.Affine.{Affine, form_of, value_of}
-use Rattle.whole_numbers.specs.Floor.{floor}
-use Rattle.whole_numbers.proofs.Floors.{floor_is, floor_at_least}
-use Rattle.whole_numbers.proofs.Dot.{dot-past}
+use Rattle.whole_numbers.proofs.Common.{◌≡◌, ℕ, zero, suc, ◌+◌, ◌<◌, ◌≤◌, Bool, true, false, ℤ, pos, ◌≤ℤ◌, ◌<ℤ◌, List}
+use Rattle.whole_numbers.proofs.Common.{[], ◌∷◌, ◌++◌, length, map, drop, take, subst, sym, ◌∙◌, arith, length-append}
+use Rattle.whole_numbers.proofs.Common.{Ok, if◌then◌else◌, ints, length-drop, zeros, NotNegative, Affine, form_of}
+use Rattle.whole_numbers.proofs.Common.{value_of, floor, floor_is, floor_at_least, dot-past}
 use Rattle.tableau_rows.specs.Rows.{Row, Sized, entry}
 use Rattle.tableau_rows.specs.Moves.{row_at}
 use Rattle.tableau_rows.specs.Problem.{Problem, row_values, Speaks, first_rows}

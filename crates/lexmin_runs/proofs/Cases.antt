@@ -1,10 +1,8 @@
 -- How a move and a step come about: what holds of each thing that they can be, holds of what they are (`step_by`,
 -- `cut_by`).
-use Rattle.std.proofs.Common.{◌≡◌, ℕ, zero, suc, ◌+◌, ◌<◌, ◌≤◌, Bool, true, false, Option, Some, None, List, [], ◌∷◌}
-use Rattle.std.proofs.Common.{◌++◌, length, take, refl, subst, arith}
-use Rattle.std.specs.Prelude.{Ok, if◌then◌else◌}
-use Rattle.std.proofs.lemmas.List.{length-take-le}
-use Rattle.whole_numbers.specs.Affine.{Affine}
+use Rattle.whole_numbers.proofs.Common.{◌≡◌, ℕ, zero, suc, ◌+◌, ◌<◌, ◌≤◌, Bool, true, false, Option, Some, None, List}
+use Rattle.whole_numbers.proofs.Common.{[], ◌∷◌, ◌++◌, length, take, refl, subst, arith, Ok, if◌then◌else◌}
+use Rattle.whole_numbers.proofs.Common.{length-take-le, Affine}
 use Rattle.tableau_rows.specs.Rows.{Row}
 use Rattle.tableau_rows.specs.Moves.{row_at, pivot_run, cut_run}
 use Rattle.tableau_rows.specs.Run.{some_positive}

@@ -1,18 +1,10 @@
 -- What a cut takes off, and the parameter that it is tied to.
-use Rattle.std.proofs.Common.{◌≡◌, ℕ, zero, suc, ◌+◌, ◌<◌, ◌≤◌, ℤ, pos, neg_ℤ, ◌+ℤ◌, ◌-ℤ◌, ◌*ℤ◌, ◌≤ℤ◌, ◌<ℤ◌, Bool, true}
-use Rattle.std.proofs.Common.{false, Some, List, [], ◌∷◌, ◌++◌, length, get_or, map, drop, refl, subst, ap, ap₂, sym}
-use Rattle.std.proofs.Common.{◌∙◌, arith, length-append, add-one, append_assoc}
-use Rattle.std.specs.Prelude.{if◌then◌else◌}
-use Rattle.std.proofs.lemmas.Int.{ints}
-use Rattle.std.proofs.lemmas.List.{length-map, length-drop}
-use Rattle.whole_numbers.specs.Lists.{dot, zeros, NotNegative}
-use Rattle.whole_numbers.specs.Affine.{Affine, value_of}
-use Rattle.whole_numbers.specs.Floor.{floor, remainder}
-use Rattle.whole_numbers.specs.Division.{IsFloor}
-use Rattle.whole_numbers.proofs.Floors.{floor_is, floor_unique}
-use Rattle.whole_numbers.proofs.Order.{mul_not_negative}
-use Rattle.whole_numbers.proofs.Dot.{length-zeros, dot-padded, dot-past}
-use Rattle.whole_numbers.proofs.Ring.{mul_zero_left, mul_comm_int, mul_neg_left}
+use Rattle.whole_numbers.proofs.Common.{◌≡◌, ℕ, zero, suc, ◌+◌, ◌<◌, ◌≤◌, ℤ, pos, neg_ℤ, ◌+ℤ◌, ◌-ℤ◌, ◌*ℤ◌, ◌≤ℤ◌, ◌<ℤ◌}
+use Rattle.whole_numbers.proofs.Common.{Bool, true, false, Some, List, [], ◌∷◌, ◌++◌, length, get_or, map, drop, refl}
+use Rattle.whole_numbers.proofs.Common.{subst, ap, ap₂, sym, ◌∙◌, arith, length-append, add-one, append_assoc}
+use Rattle.whole_numbers.proofs.Common.{if◌then◌else◌, ints, length-map, length-drop, dot, zeros, NotNegative, Affine}
+use Rattle.whole_numbers.proofs.Common.{value_of, floor, remainder, IsFloor, floor_is, floor_unique, mul_not_negative}
+use Rattle.whole_numbers.proofs.Common.{length-zeros, dot-padded, dot-past, mul_zero_left, mul_comm_int, mul_neg_left}
 use Rattle.tableau_rows.specs.Rows.{Row}
 use Rattle.tableau_rows.specs.Moves.{cut_entries}
 use Rattle.tableau_rows.specs.Solutions.{IsTied}

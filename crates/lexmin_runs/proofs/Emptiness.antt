@@ -1,17 +1,12 @@
 -- The question of a system's emptiness is answered right: what its answer means.
-use Rattle.std.proofs.Common.{◌≡◌, ◌↔◌, ℕ, zero, suc, ◌+◌, ◌<◌, ◌≤◌, ℤ, pos, negsuc, neg_ℤ, ◌-ℤ◌, ◌*ℤ◌, ◌≤ℤ◌, true}
-use Rattle.std.proofs.Common.{false, List, [], ◌∷◌, ◌++◌, length, get_or, set, drop, take, All, refl, subst, ap, sym}
-use Rattle.std.proofs.Common.{◌∙◌, arith, length-append}
-use Rattle.std.specs.Prelude.{Ok, Err}
-use Rattle.std.proofs.lemmas.Int.{ints}
-use Rattle.std.proofs.lemmas.List.{append-nil, length-take-le, length-drop, take-append-drop}
-use Rattle.std.proofs.lemmas.List.Elements.{All-cons, All-nil, All-head, All-tail}
+use Rattle.whole_numbers.proofs.Common.{◌≡◌, ◌↔◌, ℕ, zero, suc, ◌+◌, ◌<◌, ◌≤◌, ℤ, pos, negsuc, neg_ℤ, ◌-ℤ◌, ◌*ℤ◌, ◌≤ℤ◌}
+use Rattle.whole_numbers.proofs.Common.{true, false, List, [], ◌∷◌, ◌++◌, length, get_or, set, drop, take, All, refl}
+use Rattle.whole_numbers.proofs.Common.{subst, ap, sym, ◌∙◌, arith, length-append, Ok, Err, ints, length-take-le}
+use Rattle.whole_numbers.proofs.Common.{length-drop, take-append-drop, All-cons, All-nil, All-head, All-tail, zeros}
+use Rattle.whole_numbers.proofs.Common.{NotNegative, Affine, form_of, value_of, mul_neg_left, mul_one_left}
+use Rattle.whole_numbers.proofs.Common.{dot-set_left, dot-zeros, get_or-zeros, length-zeros, not_negative-append}
+use Rattle.std.proofs.lemmas.List.{append-nil}
 use Rattle.std.proofs.Math.ListN.{length-set}
-use Rattle.whole_numbers.specs.Lists.{zeros, NotNegative}
-use Rattle.whole_numbers.specs.Affine.{Affine, form_of, value_of}
-use Rattle.whole_numbers.proofs.Ring.{mul_neg_left, mul_one_left}
-use Rattle.whole_numbers.proofs.Dot.{dot-set_left, dot-zeros, get_or-zeros, length-zeros}
-use Rattle.whole_numbers.proofs.Lists.{not_negative-append}
 use Rattle.integer_sets.specs.Checked.{difference_of, ◌>>=◌}
 use Rattle.integer_sets.proofs.CheckedSteps.{chain-ok, difference_of-ok}
 use Rattle.integer_sets.specs.Parts.{variables_of}

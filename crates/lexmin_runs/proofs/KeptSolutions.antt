@@ -1,18 +1,10 @@
 -- Each step of a node keeps its whole solutions.
-use Rattle.std.proofs.Common.{◌≡◌, ◌↔◌, ℕ, zero, suc, ◌+◌, ◌<◌, ℤ, pos, ◌+ℤ◌, ◌≤ℤ◌, ◌<ℤ◌, Bool, true, false, Option}
-use Rattle.std.proofs.Common.{Some, None, List, [], ◌∷◌, ◌++◌, length, get_or, map, take, refl, subst, ap, sym, ◌∙◌}
-use Rattle.std.proofs.Common.{arith, length-append, add-one}
-use Rattle.std.specs.Prelude.{Ok, if◌then◌else◌}
-use Rattle.std.proofs.lemmas.Int.{ints}
-use Rattle.std.proofs.lemmas.List.{length-map, length-drop, length-take-le}
-use Rattle.whole_numbers.specs.Lists.{NotNegative}
-use Rattle.whole_numbers.proofs.Lists.{not_negative-append}
-use Rattle.whole_numbers.specs.Affine.{Affine, value_of}
-use Rattle.whole_numbers.specs.Floor.{floor}
-use Rattle.whole_numbers.specs.Division.{IsFloor}
-use Rattle.whole_numbers.proofs.Floors.{floor_is, floor_unique, floor_at_least}
-use Rattle.whole_numbers.proofs.Ring.{mul_zero_left, mul_comm_int}
-use Rattle.whole_numbers.proofs.Dot.{dot-past}
+use Rattle.whole_numbers.proofs.Common.{◌≡◌, ◌↔◌, ℕ, zero, suc, ◌+◌, ◌<◌, ℤ, pos, ◌+ℤ◌, ◌≤ℤ◌, ◌<ℤ◌, Bool, true, false}
+use Rattle.whole_numbers.proofs.Common.{Option, Some, None, List, [], ◌∷◌, ◌++◌, length, get_or, map, take, refl, subst}
+use Rattle.whole_numbers.proofs.Common.{ap, sym, ◌∙◌, arith, length-append, add-one, Ok, if◌then◌else◌, ints}
+use Rattle.whole_numbers.proofs.Common.{length-map, length-drop, length-take-le, NotNegative, not_negative-append}
+use Rattle.whole_numbers.proofs.Common.{Affine, value_of, floor, IsFloor, floor_is, floor_unique, floor_at_least}
+use Rattle.whole_numbers.proofs.Common.{mul_zero_left, mul_comm_int, dot-past}
 use Rattle.tableau_rows.specs.Rows.{Row, Sized}
 use Rattle.tableau_rows.specs.Moves.{row_at, pivot_run, cut_run}
 use Rattle.tableau_rows.specs.Problem.{IsPoint, problem_of, row_values, Speaks}

@@ -1,12 +1,7 @@
 -- The tree of a leaf speaks of the parameters.
-use Rattle.std.proofs.Common.{◌≡◌, ℕ, suc, ◌+◌, ◌<◌, pos, Bool, true, false, List, [], ◌∷◌, ◌++◌, length, map}
-use Rattle.std.proofs.Common.{drop, refl, subst, sym, arith, length-append, add-one}
-use Rattle.std.specs.Prelude.{if◌then◌else◌}
-use Rattle.std.proofs.lemmas.Int.{ints}
-use Rattle.std.proofs.lemmas.List.{length-map, length-drop}
-use Rattle.whole_numbers.specs.Lists.{zeros}
-use Rattle.whole_numbers.specs.Affine.{Affine, form_of}
-use Rattle.whole_numbers.proofs.Dot.{length-zeros}
+use Rattle.whole_numbers.proofs.Common.{◌≡◌, ℕ, suc, ◌+◌, ◌<◌, pos, Bool, true, false, List, [], ◌∷◌, ◌++◌, length, map}
+use Rattle.whole_numbers.proofs.Common.{drop, refl, subst, sym, arith, length-append, add-one, if◌then◌else◌, ints}
+use Rattle.whole_numbers.proofs.Common.{length-map, length-drop, zeros, Affine, form_of, length-zeros}
 use Rattle.tableau_rows.specs.Rows.{Row, entry, Sized}
 use Rattle.tableau_rows.specs.Problem.{Speaks}
 use Rattle.lexmin_runs.specs.Nodes.{longer_form, part_of, all_divided, divided, padded, leaf_tree}

@@ -1,16 +1,11 @@
 -- The leaf's tree gives the parts over their denominators.
-use Rattle.std.proofs.Common.{◌≡◌, ℕ, suc, ◌+◌, ◌<◌, ◌≤◌, ℤ, pos, ◌+ℤ◌, ◌*ℤ◌, ◌<ℤ◌, Bool, true, false, List, [], ◌∷◌}
-use Rattle.std.proofs.Common.{◌++◌, length, get_or, map, drop, refl, subst, ap, ap₂, sym, ◌∙◌, arith, length-append}
-use Rattle.std.proofs.Common.{append_assoc}
-use Rattle.std.specs.Prelude.{if◌then◌else◌}
-use Rattle.std.proofs.lemmas.Int.{ints}
-use Rattle.std.proofs.lemmas.List.{append-nil, length-drop, length-map}
-use Rattle.whole_numbers.specs.Lists.{dot, zeros, multiples}
-use Rattle.whole_numbers.specs.Affine.{Affine, value_of, form_of}
-use Rattle.whole_numbers.specs.Floor.{floor, remainder}
-use Rattle.whole_numbers.proofs.Ring.{mul_one_left, mul_distrib_left, mul_comm_int}
-use Rattle.whole_numbers.proofs.Floors.{floor_is, floor_unique}
-use Rattle.whole_numbers.proofs.Dot.{dot-padded, dot-append, dot-zeros, dot-multiples, length-zeros, dot-past}
+use Rattle.whole_numbers.proofs.Common.{◌≡◌, ℕ, suc, ◌+◌, ◌<◌, ◌≤◌, ℤ, pos, ◌+ℤ◌, ◌*ℤ◌, ◌<ℤ◌, Bool, true, false, List}
+use Rattle.whole_numbers.proofs.Common.{[], ◌∷◌, ◌++◌, length, get_or, map, drop, refl, subst, ap, ap₂, sym, ◌∙◌, arith}
+use Rattle.whole_numbers.proofs.Common.{length-append, append_assoc, if◌then◌else◌, ints, length-drop, length-map, dot}
+use Rattle.whole_numbers.proofs.Common.{zeros, multiples, Affine, value_of, form_of, floor, remainder, mul_one_left}
+use Rattle.whole_numbers.proofs.Common.{mul_distrib_left, mul_comm_int, floor_is, floor_unique, dot-padded, dot-append}
+use Rattle.whole_numbers.proofs.Common.{dot-zeros, dot-multiples, length-zeros, dot-past}
+use Rattle.std.proofs.lemmas.List.{append-nil}
 use Rattle.tableau_rows.specs.Rows.{Row, entry, Sized}
 use Rattle.tableau_rows.specs.Problem.{row_values, Speaks}
 use Rattle.tableau_rows.specs.Run.{point}

@@ -1,16 +1,11 @@
 -- What the answers of questions say at a point of the context.
-use Rattle.std.proofs.Common.{◌≡◌, ℕ, zero, suc, ◌+◌, ℤ, pos, neg_ℤ, ◌+ℤ◌, ◌-ℤ◌, ◌*ℤ◌, ◌≤ℤ◌, ◌<ℤ◌, Bool, true, false}
-use Rattle.std.proofs.Common.{List, [], ◌∷◌, ◌++◌, length, map, refl, subst, ap, sym, ◌∙◌, arith, length-append}
-use Rattle.std.specs.Prelude.{Result, Ok, Err, if◌then◌else◌}
-use Rattle.std.proofs.lemmas.Int.{ints, by_lt_z}
+use Rattle.whole_numbers.proofs.Common.{◌≡◌, ℕ, zero, suc, ◌+◌, ℤ, pos, neg_ℤ, ◌+ℤ◌, ◌-ℤ◌, ◌*ℤ◌, ◌≤ℤ◌, ◌<ℤ◌, Bool, true}
+use Rattle.whole_numbers.proofs.Common.{false, List, [], ◌∷◌, ◌++◌, length, map, refl, subst, ap, sym, ◌∙◌, arith}
+use Rattle.whole_numbers.proofs.Common.{length-append, Result, Ok, Err, if◌then◌else◌, ints, by_lt_z}
+use Rattle.whole_numbers.proofs.Common.{not_negative-append, dot, zeros, NotNegative, length-zeros, Affine, value_of}
+use Rattle.whole_numbers.proofs.Common.{form_of, floor, remainder, mul_zero_left, mul_comm_int, mul_neg_left, floor_is}
+use Rattle.whole_numbers.proofs.Common.{floor_at_least}
 use Rattle.std.proofs.lemmas.List.{append-nil}
-use Rattle.whole_numbers.proofs.Lists.{not_negative-append}
-use Rattle.whole_numbers.specs.Lists.{dot, zeros, NotNegative}
-use Rattle.whole_numbers.proofs.Dot.{length-zeros}
-use Rattle.whole_numbers.specs.Affine.{Affine, value_of, form_of}
-use Rattle.whole_numbers.specs.Floor.{floor, remainder}
-use Rattle.whole_numbers.proofs.Ring.{mul_zero_left, mul_comm_int, mul_neg_left}
-use Rattle.whole_numbers.proofs.Floors.{floor_is, floor_at_least}
 use Rattle.integer_sets.specs.Wide.{Wide}
 use Rattle.integer_sets.specs.Checked.{difference_of, ◌>>=◌}
 use Rattle.integer_sets.proofs.CheckedSteps.{chain-ok, difference_of-ok}

@@ -1,11 +1,7 @@
 -- Without parameters no node splits or gets one more: the tree of a run is one leaf.
-use Rattle.std.proofs.Common.{◌≡◌, ℕ, zero, suc, ◌+◌, ◌<◌, ℤ, pos, ◌<ℤ◌, true, false, List, [], ◌∷◌, ◌++◌}
-use Rattle.std.proofs.Common.{length, take, refl, subst, ap, ◌∙◌, arith}
-use Rattle.std.specs.Prelude.{Ok, if◌then◌else◌}
-use Rattle.std.proofs.lemmas.Int.{ints}
-use Rattle.std.proofs.lemmas.List.{length-drop}
-use Rattle.whole_numbers.specs.Affine.{Affine}
-use Rattle.whole_numbers.specs.Floor.{remainder}
+use Rattle.whole_numbers.proofs.Common.{◌≡◌, ℕ, zero, suc, ◌+◌, ◌<◌, ℤ, pos, ◌<ℤ◌, true, false, List, [], ◌∷◌, ◌++◌}
+use Rattle.whole_numbers.proofs.Common.{length, take, refl, subst, ap, ◌∙◌, arith, Ok, if◌then◌else◌, ints, length-drop}
+use Rattle.whole_numbers.proofs.Common.{Affine, remainder}
 use Rattle.tableau_rows.specs.Rows.{Row, Sized}
 use Rattle.tableau_rows.specs.Moves.{row_at, is_below, is_positive}
 use Rattle.tableau_rows.specs.Problem.{problem_of, Speaks}

@@ -1,10 +1,8 @@
 -- More steps than the budget change nothing; a loop with a stack of frames over a run (`resumed_step`,
 -- `resumed_stops`).
-use Rattle.std.proofs.Common.{◌≡◌, ℕ, zero, suc, ◌+◌, ◌<◌, ◌≤◌, ℤ, Bool, true, false, Option, Some, None, List, [], ◌∷◌}
-use Rattle.std.proofs.Common.{◌++◌, map, take, refl, ap, ◌∙◌, arith}
-use Rattle.std.specs.Prelude.{Result, Ok, Err, if◌then◌else◌}
-use Rattle.whole_numbers.specs.Floor.{remainder}
-use Rattle.whole_numbers.specs.Affine.{Affine}
+use Rattle.whole_numbers.proofs.Common.{◌≡◌, ℕ, zero, suc, ◌+◌, ◌<◌, ◌≤◌, ℤ, Bool, true, false, Option, Some, None}
+use Rattle.whole_numbers.proofs.Common.{List, [], ◌∷◌, ◌++◌, map, take, refl, ap, ◌∙◌, arith, Result, Ok, Err}
+use Rattle.whole_numbers.proofs.Common.{if◌then◌else◌, remainder, Affine}
 use Rattle.integer_sets.specs.Wide.{Wide}
 use Rattle.tableau_rows.specs.Rows.{Row}
 use Rattle.tableau_rows.specs.Moves.{is_below, is_positive, row_at, pivot_run, cut_run}

@@ -1,15 +1,8 @@
 -- The tree of a run gives, at each point of the context, what is so there.
-use Rattle.std.proofs.Common.{◌≡◌, ℕ, zero, suc, ◌+◌, ◌<◌, ◌≤◌, ℤ, pos, negsuc, ◌≤ℤ◌, ◌<ℤ◌, Option, Some, None}
-use Rattle.std.proofs.Common.{List, [], ◌∷◌, ◌++◌, length, map, drop, take, refl, subst, sym, ◌∙◌, arith}
-use Rattle.std.proofs.Common.{length-append}
-use Rattle.std.specs.Prelude.{Ok}
-use Rattle.std.proofs.lemmas.Int.{ints}
-use Rattle.std.proofs.lemmas.List.{length-take-le, take-append-drop, length-drop, length-map}
-use Rattle.whole_numbers.specs.Lists.{zeros, NotNegative}
-use Rattle.whole_numbers.specs.Affine.{Affine, value_of}
-use Rattle.whole_numbers.specs.Floor.{floor}
-use Rattle.whole_numbers.specs.Division.{IsFloor}
-use Rattle.whole_numbers.proofs.Floors.{floor_is}
+use Rattle.whole_numbers.proofs.Common.{◌≡◌, ℕ, zero, suc, ◌+◌, ◌<◌, ◌≤◌, ℤ, pos, negsuc, ◌≤ℤ◌, ◌<ℤ◌, Option, Some}
+use Rattle.whole_numbers.proofs.Common.{None, List, [], ◌∷◌, ◌++◌, length, map, drop, take, refl, subst, sym, ◌∙◌}
+use Rattle.whole_numbers.proofs.Common.{arith, length-append, Ok, ints, length-take-le, take-append-drop, length-drop}
+use Rattle.whole_numbers.proofs.Common.{length-map, zeros, NotNegative, Affine, value_of, floor, IsFloor, floor_is}
 use Rattle.tableau_rows.specs.Rows.{Row, Means, Sized}
 use Rattle.tableau_rows.specs.Moves.{row_at, cut_run}
 use Rattle.tableau_rows.specs.Problem.{Problem, row_values, Speaks, first_rows}

@@ -1,16 +1,10 @@
 -- 128 bits hold the numbers of the rows by which a run's tree is told.
-use Rattle.std.proofs.Common.{◌≡◌, ℕ, zero, suc, ◌+◌, Bool, true, false, ℤ, pos, negsuc, ◌⊎◌, inl, inr}
-use Rattle.std.proofs.Common.{List, [], ◌∷◌, ◌++◌, map, drop, take, refl, subst, sym, ◌∙◌, ap, arith}
-use Rattle.std.specs.Prelude.{Ok, Result, if◌then◌else◌, ◌<ℤ◌, ◌≤ℤ◌, ◌*ℤ◌, ⊤}
-use Rattle.std.proofs.lemmas.Int.{ints}
-use Rattle.whole_numbers.specs.Lists.{zeros}
-use Rattle.whole_numbers.specs.Affine.{Affine, form_of, complement}
-use Rattle.whole_numbers.specs.Fits.{fits}
-use Rattle.std.specs.Prelude.{neg_ℤ, ◌-ℤ◌}
+use Rattle.whole_numbers.proofs.Common.{◌≡◌, ℕ, zero, suc, ◌+◌, Bool, true, false, ℤ, pos, negsuc, ◌⊎◌, inl, inr, List}
+use Rattle.whole_numbers.proofs.Common.{[], ◌∷◌, ◌++◌, map, drop, take, refl, subst, sym, ◌∙◌, ap, arith, Ok, Result}
+use Rattle.whole_numbers.proofs.Common.{if◌then◌else◌, ◌<ℤ◌, ◌≤ℤ◌, ◌*ℤ◌, ⊤, ints, zeros, Affine, form_of, complement}
+use Rattle.whole_numbers.proofs.Common.{fits, neg_ℤ, ◌-ℤ◌, All-append, All-cons, All-nil, remainder, floor}
+use Rattle.whole_numbers.proofs.Common.{mul_zero_right}
 use Rattle.std.proofs.lemmas.List.{append-nil}
-use Rattle.std.proofs.lemmas.List.Elements.{All-append, All-cons, All-nil}
-use Rattle.whole_numbers.specs.Floor.{remainder, floor}
-use Rattle.whole_numbers.proofs.Ring.{mul_zero_right}
 use Rattle.lexmin_runs.proofs.Leaves.{floor-multiple}
 use Rattle.tableau_rows.proofs.Cuts.{remainder_in}
 use Rattle.integer_sets.specs.Wide.{Wide}

@@ -1,5 +1,5 @@
 -- A leaf's verdict: its values, or that there is none.
-use Rattle.std.proofs.Common.{ℤ, List}
+use Rattle.whole_numbers.proofs.Common.{ℤ, List}
 use Rattle.tableau_rows.specs.Problem.{Problem}
 use Rattle.tableau_rows.specs.Run.{Verdict, point, none, IsRight}
 use Rattle.lexmin_runs.specs.Leaves.{IsAnswer}

@@ -1,11 +1,8 @@
 -- Marks that are put back but for their last values: what is to come is the same, and they stand once the loops that
 -- were begun say theirs.
-use Rattle.std.proofs.Common.{◌≡◌, ◌∙◌, ℕ, zero, suc, ◌<◌, ◌≤◌, Bool, true, false, ℤ, List, [], ◌∷◌, ◌++◌}
-use Rattle.std.proofs.Common.{length, map, get_or, ap, sym, subst, refl, arith}
-use Rattle.std.specs.Prelude.{if◌then◌else◌, ◌+ℤ◌, ◌≤ℤ◌, pos}
-use Rattle.std.specs.Int.Signed.{le_z}
-use Rattle.std.proofs.lemmas.Bool.{false≢true}
-use Rattle.scop_syntax.specs.Walk.{Instance}
+use Rattle.scop_syntax.proofs.Common.{◌≡◌, ◌∙◌, ℕ, zero, suc, ◌<◌, ◌≤◌, Bool, true, false, ℤ, List, [], ◌∷◌, ◌++◌}
+use Rattle.scop_syntax.proofs.Common.{length, map, get_or, ap, sym, subst, refl, arith, if◌then◌else◌, ◌+ℤ◌, ◌≤ℤ◌, pos}
+use Rattle.scop_syntax.proofs.Common.{le_z, false≢true, Instance}
 use Rattle.loop_tree.specs.Bookmarks.{CanStand, without_last}
 use Rattle.loop_tree.specs.Spot.{IsAt, IsWithin, Mark, mark, rest_in, rest_of, shown_from}
 use Rattle.loop_tree.specs.steps.Putting.{HasPut}

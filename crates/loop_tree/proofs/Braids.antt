@@ -1,18 +1,11 @@
 -- Stretches of leaves in turn: what they give is what the leaves show at the values of the loop round them. Lists that
 -- give their firsts in turn.
-use Rattle.std.proofs.Common.{◌≡◌, ℕ, zero, suc, ◌+◌, ◌≤◌, ◌<◌, Bool, true, false, ℤ, pos, List, [], ◌∷◌, ◌++◌}
-use Rattle.std.proofs.Common.{length, map, take, drop, set, get_or, ap, ap₂, sym, subst, ◌∙◌, refl, arith, append-nil}
-use Rattle.std.proofs.Common.{inl, inr}
-use Rattle.std.specs.Prelude.{◌+ℤ◌, ◌≤ℤ◌, ◌⊎◌, All, FitsSigned}
-use Rattle.std.proofs.lemmas.Int.{ints}
-use Rattle.std.specs.Int.{w64}
-use Rattle.std.proofs.lemmas.List.{append_assoc, map-append}
-use Rattle.std.proofs.lemmas.List.Elements.{All-append, All-cons, All-head, All-nil, All-tail}
-use Rattle.std.proofs.Math.Seq.{take-suc-set}
-use Rattle.scop_syntax.specs.Members.{In}
-use Rattle.scop_syntax.specs.Walk.{Instance}
-use Rattle.whole_numbers.specs.Lists.{sums}
-use Rattle.scop_syntax.specs.View.{instance_of}
+use Rattle.scop_syntax.proofs.Common.{◌≡◌, ℕ, zero, suc, ◌+◌, ◌≤◌, ◌<◌, Bool, true, false, ℤ, pos, List, [], ◌∷◌, ◌++◌}
+use Rattle.scop_syntax.proofs.Common.{length, map, take, drop, set, get_or, ap, ap₂, sym, subst, ◌∙◌, refl, arith}
+use Rattle.scop_syntax.proofs.Common.{append-nil, inl, inr, ◌+ℤ◌, ◌≤ℤ◌, ◌⊎◌, All, FitsSigned, ints, w64, map-append}
+use Rattle.scop_syntax.proofs.Common.{All-append, All-cons, All-head, All-nil, All-tail, take-suc-set, In, Instance}
+use Rattle.scop_syntax.proofs.Common.{sums, instance_of}
+use Rattle.std.proofs.lemmas.List.{append_assoc}
 use Rattle.loop_tree.specs.Braids.{IsBraid, left_of_braid, strands_in_turn, taking, together, woven}
 use Rattle.loop_tree.specs.Conditions.{CanWalk, IsHeld}
 use Rattle.loop_tree.specs.Spot.{Mark, mark, IsAt, rest_of, shown_from}

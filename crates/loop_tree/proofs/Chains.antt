@@ -1,6 +1,6 @@
 -- The values of a chain of loops, at each kind.
-use Rattle.std.proofs.Common.{◌≡◌, ◌+◌, ◌<◌, ℕ, suc, ℤ, List, [], ◌∷◌, ◌++◌, length, length-append, Bor, ap, ap₂, sym, ◌∙◌, arith}
-use Rattle.std.proofs.Common.{drop, set}
+use Rattle.scop_syntax.proofs.Common.{◌≡◌, ◌+◌, ◌<◌, ℕ, suc, ℤ, List, [], ◌∷◌, ◌++◌, length, length-append, Bor, ap}
+use Rattle.scop_syntax.proofs.Common.{ap₂, sym, ◌∙◌, arith, drop, set}
 use Rattle.std.proofs.lemmas.List.{append_assoc, drop-set}
 use Rattle.loop_tree.specs.declared.outer.Outer.{Outer}
 use Rattle.loop_tree.specs.declared.outer.Outer.TheVariants.{Row, Within, rolls-Row, rolls-Within}

@@ -1,6 +1,5 @@
 -- The first of bounds, and the others.
-use Rattle.std.proofs.Common.{ℤ, pos, List, [], ◌∷◌}
-use Rattle.std.specs.Prelude.{◌<ℤ◌}
+use Rattle.scop_syntax.proofs.Common.{ℤ, pos, List, [], ◌∷◌, ◌<ℤ◌}
 use Rattle.loop_tree.specs.Tree.{Bound, bounds_of}
 use Rattle.loop_tree.specs.Fits.{FormFits, BoundsFit}
 use Rattle.loop_tree.specs.Marks.{AreBounds}

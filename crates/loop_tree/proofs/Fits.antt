@@ -1,16 +1,9 @@
 -- A tree of small numbers whose loops have numeric bounds fits.
-use Rattle.std.proofs.Common.{refl, ◌≡◌, ℕ, zero, suc, ◌+◌, ◌*◌, ◌<◌, ℤ, pos, List, [], ◌∷◌, ◌++◌, length, inl, inr}
-use Rattle.std.proofs.Common.{subst, sym, arith, mul-le-mul}
-use Rattle.std.specs.Prelude.{◌≤◌, ◌^◌, neg_ℤ, ◌+ℤ◌, ◌*ℤ◌, ◌≤ℤ◌, unsigned_abs}
-use Rattle.std.proofs.lemmas.Int.{ints, unsigned_abs-mul}
-use Rattle.whole_numbers.specs.Affine.{Affine, value_of}
-use Rattle.whole_numbers.specs.Floor.{floor, ceiling}
-use Rattle.whole_numbers.proofs.Floors.{floor_is, ceiling_is}
-use Rattle.whole_numbers.proofs.Ring.{mul_one_right, mul_zero_left}
-use Rattle.whole_numbers.specs.Lists.{dot}
-use Rattle.whole_numbers.proofs.Sizes.{abs_at_most, abs_high, abs_low, abs_sum}
-use Rattle.scop_syntax.specs.Kernel.{AreAtMost, IsForm}
-use Rattle.scop_syntax.proofs.Limits.{size, value_size}
+use Rattle.scop_syntax.proofs.Common.{refl, ◌≡◌, ℕ, zero, suc, ◌+◌, ◌*◌, ◌<◌, ℤ, pos, List, [], ◌∷◌, ◌++◌, length, inl}
+use Rattle.scop_syntax.proofs.Common.{inr, subst, sym, arith, mul-le-mul, ◌≤◌, ◌^◌, neg_ℤ, ◌+ℤ◌, ◌*ℤ◌, ◌≤ℤ◌}
+use Rattle.scop_syntax.proofs.Common.{unsigned_abs, ints, unsigned_abs-mul, Affine, value_of, floor, ceiling, floor_is}
+use Rattle.scop_syntax.proofs.Common.{ceiling_is, mul_one_right, mul_zero_left, dot, abs_at_most, abs_high, abs_low}
+use Rattle.scop_syntax.proofs.Common.{abs_sum, AreAtMost, IsForm, size, value_size}
 use Rattle.loop_tree.specs.Tree.{Bound, Bounds, only, besides, Test, Tree, loop, guard, instance, Trees, none, more}
 use Rattle.loop_tree.specs.Walk.{lower, upper}
 use Rattle.loop_tree.specs.Fits.{SumsFit, FormFits, BoundsFit, form_in, TestsFit, FormsFit, Fits, FitsAll, IsSmall}

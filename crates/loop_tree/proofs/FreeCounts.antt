@@ -1,17 +1,10 @@
 -- Counts that hang on no value of the loops within: forms that do not name them have one value, so bounds, tests and
 -- bodies are alike there.
-use Rattle.std.proofs.Common.{◌≡◌, ◌∙◌, ℕ, zero, suc, ◌+◌, ◌*◌, ◌<◌, ℤ, pos, Bool, true, false, List, [], ◌∷◌, ◌++◌, ap, ap₂}
-use Rattle.std.proofs.Common.{arith, drop, get_or, length, length-append, refl, subst, sym, take}
-use Rattle.std.specs.Prelude.{◌+ℤ◌, ◌-ℤ◌, ◌*ℤ◌, if◌then◌else◌}
-use Rattle.std.specs.Int.Signed.{le_z}
-use Rattle.std.proofs.lemmas.Int.{ints}
-use Rattle.std.proofs.lemmas.List.{append_assoc, length-map}
-use Rattle.whole_numbers.specs.Affine.{Affine, value_of}
-use Rattle.whole_numbers.specs.Floor.{ceiling, floor}
-use Rattle.whole_numbers.specs.Lists.{dot}
-use Rattle.whole_numbers.proofs.Lists.{dot-split}
-use Rattle.whole_numbers.proofs.Ring.{mul_zero_left}
-use Rattle.scop_syntax.specs.Walk.{Instance, most_turns}
+use Rattle.scop_syntax.proofs.Common.{◌≡◌, ◌∙◌, ℕ, zero, suc, ◌+◌, ◌*◌, ◌<◌, ℤ, pos, Bool, true, false, List, [], ◌∷◌}
+use Rattle.scop_syntax.proofs.Common.{◌++◌, ap, ap₂, arith, drop, get_or, length, length-append, refl, subst, sym, take}
+use Rattle.scop_syntax.proofs.Common.{◌+ℤ◌, ◌-ℤ◌, ◌*ℤ◌, if◌then◌else◌, le_z, ints, length-map, Affine, value_of}
+use Rattle.scop_syntax.proofs.Common.{ceiling, floor, dot, dot-split, mul_zero_left, Instance, most_turns}
+use Rattle.std.proofs.lemmas.List.{append_assoc}
 use Rattle.loop_tree.specs.steps.Counting.{AreWithin, BoundsAreFree, IsFree, TestsAreFree}
 use Rattle.loop_tree.specs.steps.Passing.{shown_along}
 use Rattle.loop_tree.specs.Fits.{AreZeros, form_in}

@@ -1,8 +1,5 @@
 -- How deep small trees nest (`nested_all`), and numbers within a bound that are within a larger one (`trees_more`).
-use Rattle.std.proofs.Common.{ℕ, zero, suc, ℤ, get_or, arith}
-use Rattle.std.specs.Prelude.{◌≤◌}
-use Rattle.whole_numbers.specs.Affine.{Affine}
-use Rattle.scop_syntax.proofs.Limits.{at_most_more}
+use Rattle.scop_syntax.proofs.Common.{ℕ, zero, suc, ℤ, get_or, arith, ◌≤◌, Affine, at_most_more}
 use Rattle.loop_tree.specs.Fits.{AreSmallTrees, IsSmallTree}
 use Rattle.loop_tree.specs.Shape.{BoundsAreUpTo, IsOverUpTo, IsUpTo, NestAllTo, NestsTo, TestIsUpTo, TreeIsUpTo}
 use Rattle.loop_tree.specs.Shape.{TreesAreUpTo}

@@ -1,10 +1,7 @@
 -- Marks that leave the nodes they stand in: what was to come there is passed by, and all of it was to come before.
-use Rattle.std.proofs.Common.{◌≡◌, ◌∙◌, ◌++◌, ◌∷◌, ℕ, ℤ, [], List, length, take, drop, ap, sym, subst, refl, arith}
-use Rattle.std.proofs.Common.{append-nil, false, slice_set}
-use Rattle.std.proofs.lemmas.List.{drop-map, length-map, map-append, take-map}
-use Rattle.scop_syntax.specs.Members.{In}
-use Rattle.scop_syntax.specs.Walk.{Instance}
-use Rattle.scop_syntax.proofs.Members.{in_front}
+use Rattle.scop_syntax.proofs.Common.{◌≡◌, ◌∙◌, ◌++◌, ◌∷◌, ℕ, ℤ, [], List, length, take, drop, ap, sym, subst, refl}
+use Rattle.scop_syntax.proofs.Common.{arith, append-nil, false, slice_set, drop-map, length-map, map-append, take-map}
+use Rattle.scop_syntax.proofs.Common.{In, Instance, in_front}
 use Rattle.loop_tree.specs.steps.Going.{HasGone, Leads}
 use Rattle.loop_tree.specs.Spot.{IsAt, Mark, rest_of}
 use Rattle.loop_tree.specs.SpotView.{mark_of, marks_of}

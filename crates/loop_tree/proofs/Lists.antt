@@ -1,10 +1,7 @@
 -- A loop's values, in order.
-use Rattle.std.proofs.Common.{◌≡◌, ℕ, zero, suc, ◌<◌, ℤ, pos, negsuc, List, inl, inr, subst, refl, arith, []}
-use Rattle.std.specs.Prelude.{◌+ℤ◌, ◌-ℤ◌, ◌≤ℤ◌, ◌<ℤ◌}
-use Rattle.std.proofs.lemmas.Int.{ints}
-use Rattle.scop_syntax.specs.Members.{In, Sorted}
-use Rattle.scop_syntax.specs.Walk.{most_turns}
-use Rattle.scop_syntax.proofs.Members.{in_front, in_back, in_append, sorted_append}
+use Rattle.scop_syntax.proofs.Common.{◌≡◌, ℕ, zero, suc, ◌<◌, ℤ, pos, negsuc, List, inl, inr, subst, refl, arith, []}
+use Rattle.scop_syntax.proofs.Common.{◌+ℤ◌, ◌-ℤ◌, ◌≤ℤ◌, ◌<ℤ◌, ints, In, Sorted, most_turns, in_front, in_back}
+use Rattle.scop_syntax.proofs.Common.{in_append, sorted_append}
 use Rattle.loop_tree.specs.Walk.{along, between}
 
 pub in_along_from : {A : Type 0} (body : ℤ → List A) (v : A) (n : ℕ) (first : ℤ) → In v (along body first n)

@@ -1,7 +1,6 @@
 -- Turns and parallel loops of visits.
-use Rattle.std.proofs.Common.{◌≡◌, Bool, true, false, ℤ, List, [], ◌∷◌, ◌++◌, map, inl, inr, ap, subst, sym, refl}
-use Rattle.scop_syntax.specs.Members.{In}
-use Rattle.scop_syntax.proofs.Members.{in_append, in_map_from, in_if_from}
+use Rattle.scop_syntax.proofs.Common.{◌≡◌, Bool, true, false, ℤ, List, [], ◌∷◌, ◌++◌, map, inl, inr, ap, subst, sym}
+use Rattle.scop_syntax.proofs.Common.{refl, In, in_append, in_map_from, in_if_from}
 use Rattle.loop_tree.specs.Tree.{Tree, loop, guard, instance, Trees, none, more}
 use Rattle.loop_tree.specs.Walk.{lower, upper, all_hold, Visit, through, walk, walk_all}
 use Rattle.loop_tree.specs.Scans.{key}

@@ -1,16 +1,11 @@
 -- The numbers of a source's loop tree lie within 2^45.
-use Rattle.std.proofs.Common.{ℕ, zero, suc, ◌+◌, ◌*◌, ◌^◌, ◌≤◌, List, [], ◌∷◌, ◌++◌, map, length, subst, sym, arith}
-use Rattle.std.proofs.Common.{length-append}
-use Rattle.std.specs.Prelude.{All}
-use Rattle.std.proofs.lemmas.Int.{ints}
-use Rattle.std.proofs.lemmas.List.Elements.{All-nil, All-cons, All-head, All-tail}
-use Rattle.whole_numbers.specs.Affine.{Affine, composed}
-use Rattle.scop_syntax.specs.Tree.{Test as Comparison, at_least as is_up, equal as is_zero, Head, Tree as Item}
-use Rattle.scop_syntax.specs.Tree.{loop as repeated, guard as guarded, statement, Trees as Items, none as nothing}
+use Rattle.scop_syntax.proofs.Common.{ℕ, zero, suc, ◌+◌, ◌*◌, ◌^◌, ◌≤◌, List, [], ◌∷◌, ◌++◌, map, length, subst, sym}
+use Rattle.scop_syntax.proofs.Common.{arith, length-append, All, ints, All-nil, All-cons, All-head, All-tail, Affine}
+use Rattle.scop_syntax.proofs.Common.{composed, Head, statement, IsComparison, AreScopes, test_form, Scope, round}
+use Rattle.scop_syntax.proofs.Common.{under, loops_in, statements_in}
+use Rattle.scop_syntax.specs.Tree.{Test as Comparison, at_least as is_up, equal as is_zero, Tree as Item}
+use Rattle.scop_syntax.specs.Tree.{loop as repeated, guard as guarded, Trees as Items, none as nothing}
 use Rattle.scop_syntax.specs.Tree.{more as followed}
-use Rattle.scop_syntax.specs.Kernel.{IsComparison, AreScopes, test_form}
-use Rattle.scop_syntax.specs.Statements.{Scope, round, under, loops_in}
-use Rattle.scop_syntax.specs.Walk.{statements_in}
 use Rattle.iteration_domains.specs.Rows.{variable, variables, iterator, within_loop, forms_from}
 use Rattle.iteration_domains.specs.Path.{Path, CanModel}
 use Rattle.iteration_domains.specs.Sizes.{form_size, forms_size, grown}

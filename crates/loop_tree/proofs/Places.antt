@@ -1,15 +1,9 @@
 -- Places in a source's tree: the point within one loop or guard more, and when a statement runs there.
-use Rattle.std.proofs.Common.{◌≡◌, ℕ, ◌+◌, ℤ, pos, List, [], ◌∷◌, ◌++◌, length, ap, ap₂, sym, ◌∙◌, refl, arith, subst}
-use Rattle.std.proofs.Common.{length-append}
-use Rattle.std.specs.Prelude.{◌≤ℤ◌}
-use Rattle.std.proofs.lemmas.List.{length-map}
-use Rattle.whole_numbers.specs.Affine.{value_of}
-use Rattle.scop_syntax.specs.Cells.{values}
-use Rattle.scop_syntax.specs.Kernel.{IsHead}
-use Rattle.scop_syntax.specs.Tree.{Test, Head, Statement, assigned, constant, loop, guard, Trees, none}
-use Rattle.scop_syntax.specs.Tree.{more}
-use Rattle.scop_syntax.specs.Walk.{turn_point, condition_at}
-use Rattle.scop_syntax.specs.Statements.{Scope, round, under, loops_in, point_of, AllHold, Runs}
+use Rattle.scop_syntax.proofs.Common.{◌≡◌, ℕ, ◌+◌, ℤ, pos, List, [], ◌∷◌, ◌++◌, length, ap, ap₂, sym, ◌∙◌, refl, arith}
+use Rattle.scop_syntax.proofs.Common.{subst, length-append, ◌≤ℤ◌, length-map, value_of, values, IsHead, Test, Head}
+use Rattle.scop_syntax.proofs.Common.{Statement, assigned, loop, guard, Trees, none, more, turn_point, condition_at}
+use Rattle.scop_syntax.proofs.Common.{Scope, round, under, loops_in, point_of, AllHold, Runs}
+use Rattle.scop_syntax.specs.Tree.{constant}
 use Rattle.iteration_domains.specs.Rows.{variables, forms_from}
 use Rattle.iteration_domains.specs.Path.{Path, CanModel, placed_at}
 use Rattle.iteration_domains.proofs.RowLaws.{values-point}

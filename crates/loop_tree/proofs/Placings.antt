@@ -1,11 +1,10 @@
 -- Nodes made of items one by one, from the place at which they stand; variables put one by one.
-use Rattle.std.proofs.Common.{zero, suc, ◌-◌, ◌^◌, ℤ, length-append}
-use Rattle.std.specs.Prelude.{All, unsigned_abs}
+use Rattle.scop_syntax.proofs.Common.{zero, suc, ◌-◌, ◌^◌, ℤ, length-append, All, unsigned_abs, All-nil, All-cons}
+use Rattle.scop_syntax.proofs.Common.{All-head, All-tail, Affine, composed, IsAffine, IsCondition, IsComparison, IsHead}
+use Rattle.scop_syntax.proofs.Common.{test_form, loops_in, ◌≡◌, ℕ, ◌+◌, ◌≤◌, ◌<◌, List, [], ◌∷◌, ◌++◌, length, drop}
+use Rattle.scop_syntax.proofs.Common.{get_or, map, ap, subst, sym, ◌∙◌, refl, arith, IsKernel, Scope, Program, ap₂}
+use Rattle.scop_syntax.proofs.Common.{Head, items_of, statements_in, statements_in_all, item_here}
 use Rattle.std.proofs.lemmas.List.{append_assoc}
-use Rattle.std.proofs.lemmas.List.Elements.{All-nil, All-cons, All-head, All-tail}
-use Rattle.whole_numbers.specs.Affine.{Affine, composed}
-use Rattle.scop_syntax.specs.Kernel.{IsAffine, IsCondition, IsComparison, IsHead, test_form}
-use Rattle.scop_syntax.specs.Statements.{loops_in}
 use Rattle.scop_syntax.specs.View.{test_of as comparison_of}
 use Rattle.scop_syntax.specs.declared.tree.Test.{Test as CodeTest}
 use Rattle.iteration_domains.specs.Rows.{variable, variables}
@@ -16,23 +15,13 @@ use Rattle.iteration_domains.proofs.TreeStatements.{point_forms_are}
 use Rattle.loop_tree.specs.Source.{variables_at, point_at}
 use Rattle.loop_tree.specs.steps.Placing.{CanBegin, CanTest}
 use Rattle.loop_tree.proofs.SourceSizes.{first_over, last_small}
-use Rattle.std.proofs.Common.{◌≡◌, ℕ, ◌+◌, ◌≤◌, ◌<◌, List, [], ◌∷◌, ◌++◌, length, drop, get_or}
-use Rattle.std.proofs.Common.{map, ap, subst, sym, ◌∙◌, refl}
-use Rattle.std.proofs.Common.{arith}
-use Rattle.scop_syntax.specs.Kernel.{IsKernel}
-use Rattle.scop_syntax.specs.Statements.{Scope}
-use Rattle.scop_syntax.specs.Tree.{Program}
 use Rattle.iteration_domains.specs.Path.{path_at}
 use Rattle.iteration_domains.proofs.TreeStatements.{root_can}
 use Rattle.loop_tree.specs.Source.{source_of}
-use Rattle.std.proofs.Common.{ap₂}
-use Rattle.scop_syntax.specs.Tree.{Test as Comparison, Head, Tree as Item, Trees as Items, loop as repeated}
+use Rattle.scop_syntax.specs.Tree.{Test as Comparison, Tree as Item, Trees as Items, loop as repeated}
 use Rattle.scop_syntax.specs.Tree.{guard as guarded, none as nothing, more as followed}
-use Rattle.scop_syntax.specs.View.{items_of}
 use Rattle.scop_syntax.specs.View.{tree_of as item_tree}
-use Rattle.scop_syntax.specs.Walk.{statements_in, statements_in_all}
 use Rattle.scop_syntax.specs.declared.tree.Item.{Item as CodeItem}
-use Rattle.scop_syntax.proofs.Weights.{item_here}
 use Rattle.iteration_domains.specs.Path.{Path, CanModel}
 use Rattle.iteration_domains.proofs.TreeStatements.{can_first, can_rest, can_loop, can_guard}
 use Rattle.loop_tree.specs.Tree.{Tree, Trees, none, more}

@@ -1,13 +1,7 @@
 -- Sums of products in parts: of the first entries, and of the rest.
-use Rattle.std.proofs.Common.{◌≡◌, ℕ, zero, suc, ℤ, pos, negsuc, List, [], ◌∷◌}
-use Rattle.std.proofs.Common.{◌++◌, length, drop, ap, refl, sym}
-use Rattle.std.proofs.Common.{arith, subst, ◌+◌, ◌∙◌}
-use Rattle.std.specs.Prelude.{◌+ℤ◌, ◌*ℤ◌, FitsSigned}
-use Rattle.std.specs.Int.{w128}
-use Rattle.std.proofs.lemmas.Int.{ints}
-use Rattle.whole_numbers.specs.Lists.{dot}
-use Rattle.whole_numbers.proofs.Dot.{dot-nil}
-use Rattle.whole_numbers.proofs.Lists.{dot-split}
+use Rattle.scop_syntax.proofs.Common.{◌≡◌, ℕ, zero, suc, ℤ, pos, negsuc, List, [], ◌∷◌, ◌++◌, length, drop, ap, refl}
+use Rattle.scop_syntax.proofs.Common.{sym, arith, subst, ◌+◌, ◌∙◌, ◌+ℤ◌, ◌*ℤ◌, FitsSigned, w128, ints, dot, dot-nil}
+use Rattle.scop_syntax.proofs.Common.{dot-split}
 use Rattle.loop_tree.specs.Fits.{Room, SumsFit}
 
 pub room_fits : (z : ℤ) → Room z → FitsSigned w128 z

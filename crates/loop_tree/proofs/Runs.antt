@@ -1,10 +1,7 @@
 -- What a visitor sees of a loop's values at once: so many instances, or whatever is shown.
-use Rattle.std.proofs.Common.{◌≡◌, ◌∙◌, ℕ, zero, suc, ℤ, pos, negsuc, List, [], ◌∷◌, ◌++◌, ap, sym, refl}
-use Rattle.std.proofs.Common.{arith, length, map}
-use Rattle.std.specs.Prelude.{◌+ℤ◌, ◌-ℤ◌, ◌≤ℤ◌}
-use Rattle.std.proofs.lemmas.Int.{ints}
-use Rattle.std.proofs.lemmas.List.{append_assoc, map-append}
-use Rattle.scop_syntax.specs.Walk.{Instance}
+use Rattle.scop_syntax.proofs.Common.{◌≡◌, ◌∙◌, ℕ, zero, suc, ℤ, pos, negsuc, List, [], ◌∷◌, ◌++◌, ap, sym, refl, arith}
+use Rattle.scop_syntax.proofs.Common.{length, map, ◌+ℤ◌, ◌-ℤ◌, ◌≤ℤ◌, ints, map-append, Instance}
+use Rattle.std.proofs.lemmas.List.{append_assoc}
 use Rattle.loop_tree.specs.Tree.{Trees}
 use Rattle.loop_tree.specs.Walk.{Visit, along, given, walk_all}
 use Rattle.loop_tree.specs.steps.Passing.{shown_along}

@@ -1,8 +1,6 @@
 -- Two spots at one place.
-use Rattle.std.proofs.Common.{◌≡◌, ◌++◌, ℤ, List, [], length, ap, ap₂, sym, subst, arith}
-use Rattle.std.specs.Prelude.{All}
-use Rattle.std.proofs.lemmas.List.{length-map}
-use Rattle.scop_syntax.specs.Walk.{Instance}
+use Rattle.scop_syntax.proofs.Common.{◌≡◌, ◌++◌, ℤ, List, [], length, ap, ap₂, sym, subst, arith, All, length-map}
+use Rattle.scop_syntax.proofs.Common.{Instance}
 use Rattle.loop_tree.specs.Braids.{IsBraid, left_of_braid}
 use Rattle.loop_tree.specs.Conditions.{IsHeld}
 use Rattle.loop_tree.specs.Spot.{IsAt, Mark, rest_of}

@@ -1,14 +1,12 @@
 -- The instances of a source's loop tree are those of the program's statements.
-use Rattle.std.proofs.Common.{◌≡◌, ℕ, ◌+◌, List, [], ◌∷◌, ◌++◌, map, length, ap, subst}
-use Rattle.std.proofs.Common.{sym, ◌∙◌, refl, arith, length-append}
-use Rattle.std.specs.Prelude.{slice_get, Some}
-use Rattle.std.proofs.lemmas.List.{length-map, map-append}
-use Rattle.whole_numbers.proofs.Entries.{found_front, get_behind}
-use Rattle.scop_syntax.specs.Tree.{Head, Test as Comparison, Program, Tree as Item, loop as repeated, guard as guarded}
-use Rattle.scop_syntax.specs.Tree.{statement, Trees as Items, none as nothing, more as followed}
-use Rattle.scop_syntax.specs.Statements.{Placed, in_loop_of, in_guard_of, loops_in, placed, placed_all, statements_of}
-use Rattle.scop_syntax.specs.Walk.{statements_in}
-use Rattle.scop_syntax.proofs.Statements.{length-placed}
+use Rattle.scop_syntax.proofs.Common.{◌≡◌, ℕ, ◌+◌, List, [], ◌∷◌, ◌++◌, map, length, ap, subst, sym, ◌∙◌, refl, arith}
+use Rattle.scop_syntax.proofs.Common.{length-append, slice_get, Some, length-map, map-append, get_behind, Head, Program}
+use Rattle.scop_syntax.proofs.Common.{statement, Placed, in_loop_of, in_guard_of, loops_in, placed_all, statements_of}
+use Rattle.scop_syntax.proofs.Common.{statements_in, length-placed}
+use Rattle.whole_numbers.proofs.Entries.{found_front}
+use Rattle.scop_syntax.specs.Tree.{Test as Comparison, Tree as Item, loop as repeated, guard as guarded}
+use Rattle.scop_syntax.specs.Tree.{Trees as Items, none as nothing, more as followed}
+use Rattle.scop_syntax.specs.Statements.{placed}
 use Rattle.iteration_domains.specs.Path.{Path}
 use Rattle.iteration_domains.proofs.Surroundings.{length-variables}
 use Rattle.loop_tree.specs.Shape.{TreeIsOf, TreesAreOf}

@@ -1,24 +1,17 @@
 -- The loop tree of a source is over the variables round each node, and its numbers fit for parameters within 2^16.
-use Rattle.std.proofs.Common.{◌≡◌, ℕ, zero, suc, ◌+◌, ◌*◌, ◌^◌, ◌≤◌, true, ℤ}
-use Rattle.std.proofs.Common.{pos, List, [], ◌∷◌, ◌++◌}
-use Rattle.std.proofs.Common.{map, length, ap, subst, sym, ◌∙◌, refl, arith, length-append, mul-le-mul}
-use Rattle.std.specs.Prelude.{◌≤ℤ◌, All, unsigned_abs}
-use Rattle.std.specs.Int.Signed.{le_z}
-use Rattle.std.proofs.lemmas.Int.{ints}
-use Rattle.std.proofs.lemmas.List.Elements.{All-nil, All-cons, All-head, All-tail, All-append}
-use Rattle.whole_numbers.specs.Affine.{Affine, value_of, composed}
-use Rattle.whole_numbers.proofs.Dot.{length-zeros}
+use Rattle.scop_syntax.proofs.Common.{◌≡◌, ℕ, zero, suc, ◌+◌, ◌*◌, ◌^◌, ◌≤◌, true, ℤ, pos, List, [], ◌∷◌, ◌++◌, map}
+use Rattle.scop_syntax.proofs.Common.{length, ap, subst, sym, ◌∙◌, refl, arith, length-append, mul-le-mul, ◌≤ℤ◌, All}
+use Rattle.scop_syntax.proofs.Common.{unsigned_abs, le_z, ints, All-nil, All-cons, All-head, All-tail, All-append}
+use Rattle.scop_syntax.proofs.Common.{Affine, value_of, composed, length-zeros, Head, statement, AreAtMost, IsForm}
+use Rattle.scop_syntax.proofs.Common.{IsComparison, IsHead, AreScopes, test_form, loops_in, point_of, Runs, AllHold}
+use Rattle.scop_syntax.proofs.Common.{statements_in, size, both, holds_le_z}
 use Rattle.iteration_domains.specs.Parts.{variables_of}
-use Rattle.scop_syntax.specs.Tree.{Test as Comparison, at_least as is_up, equal as is_zero, Head, Tree as Item}
-use Rattle.scop_syntax.specs.Tree.{loop as repeated, guard as guarded, statement, Trees as Items, none as nothing}
+use Rattle.scop_syntax.specs.Tree.{Test as Comparison, at_least as is_up, equal as is_zero, Tree as Item}
+use Rattle.scop_syntax.specs.Tree.{loop as repeated, guard as guarded, Trees as Items, none as nothing}
 use Rattle.scop_syntax.specs.Tree.{more as followed}
-use Rattle.scop_syntax.specs.Kernel.{AreAtMost, IsForm, IsComparison, IsHead, AreScopes, test_form}
-use Rattle.scop_syntax.specs.Statements.{loops_in, point_of, Runs, AllHold}
-use Rattle.scop_syntax.specs.Walk.{statements_in}
 use Rattle.scop_syntax.specs.Walk.{holds as comparison_holds, all_hold as comparisons_hold}
-use Rattle.scop_syntax.proofs.Limits.{size, size-joined}
+use Rattle.scop_syntax.proofs.Limits.{size-joined}
 use Rattle.scop_syntax.proofs.Limits.{turns_within as turns_small}
-use Rattle.scop_syntax.proofs.Members.{both, holds_le_z}
 use Rattle.iteration_domains.specs.Rows.{variable, variables}
 use Rattle.iteration_domains.specs.Path.{Path, CanModel}
 use Rattle.iteration_domains.specs.Sizes.{form_size}

@@ -1,26 +1,17 @@
 -- The loop tree of a source visits the source's walk; it is flat, serial, and over its variables.
-use Rattle.std.proofs.Common.{◌≡◌, ℕ, ◌+◌, Bool, true, false, ℤ, pos, List, [], ◌∷◌, ◌++◌, map, length, ap, ap₂}
-use Rattle.std.proofs.Common.{sym, ◌∙◌, refl, arith, length-append, append-nil}
-use Rattle.std.specs.Prelude.{◌+ℤ◌, ◌-ℤ◌, ◌*ℤ◌, if◌then◌else◌, unsigned_abs}
-use Rattle.std.specs.Int.Signed.{le_z}
-use Rattle.std.proofs.lemmas.Int.{ints}
-use Rattle.std.proofs.lemmas.List.{map-append, append_assoc}
-use Rattle.whole_numbers.specs.Lists.{zeros}
-use Rattle.whole_numbers.specs.Affine.{Affine, form_of, value_of, composed}
-use Rattle.whole_numbers.specs.Floor.{floor, ceiling}
-use Rattle.whole_numbers.proofs.Dot.{dot-zeros}
-use Rattle.whole_numbers.proofs.Ring.{mul_zero_right}
-use Rattle.whole_numbers.proofs.Values.{value_of-composed}
-use Rattle.scop_syntax.specs.Tree.{Test as Comparison, at_least as is_up, equal as is_zero, Head, Tree as Item}
-use Rattle.scop_syntax.specs.Tree.{loop as repeated, guard as guarded, statement, Trees as Items, none as nothing}
+use Rattle.scop_syntax.proofs.Common.{◌≡◌, ℕ, ◌+◌, Bool, true, false, ℤ, pos, List, [], ◌∷◌, ◌++◌, map, length, ap, ap₂}
+use Rattle.scop_syntax.proofs.Common.{sym, ◌∙◌, refl, arith, length-append, append-nil, ◌+ℤ◌, ◌-ℤ◌, ◌*ℤ◌, if◌then◌else◌}
+use Rattle.scop_syntax.proofs.Common.{unsigned_abs, le_z, ints, map-append, zeros, Affine, form_of, value_of, composed}
+use Rattle.scop_syntax.proofs.Common.{floor, ceiling, dot-zeros, mul_zero_right, value_of-composed, Head, statement}
+use Rattle.scop_syntax.proofs.Common.{values, loops_in, point_of, Instance, turn_point, condition_at, most_turns}
+use Rattle.scop_syntax.proofs.Common.{statements_in, condition_falls, loop_turns}
+use Rattle.std.proofs.lemmas.List.{append_assoc}
+use Rattle.scop_syntax.specs.Tree.{Test as Comparison, at_least as is_up, equal as is_zero, Tree as Item}
+use Rattle.scop_syntax.specs.Tree.{loop as repeated, guard as guarded, Trees as Items, none as nothing}
 use Rattle.scop_syntax.specs.Tree.{more as followed}
-use Rattle.scop_syntax.specs.Cells.{values}
-use Rattle.scop_syntax.specs.Statements.{loops_in, point_of}
-use Rattle.scop_syntax.specs.Walk.{Instance, Visit as Step, within, turn_point, condition_at, most_turns, statements_in}
+use Rattle.scop_syntax.specs.Walk.{Visit as Step, within}
 use Rattle.scop_syntax.specs.Walk.{holds as comparison_holds, all_hold as comparisons_hold}
 use Rattle.scop_syntax.specs.Walk.{walk as source_walk, walk_all as source_walk_all}
-use Rattle.scop_syntax.proofs.Falls.{condition_falls}
-use Rattle.scop_syntax.proofs.Loops.{loop_turns}
 use Rattle.iteration_domains.specs.Rows.{variables}
 use Rattle.iteration_domains.specs.Path.{Path, CanModel}
 use Rattle.iteration_domains.proofs.RowLaws.{values-variables, goes_on}

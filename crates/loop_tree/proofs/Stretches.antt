@@ -1,18 +1,10 @@
 -- Instances of a leaf at the values of the loop round it: each has the same steps more in its turns than the one before
 -- it. What a loop that was begun has left.
-use Rattle.std.proofs.Common.{◌≡◌, ℕ, zero, suc, ◌<◌, ◌≤◌, true, false, ℤ, pos, negsuc, List, [], ◌∷◌, ◌++◌}
-use Rattle.std.proofs.Common.{length, map, take, get_or, ap, ap₂, sym, ◌∙◌, refl, arith, append-nil}
-use Rattle.std.specs.Prelude.{◌+ℤ◌, ◌-ℤ◌, ◌≤ℤ◌, All, FitsSigned}
-use Rattle.std.specs.Int.{w64}
-use Rattle.std.specs.Int.Signed.{le_z}
-use Rattle.std.proofs.lemmas.Int.{ints}
-use Rattle.std.proofs.lemmas.List.Elements.{All-head, All-tail}
-use Rattle.whole_numbers.specs.Affine.{Affine, value_of, values_of}
-use Rattle.whole_numbers.specs.Lists.{dot, sums}
-use Rattle.whole_numbers.proofs.Ring.{mul_distrib_left, mul_one_right}
-use Rattle.scop_syntax.specs.Walk.{Instance, most_turns}
-use Rattle.scop_syntax.specs.View.{instance_of}
-use Rattle.std.proofs.lemmas.List.{length-map, length-take}
+use Rattle.scop_syntax.proofs.Common.{◌≡◌, ℕ, zero, suc, ◌<◌, ◌≤◌, true, false, ℤ, pos, negsuc, List, [], ◌∷◌, ◌++◌}
+use Rattle.scop_syntax.proofs.Common.{length, map, take, get_or, ap, ap₂, sym, ◌∙◌, refl, arith, append-nil, ◌+ℤ◌, ◌-ℤ◌}
+use Rattle.scop_syntax.proofs.Common.{◌≤ℤ◌, All, FitsSigned, w64, le_z, ints, All-head, All-tail, Affine, value_of}
+use Rattle.scop_syntax.proofs.Common.{values_of, dot, sums, mul_distrib_left, mul_one_right, Instance, most_turns}
+use Rattle.scop_syntax.proofs.Common.{instance_of, length-map, length-take}
 use Rattle.loop_tree.specs.Tree.{Trees, instance, more, none}
 use Rattle.loop_tree.specs.Walk.{along, given, walk_all}
 use Rattle.loop_tree.specs.Conditions.{CanWalk, IsHeld}

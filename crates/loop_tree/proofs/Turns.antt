@@ -1,19 +1,10 @@
 -- How many turns a source's loop has, by its condition at turn 0 and its stride; its turns as the values of a loop.
-use Rattle.std.proofs.Common.{◌≡◌, ℕ, zero, suc, ◌<◌, ℤ, pos, negsuc, List, length, ◌⊎◌, inl, inr, ap, ap₂, sym, refl}
-use Rattle.std.proofs.Common.{◌∙◌, ◌++◌, map, arith}
-use Rattle.std.specs.Prelude.{◌+◌, ◌+ℤ◌, ◌-ℤ◌, ◌*ℤ◌, ◌≤ℤ◌, ◌<ℤ◌, ◌↔◌, neg_ℤ, unsigned_abs}
-use Rattle.std.specs.List.{flat_map, range_with_len}
-use Rattle.std.proofs.lemmas.Int.{ints}
-use Rattle.std.proofs.lemmas.List.{map-append}
-use Rattle.whole_numbers.specs.Affine.{value_of}
-use Rattle.whole_numbers.specs.Floor.{floor}
-use Rattle.whole_numbers.proofs.Floors.{floor_is, floor_at_least}
-use Rattle.whole_numbers.proofs.Order.{le_or_lt}
-use Rattle.whole_numbers.proofs.Ring.{mul_assoc_int, mul_comm_int, mul_neg_left, mul_one_left, mul_zero_right}
-use Rattle.scop_syntax.specs.Tree.{Head}
-use Rattle.scop_syntax.specs.Kernel.{IsHead, own}
-use Rattle.scop_syntax.specs.Walk.{RunsFor, condition_at, most_turns}
-use Rattle.scop_syntax.proofs.Falls.{dot_last}
+use Rattle.scop_syntax.proofs.Common.{◌≡◌, ℕ, zero, suc, ◌<◌, ℤ, pos, negsuc, List, length, ◌⊎◌, inl, inr, ap, ap₂, sym}
+use Rattle.scop_syntax.proofs.Common.{refl, ◌∙◌, ◌++◌, map, arith, ◌+◌, ◌+ℤ◌, ◌-ℤ◌, ◌*ℤ◌, ◌≤ℤ◌, ◌<ℤ◌, ◌↔◌, neg_ℤ}
+use Rattle.scop_syntax.proofs.Common.{unsigned_abs, flat_map, range_with_len, ints, map-append, value_of, floor}
+use Rattle.scop_syntax.proofs.Common.{floor_is, floor_at_least, le_or_lt, mul_assoc_int, mul_comm_int, mul_neg_left}
+use Rattle.scop_syntax.proofs.Common.{mul_one_left, mul_zero_right, Head, IsHead, own, RunsFor, condition_at}
+use Rattle.scop_syntax.proofs.Common.{most_turns, dot_last}
 use Rattle.scop_syntax.proofs.Loops.{below_most}
 use Rattle.loop_tree.specs.Walk.{along}
 

@@ -1,5 +1,5 @@
 -- The trees that the code's values stand for, at each kind.
-use Rattle.std.proofs.Common.{◌≡◌, Vec, Global, map, ap, sym, ◌∙◌}
+use Rattle.scop_syntax.proofs.Common.{◌≡◌, Vec, Global, map, ap, sym, ◌∙◌}
 use Rattle.loop_tree.specs.Tree.{Tree, loop, guard, instance}
 use Rattle.loop_tree.specs.declared.tree.Node.{Node}
 use Rattle.loop_tree.specs.declared.tree.Node.TheVariants.{Loop, Guard, Instance, rolls-Loop, rolls-Guard}

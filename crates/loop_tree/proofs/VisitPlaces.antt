@@ -1,19 +1,13 @@
 -- What is to come at a place of a tree's visits, node by node and value by value.
-use Rattle.std.proofs.Common.{◌≡◌, ℕ, zero, suc, ◌+◌, ◌≤◌, ◌<◌, Bool, true, false, ℤ, pos, List, [], ◌∷◌, ◌++◌, length}
-use Rattle.std.proofs.Common.{drop, get_or, replicate, map, ap, sym, subst, ◌∙◌, refl, arith, append-nil}
-use Rattle.std.proofs.Common.{inl, inr, drop_of_length-le, take}
-use Rattle.std.specs.Prelude.{if◌then◌else◌, ◌+ℤ◌, ◌≤ℤ◌, ◌<ℤ◌, ◌⊎◌}
-use Rattle.std.specs.Int.Signed.{le_z}
-use Rattle.std.proofs.lemmas.Bool.{false≢true}
-use Rattle.std.proofs.lemmas.Int.{ints}
+use Rattle.scop_syntax.proofs.Common.{◌≡◌, ℕ, zero, suc, ◌+◌, ◌≤◌, ◌<◌, Bool, true, false, ℤ, pos, List, [], ◌∷◌, ◌++◌}
+use Rattle.scop_syntax.proofs.Common.{length, drop, get_or, replicate, map, ap, sym, subst, ◌∙◌, refl, arith}
+use Rattle.scop_syntax.proofs.Common.{append-nil, inl, inr, drop_of_length-le, take, if◌then◌else◌, ◌+ℤ◌, ◌≤ℤ◌, ◌<ℤ◌}
+use Rattle.scop_syntax.proofs.Common.{◌⊎◌, le_z, false≢true, ints, map-append, length-map, negsuc, le_or_lt, Affine}
+use Rattle.scop_syntax.proofs.Common.{values_of, Instance, most_turns}
 use Rattle.loop_tree.specs.steps.Going.{CanGo, CanTurn, HasGone, HasTurned, Leads, Within, restarted, rest_from}
-use Rattle.std.proofs.lemmas.List.{map-append, append_assoc, length-map}
+use Rattle.std.proofs.lemmas.List.{append_assoc}
 use Rattle.loop_tree.specs.SpotView.{mark_of, marks_of}
 use Rattle.loop_tree.specs.declared.spot.Mark.{Mark as CodeMark}
-use Rattle.std.proofs.Common.{negsuc}
-use Rattle.whole_numbers.proofs.Order.{le_or_lt}
-use Rattle.whole_numbers.specs.Affine.{Affine, values_of}
-use Rattle.scop_syntax.specs.Walk.{Instance, most_turns}
 use Rattle.loop_tree.specs.Tree.{Bounds, Test, Tree, Trees, guard, instance, loop, more, none}
 use Rattle.loop_tree.specs.Walk.{all_hold, walk, walk_all, given, lower, upper}
 use Rattle.loop_tree.specs.Conditions.{CanWalk}

@@ -1,12 +1,8 @@
 -- What is still to come behind marks, as it is shown: nodes from a place on, the node that was begun, a loop's values.
-use Rattle.std.proofs.Common.{◌≡◌, ◌∙◌, ℕ, zero, suc, ◌+◌, ◌<◌, Bool, true, false, ℤ, pos, List, [], ◌∷◌, ◌++◌}
-use Rattle.std.proofs.Common.{length, drop, get_or, ap, arith, append-nil, refl, subst, sym}
-use Rattle.std.specs.Prelude.{◌+ℤ◌, ◌≤ℤ◌}
-use Rattle.std.specs.Int.Signed.{le_z}
-use Rattle.std.proofs.lemmas.Bool.{false≢true}
-use Rattle.std.proofs.lemmas.Int.{ints}
+use Rattle.scop_syntax.proofs.Common.{◌≡◌, ◌∙◌, ℕ, zero, suc, ◌+◌, ◌<◌, Bool, true, false, ℤ, pos, List, [], ◌∷◌, ◌++◌}
+use Rattle.scop_syntax.proofs.Common.{length, drop, get_or, ap, arith, append-nil, refl, subst, sym, ◌+ℤ◌, ◌≤ℤ◌, le_z}
+use Rattle.scop_syntax.proofs.Common.{false≢true, ints, Instance}
 use Rattle.std.proofs.lemmas.List.{append_assoc}
-use Rattle.scop_syntax.specs.Walk.{Instance}
 use Rattle.loop_tree.specs.steps.Going.{rest_from}
 use Rattle.loop_tree.specs.Conditions.{CanWalk}
 use Rattle.loop_tree.specs.Spot.{IsAt, IsWithin, Mark, mark, rest_in, rest_of}

@@ -1,14 +1,8 @@
 -- A tree that scans a predicate visits its keys, each once, no other, in rising order.
-use Rattle.std.proofs.Common.{◌≡◌, ℕ, zero, suc, Bool, true, false, ℤ, pos, List, [], ◌∷◌, ◌++◌, map, ◌⊎◌, inl, inr}
-use Rattle.std.proofs.Common.{ap, subst, sym, refl, ◌∙◌, arith, ◌↔◌}
-use Rattle.std.specs.Prelude.{◌<ℤ◌, if◌then◌else◌}
-use Rattle.std.proofs.lemmas.Int.{ints}
-use Rattle.whole_numbers.specs.Lexicographic.{LexLess}
-use Rattle.scop_syntax.specs.Members.{In, Sorted}
-use Rattle.scop_syntax.specs.Tree.{Program}
-use Rattle.scop_syntax.specs.Walk.{Instance}
-use Rattle.scop_syntax.proofs.Members.{in_front, in_back, in_append, in_map, in_map_from, in_if, in_if_from}
-use Rattle.scop_syntax.proofs.Members.{sorted_append, sorted_map}
+use Rattle.scop_syntax.proofs.Common.{◌≡◌, ℕ, zero, suc, Bool, true, false, ℤ, pos, List, [], ◌∷◌, ◌++◌, map, ◌⊎◌, inl}
+use Rattle.scop_syntax.proofs.Common.{inr, ap, subst, sym, refl, ◌∙◌, arith, ◌↔◌, ◌<ℤ◌, if◌then◌else◌, ints, LexLess}
+use Rattle.scop_syntax.proofs.Common.{In, Sorted, Program, Instance, in_front, in_back, in_append, in_map, in_map_from}
+use Rattle.scop_syntax.proofs.Common.{in_if, in_if_from, sorted_append, sorted_map}
 use Rattle.loop_tree.specs.Tree.{Tree, loop, guard, instance, Trees, none, more}
 use Rattle.loop_tree.specs.Walk.{lower, upper, all_hold, Visit, through, walk, walk_all}
 use Rattle.loop_tree.specs.Scans.{key, Before, Spans, SpansAll, Covers, Scans, ScansAll, AreKeys, Exact}

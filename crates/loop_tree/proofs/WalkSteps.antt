@@ -1,16 +1,10 @@
 -- What stays true along nodes and along a loop's values, as they are walked.
-use Rattle.std.proofs.Common.{◌≡◌, ℕ, zero, suc, ◌+◌, ◌<◌, Bool, true, ℤ, pos, negsuc}
-use Rattle.std.proofs.Common.{List, [], ◌∷◌, ◌++◌, length, drop}
-use Rattle.std.proofs.Common.{get_or, map, ap, ap₂, subst, sym, ◌∙◌, refl, arith, append-nil, inl}
-use Rattle.std.specs.Prelude.{◌+ℤ◌, ◌-ℤ◌, ◌≤ℤ◌, ◌<ℤ◌, All, FitsSigned}
-use Rattle.std.specs.Int.{w64}
-use Rattle.std.proofs.lemmas.List.Elements.{All-head, All-tail}
-use Rattle.std.proofs.lemmas.Int.{ints}
-use Rattle.std.proofs.lemmas.List.{map-append, append_assoc}
-use Rattle.whole_numbers.specs.Affine.{Affine, value_of, values_of}
-use Rattle.scop_syntax.specs.Members.{In}
-use Rattle.scop_syntax.specs.Walk.{Instance, most_turns}
-use Rattle.scop_syntax.proofs.Members.{in_front, in_back, in_map, in_if}
+use Rattle.scop_syntax.proofs.Common.{◌≡◌, ℕ, zero, suc, ◌+◌, ◌<◌, Bool, true, ℤ, pos, negsuc, List, [], ◌∷◌, ◌++◌}
+use Rattle.scop_syntax.proofs.Common.{length, drop, get_or, map, ap, ap₂, subst, sym, ◌∙◌, refl, arith, append-nil, inl}
+use Rattle.scop_syntax.proofs.Common.{◌+ℤ◌, ◌-ℤ◌, ◌≤ℤ◌, ◌<ℤ◌, All, FitsSigned, w64, All-head, All-tail, ints}
+use Rattle.scop_syntax.proofs.Common.{map-append, Affine, value_of, values_of, In, Instance, most_turns, in_front}
+use Rattle.scop_syntax.proofs.Common.{in_back, in_map, in_if}
+use Rattle.std.proofs.lemmas.List.{append_assoc}
 use Rattle.loop_tree.specs.Tree.{Bounds, Test, Tree, loop, guard, instance, Trees, none, more}
 use Rattle.loop_tree.specs.Walk.{lower, upper, all_hold, Visit, through, along, between, walk, walk_all, given}
 use Rattle.loop_tree.specs.Fits.{FormFits, FormsFit}

@@ -1,6 +1,6 @@
 -- The weight of a tree, by which walks over nodes fall, and the nodes of a list one by one.
-use Rattle.std.proofs.Common.{◌≡◌, ℕ, zero, suc, ◌+◌, ◌≤◌, ◌<◌, List, [], ◌∷◌, length, drop, get_or, ap, sym, subst}
-use Rattle.std.proofs.Common.{◌∙◌, refl, arith, add-one, drop-cons}
+use Rattle.scop_syntax.proofs.Common.{◌≡◌, ℕ, zero, suc, ◌+◌, ◌≤◌, ◌<◌, List, [], ◌∷◌, length, drop, get_or, ap, sym}
+use Rattle.scop_syntax.proofs.Common.{subst, ◌∙◌, refl, arith, add-one, drop-cons}
 use Rattle.loop_tree.specs.Tree.{Tree, loop, guard, instance, Trees, none, more}
 use Rattle.loop_tree.specs.declared.tree.Node.{Node}
 use Rattle.loop_tree.specs.View.{tree_of, nodes_of}

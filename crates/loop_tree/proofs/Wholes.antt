@@ -1,16 +1,8 @@
 -- The loop tree of a whole program visits its walk, and can be walked for parameters within 2^16.
-use Rattle.std.proofs.Common.{◌≡◌, ◌^◌, ◌≤◌, ℤ, pos, List, []}
-use Rattle.std.proofs.Common.{length, map, subst, sym}
-use Rattle.std.proofs.Common.{◌∙◌, refl, arith}
-use Rattle.std.specs.Prelude.{◌≤ℤ◌, ◌<ℤ◌, All}
-use Rattle.scop_syntax.specs.Tree.{Program}
-use Rattle.scop_syntax.specs.Kernel.{IsKernel}
-use Rattle.scop_syntax.specs.Limits.{HasParameters}
-use Rattle.scop_syntax.specs.Members.{In}
-use Rattle.scop_syntax.specs.Statements.{Scope, Placed, Runs, loops_in, statements_of, visit_of}
-use Rattle.scop_syntax.specs.Walk.{instance, walk_of}
+use Rattle.scop_syntax.proofs.Common.{◌≡◌, ◌^◌, ◌≤◌, ℤ, pos, List, [], length, map, subst, sym, ◌∙◌, refl, arith, ◌≤ℤ◌}
+use Rattle.scop_syntax.proofs.Common.{◌<ℤ◌, All, Program, IsKernel, HasParameters, In, Scope, Placed, Runs, loops_in}
+use Rattle.scop_syntax.proofs.Common.{statements_of, visit_of, instance, walk_of, in_map, in_map_from}
 use Rattle.scop_syntax.specs.Walk.{Visit as Step}
-use Rattle.scop_syntax.proofs.Members.{in_map, in_map_from}
 use Rattle.scop_syntax.proofs.Limits.{params_size, turns_fit}
 use Rattle.iteration_domains.proofs.TreeStatements.{can_kernel}
 use Rattle.iteration_domains.specs.Path.{path_at}

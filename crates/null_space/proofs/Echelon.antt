@@ -1,15 +1,11 @@
 -- The kernel vectors are those of the reduced echelon form, and no others are.
-use Rattle.std.proofs.Common.{◌≡◌, ℕ, zero, suc, ◌<◌, ◌≤◌, ℤ, pos, negsuc, ◌-ℤ◌, ◌*ℤ◌, neg_ℤ, List, [], ◌∷◌}
-use Rattle.std.proofs.Common.{◌++◌, length, refl, sym, ◌∙◌, ap, ap₂, subst, ◌⊎◌, inl, inr, arith, All}
-use Rattle.std.specs.Prelude.{◌<ℤ◌}
-use Rattle.std.proofs.lemmas.Int.{ints}
-use Rattle.std.proofs.lemmas.List.Elements.{All-cons, All-nil, All-head, All-tail, All-weaker}
-use Rattle.whole_numbers.specs.Lists.{dot, sums, multiples}
-use Rattle.whole_numbers.specs.Content.{content, lowest}
-use Rattle.whole_numbers.proofs.Dot.{dot-sums, dot-multiples, length-sums, length-multiples}
+use Rattle.whole_numbers.proofs.Common.{◌≡◌, ℕ, zero, suc, ◌<◌, ◌≤◌, ℤ, pos, negsuc, ◌-ℤ◌, ◌*ℤ◌, neg_ℤ, List, [], ◌∷◌}
+use Rattle.whole_numbers.proofs.Common.{◌++◌, length, refl, sym, ◌∙◌, ap, ap₂, subst, ◌⊎◌, inl, inr, arith, All, ◌<ℤ◌}
+use Rattle.whole_numbers.proofs.Common.{ints, All-cons, All-nil, All-head, All-tail, All-weaker, dot, sums, multiples}
+use Rattle.whole_numbers.proofs.Common.{content, lowest, dot-sums, dot-multiples, length-sums, length-multiples}
+use Rattle.whole_numbers.proofs.Common.{lowest_stays, mul_comm_int, mul_zero_right, mul_zero_left, mul_neg_left}
 use Rattle.whole_numbers.proofs.Lists.{list_same}
-use Rattle.whole_numbers.proofs.Lowest.{lowest_is, lowest_stays, lowest_of_multiples}
-use Rattle.whole_numbers.proofs.Ring.{mul_comm_int, mul_zero_right, mul_zero_left, mul_neg_left}
+use Rattle.whole_numbers.proofs.Lowest.{lowest_is, lowest_of_multiples}
 use Rattle.null_space.specs.Narrowing.{kernel_vectors, narrowed_by}
 use Rattle.null_space.specs.Echelon.{at}
 use Rattle.null_space.specs.Echelon.{IsOrthogonal, IsFree, IsKernelVector, AreOf, IsRising, In}

@@ -1,21 +1,14 @@
 -- A vector in lowest terms along a functional: its products are those values divided by a number. One step of narrowing
 -- takes a pair of such vectors along to what their functionals leave, divided exactly.
-use Rattle.std.proofs.Common.{◌≡◌, ℕ, zero, suc, ◌*◌, ◌≤◌, ℤ, pos, negsuc, ◌+ℤ◌, ◌-ℤ◌, ◌*ℤ◌, neg_ℤ, List, []}
-use Rattle.std.proofs.Common.{◌∷◌, refl, sym, ◌∙◌, ap, ap₂, subst, arith, All, unsigned_abs}
-use Rattle.std.specs.Prelude.{◌<ℤ◌}
-use Rattle.std.proofs.lemmas.Int.{ints, unsigned_abs-mul}
-use Rattle.std.proofs.lemmas.List.Elements.{All-cons, All-nil}
-use Rattle.whole_numbers.specs.Lists.{dot, multiples}
-use Rattle.whole_numbers.specs.Divisors.{Divides}
-use Rattle.whole_numbers.specs.Content.{content, lowest}
+use Rattle.whole_numbers.proofs.Common.{◌≡◌, ℕ, zero, suc, ◌*◌, ◌≤◌, ℤ, pos, negsuc, ◌+ℤ◌, ◌-ℤ◌, ◌*ℤ◌, neg_ℤ, List, []}
+use Rattle.whole_numbers.proofs.Common.{◌∷◌, refl, sym, ◌∙◌, ap, ap₂, subst, arith, All, unsigned_abs, ◌<ℤ◌, ints}
+use Rattle.whole_numbers.proofs.Common.{unsigned_abs-mul, All-cons, All-nil, dot, multiples, Divides, content, lowest}
+use Rattle.whole_numbers.proofs.Common.{divides_sizes, multiples-one, dot-sums, dot-multiples, dot-nil, lowest_stays}
+use Rattle.whole_numbers.proofs.Common.{cancel_eq, mul_comm_int, mul_sub_left, mul_assoc_int, left_comm, mul_one_left}
+use Rattle.whole_numbers.proofs.Common.{mul_neg_left, mul_zero_right, mul_zero_left}
 use Rattle.whole_numbers.proofs.Contents.{content_of_multiples, content_greatest}
-use Rattle.whole_numbers.proofs.Divisors.{sizes_divide, divides_sizes, divides_by_sizes}
-use Rattle.whole_numbers.proofs.Lists.{multiples-one}
-use Rattle.whole_numbers.proofs.Dot.{dot-sums, dot-multiples, dot-nil}
-use Rattle.whole_numbers.proofs.Lowest.{lowest_is, lowest_stays, content_of_lowest}
-use Rattle.whole_numbers.proofs.Order.{cancel_eq}
-use Rattle.whole_numbers.proofs.Ring.{mul_comm_int, mul_sub_left, mul_assoc_int, left_comm, mul_one_left}
-use Rattle.whole_numbers.proofs.Ring.{mul_neg_left, mul_zero_right, mul_zero_left}
+use Rattle.whole_numbers.proofs.Divisors.{sizes_divide, divides_by_sizes}
+use Rattle.whole_numbers.proofs.Lowest.{lowest_is, content_of_lowest}
 use Rattle.null_space.specs.Narrowing.{made_flat, against}
 use Rattle.null_space.specs.Sizes.{IsWithin, AreWithin}
 use Rattle.null_space.proofs.Sizes.{within_factor}

@@ -1,9 +1,7 @@
 -- A vector that is orthogonal to all rows is a rational combination of the kernel vectors.
-use Rattle.std.proofs.Common.{◌≡◌, ℕ, ℤ, ◌+ℤ◌, List, [], ◌∷◌, length, sym, ◌∙◌, ap₂, subst}
-use Rattle.std.proofs.lemmas.List.Elements.{All-head, All-tail}
-use Rattle.whole_numbers.specs.Lists.{dot, multiples}
-use Rattle.whole_numbers.proofs.Dot.{dot-sums, dot-multiples, dot-zeros, length-sums, length-multiples}
-use Rattle.whole_numbers.proofs.Dot.{length-zeros}
+use Rattle.whole_numbers.proofs.Common.{◌≡◌, ℕ, ℤ, ◌+ℤ◌, List, [], ◌∷◌, length, sym, ◌∙◌, ap₂, subst, All-head}
+use Rattle.whole_numbers.proofs.Common.{All-tail, dot, multiples, dot-sums, dot-multiples, dot-zeros, length-sums}
+use Rattle.whole_numbers.proofs.Common.{length-multiples, length-zeros}
 use Rattle.whole_numbers.proofs.Lists.{same_products}
 use Rattle.null_space.specs.Narrowing.{kernel_vectors}
 use Rattle.null_space.specs.Sizes.{AreLong}

@@ -1,23 +1,12 @@
 -- The sizes of kernel vectors: with each vector that goes the others become minors of one row more, up to four rows.
-use Rattle.std.proofs.Common.{◌≡◌, ℕ, zero, suc, ◌+◌, ◌*◌, ◌<◌, ◌≤◌, ◌^◌, ℤ, pos, negsuc, ◌-ℤ◌, ◌*ℤ◌, neg_ℤ}
-use Rattle.std.proofs.Common.{Bool, true, false, List, [], ◌∷◌, map, refl, sym, ◌∙◌, ap, subst, ◌⊎◌, inl, inr}
-use Rattle.std.proofs.Common.{arith, length, All}
-use Rattle.std.specs.Prelude.{if◌then◌else◌}
-use Rattle.std.proofs.lemmas.Int.{ints}
-use Rattle.std.proofs.lemmas.List.{length-map}
+use Rattle.whole_numbers.proofs.Common.{◌≡◌, ℕ, zero, suc, ◌+◌, ◌*◌, ◌<◌, ◌≤◌, ◌^◌, ℤ, pos, negsuc, ◌-ℤ◌, ◌*ℤ◌, neg_ℤ}
+use Rattle.whole_numbers.proofs.Common.{Bool, true, false, List, [], ◌∷◌, map, refl, sym, ◌∙◌, ap, subst, ◌⊎◌, inl, inr}
+use Rattle.whole_numbers.proofs.Common.{arith, length, All, if◌then◌else◌, ints, length-map, All-cons, All-nil}
+use Rattle.whole_numbers.proofs.Common.{All-head, All-tail, All-same, All-weaker, get_or-set_same, length-set}
+use Rattle.whole_numbers.proofs.Common.{All-get_or, get_or, set, dot, multiples, zeros, Divides, divides_sizes}
+use Rattle.whole_numbers.proofs.Common.{content_divides, dot-unit, length-zeros, content, lowest, mul_one_left}
 use Rattle.std.proofs.Math.Nat.{mul-le-mul}
-use Rattle.std.proofs.lemmas.List.Elements.{All-cons, All-nil, All-head, All-tail, All-same, All-weaker}
-use Rattle.std.proofs.lemmas.List.{get_or-set_same, length-set}
-use Rattle.std.proofs.lemmas.List.Elements.{All-get_or}
 use Rattle.std.proofs.lemmas.Nat.Gcd.{le_of_dvd}
-use Rattle.std.proofs.Common.{get_or, set}
-use Rattle.whole_numbers.specs.Lists.{dot, multiples, zeros}
-use Rattle.whole_numbers.specs.Divisors.{Divides}
-use Rattle.whole_numbers.proofs.Divisors.{divides_sizes}
-use Rattle.whole_numbers.proofs.Contents.{content_divides}
-use Rattle.whole_numbers.proofs.Dot.{dot-unit, length-zeros}
-use Rattle.whole_numbers.specs.Content.{content, lowest}
-use Rattle.whole_numbers.proofs.Ring.{mul_one_left}
 use Rattle.null_space.specs.Narrowing.{is_zero, made_flat, against, narrowed_by, narrowed_all, kernel_vectors}
 use Rattle.null_space.specs.Narrowing.{units_from}
 use Rattle.null_space.specs.Echelon.{at}

@@ -1,16 +1,10 @@
 -- What loops over lists come to.
-use Rattle.std.proofs.Common.{◌≡◌, ℕ, zero, suc, ◌+◌, ◌-◌, ◌<◌, ◌≤◌, ℤ, pos, negsuc, ◌+ℤ◌, ◌*ℤ◌, neg_ℤ, List}
-use Rattle.std.proofs.Common.{[], ◌∷◌, ◌++◌, drop, take, map, set, replicate, get_or, refl, sym, ◌∙◌, ap}
-use Rattle.std.proofs.Common.{subst, arith, length, ◌^◌, Vec, Global, add-one, drop-cons, append_assoc, inl}
-use Rattle.std.proofs.Common.{inr}
-use Rattle.std.proofs.lemmas.Int.{ints}
-use Rattle.std.specs.Prelude.{◌≤ℤ◌}
-use Rattle.std.proofs.lemmas.List.{length-set, length-map, map-append, take_more}
-use Rattle.std.proofs.lemmas.List.Elements.{All-cons, All-nil, All-head, All-tail, All-same, All-weaker}
-use Rattle.std.proofs.lemmas.List.Elements.{All-map, All-get_or}
-use Rattle.whole_numbers.specs.Lists.{dot, sums, multiples, zeros}
-use Rattle.whole_numbers.specs.Content.{content}
-use Rattle.whole_numbers.proofs.Dot.{length-sums, length-multiples, length-zeros}
+use Rattle.whole_numbers.proofs.Common.{◌≡◌, ℕ, zero, suc, ◌+◌, ◌-◌, ◌<◌, ◌≤◌, ℤ, pos, negsuc, ◌+ℤ◌, ◌*ℤ◌, neg_ℤ, List}
+use Rattle.whole_numbers.proofs.Common.{[], ◌∷◌, ◌++◌, drop, take, map, set, replicate, get_or, refl, sym, ◌∙◌, ap}
+use Rattle.whole_numbers.proofs.Common.{subst, arith, length, ◌^◌, Vec, Global, add-one, drop-cons, append_assoc, inl}
+use Rattle.whole_numbers.proofs.Common.{inr, ints, ◌≤ℤ◌, length-set, length-map, map-append, take_more, All-cons}
+use Rattle.whole_numbers.proofs.Common.{All-nil, All-head, All-tail, All-same, All-weaker, All-map, All-get_or, dot}
+use Rattle.whole_numbers.proofs.Common.{sums, multiples, zeros, content, length-sums, length-multiples, length-zeros}
 use Rattle.whole_numbers.proofs.Remainders.{length-floors}
 use Rattle.null_space.specs.Narrowing.{made_flat, against, narrowed_by, narrowed_all, units_from}
 use Rattle.null_space.specs.Narrowing.{kernel_vectors, Grows}

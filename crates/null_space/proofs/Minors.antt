@@ -1,9 +1,8 @@
 -- The minors of up to four rows by Laplace's expansion along the last, and the exact divisions among them (Sylvester's
 -- identity).
-use Rattle.std.proofs.Common.{◌≡◌, ℕ, ℤ, ◌+ℤ◌, ◌-ℤ◌, ◌*ℤ◌, List, ◌∙◌, ap, arith}
-use Rattle.std.proofs.lemmas.Int.{ints}
-use Rattle.whole_numbers.proofs.Ring.{mul_comm_int, mul_distrib_left, mul_distrib_right, mul_sub_left}
-use Rattle.whole_numbers.proofs.Ring.{mul_sub_right, mul_assoc_int, left_comm}
+use Rattle.whole_numbers.proofs.Common.{◌≡◌, ℕ, ℤ, ◌+ℤ◌, ◌-ℤ◌, ◌*ℤ◌, List, ◌∙◌, ap, arith, ints, mul_comm_int}
+use Rattle.whole_numbers.proofs.Common.{mul_distrib_left, mul_distrib_right, mul_sub_left, mul_sub_right, mul_assoc_int}
+use Rattle.whole_numbers.proofs.Common.{left_comm}
 use Rattle.null_space.specs.Echelon.{at}
 
 -- of the columns (p, x) and (q, y)

@@ -1,11 +1,7 @@
 -- The kernel vectors are orthogonal to all rows.
-use Rattle.std.proofs.Common.{◌≡◌, ℕ, suc, ℤ, pos, negsuc, ◌*ℤ◌, List, [], ◌∷◌, map, ◌∙◌, ap, ap₂, inl, inr}
-use Rattle.std.proofs.Common.{arith, All}
-use Rattle.std.specs.Prelude.{◌+ℤ◌}
-use Rattle.std.proofs.lemmas.Int.{ints}
-use Rattle.std.proofs.lemmas.List.Elements.{All-nil, All-cons, All-head, All-tail, All-same}
-use Rattle.whole_numbers.specs.Lists.{dot}
-use Rattle.whole_numbers.proofs.Ring.{mul_comm_int, mul_neg_left, mul_neg_right, mul_zero_right}
+use Rattle.whole_numbers.proofs.Common.{◌≡◌, ℕ, suc, ℤ, pos, negsuc, ◌*ℤ◌, List, [], ◌∷◌, map, ◌∙◌, ap, ap₂, inl, inr}
+use Rattle.whole_numbers.proofs.Common.{arith, All, ◌+ℤ◌, ints, All-nil, All-cons, All-head, All-tail, All-same, dot}
+use Rattle.whole_numbers.proofs.Common.{mul_comm_int, mul_neg_left, mul_neg_right, mul_zero_right}
 use Rattle.null_space.specs.Narrowing.{made_flat, against, narrowed_by, narrowed_all, kernel_vectors}
 use Rattle.null_space.specs.Narrowing.{units_from}
 use Rattle.null_space.proofs.KernelSizes.{zero_of, narrowed_yes, narrowed_off}

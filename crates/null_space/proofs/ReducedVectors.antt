@@ -1,15 +1,9 @@
 -- Narrowing keeps vectors reduced: each ends at a column of its own, and those behind it are 0 there.
-use Rattle.std.proofs.Common.{◌≡◌, ℕ, zero, suc, ◌+◌, ◌<◌, ◌≤◌, false, ℤ, pos, ◌*ℤ◌, List, [], ◌∷◌, map, set}
-use Rattle.std.proofs.Common.{length, refl, sym, ◌∙◌, ap, subst, ◌⊎◌, inl, inr, arith, All}
-use Rattle.std.specs.Prelude.{◌<ℤ◌, ⊤}
-use Rattle.std.proofs.lemmas.Int.{ints}
-use Rattle.std.proofs.lemmas.List.{length-set}
-use Rattle.std.proofs.lemmas.List.Elements.{All-cons, All-nil, All-head, All-tail}
-use Rattle.whole_numbers.specs.Lists.{dot, zeros}
-use Rattle.whole_numbers.specs.Content.{content, lowest}
-use Rattle.whole_numbers.proofs.Dot.{dot-unit, dot-nil, length-zeros}
-use Rattle.whole_numbers.proofs.Order.{mul_positive, positive_factor}
-use Rattle.whole_numbers.proofs.Ring.{mul_zero_right, mul_zero_left, mul_one_right, mul_comm_int}
+use Rattle.whole_numbers.proofs.Common.{◌≡◌, ℕ, zero, suc, ◌+◌, ◌<◌, ◌≤◌, false, ℤ, pos, ◌*ℤ◌, List, [], ◌∷◌, map, set}
+use Rattle.whole_numbers.proofs.Common.{length, refl, sym, ◌∙◌, ap, subst, ◌⊎◌, inl, inr, arith, All, ◌<ℤ◌, ⊤, ints}
+use Rattle.whole_numbers.proofs.Common.{length-set, All-cons, All-nil, All-head, All-tail, dot, zeros, content, lowest}
+use Rattle.whole_numbers.proofs.Common.{dot-unit, dot-nil, length-zeros, mul_positive, positive_factor, mul_zero_right}
+use Rattle.whole_numbers.proofs.Common.{mul_zero_left, mul_one_right, mul_comm_int}
 use Rattle.null_space.specs.Narrowing.{is_zero, made_flat, against, narrowed_by, narrowed_all, kernel_vectors}
 use Rattle.null_space.specs.Narrowing.{units_from}
 use Rattle.null_space.specs.Echelon.{at}

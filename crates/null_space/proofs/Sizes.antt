@@ -1,10 +1,8 @@
 -- Sizes of sums, products, minors and dot products; how many unit vectors there are.
-use Rattle.std.proofs.Common.{◌≡◌, ℕ, zero, suc, ◌+◌, ◌*◌, ◌≤◌, ℤ, pos, negsuc, ◌+ℤ◌, ◌-ℤ◌, ◌*ℤ◌, List, [], ap}
-use Rattle.std.proofs.Common.{◌∷◌, refl, sym, subst, arith, length, unsigned_abs}
-use Rattle.std.proofs.lemmas.Int.{ints, unsigned_abs-mul}
+use Rattle.whole_numbers.proofs.Common.{◌≡◌, ℕ, zero, suc, ◌+◌, ◌*◌, ◌≤◌, ℤ, pos, negsuc, ◌+ℤ◌, ◌-ℤ◌, ◌*ℤ◌, List, []}
+use Rattle.whole_numbers.proofs.Common.{ap, ◌∷◌, refl, sym, subst, arith, length, unsigned_abs, ints, unsigned_abs-mul}
+use Rattle.whole_numbers.proofs.Common.{All-head, All-tail, All-cons, All-nil, All-weaker, dot, multiples, sums}
 use Rattle.std.proofs.Math.Nat.{mul-le-mul}
-use Rattle.std.proofs.lemmas.List.Elements.{All-head, All-tail, All-cons, All-nil, All-weaker}
-use Rattle.whole_numbers.specs.Lists.{dot, multiples, sums}
 use Rattle.null_space.specs.Echelon.{at}
 use Rattle.null_space.proofs.Minors.{minor₂, third, minor₃, minor₄}
 use Rattle.null_space.specs.Sizes.{IsWithin, AreWithin}

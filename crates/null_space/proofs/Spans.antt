@@ -1,17 +1,11 @@
 -- What is orthogonal to all rows is spanned by the kernel vectors.
-use Rattle.std.proofs.Common.{◌≡◌, ℕ, zero, suc, ◌+◌, false, ℤ, pos, negsuc, ◌*ℤ◌, neg_ℤ, List, [], ◌∷◌, map}
-use Rattle.std.proofs.Common.{refl, sym, ◌∙◌, ap, ap₂, inl, inr, arith, length, All, get_or, drop}
-use Rattle.std.specs.Prelude.{◌<ℤ◌, ◌+ℤ◌, ◌-ℤ◌, ◌≤◌}
-use Rattle.std.proofs.lemmas.Int.{ints}
-use Rattle.std.proofs.lemmas.List.Elements.{All-head, All-tail}
-use Rattle.whole_numbers.specs.Lists.{dot, multiples}
-use Rattle.whole_numbers.proofs.Dot.{dot-sums, dot-multiples, dot-nil, dot-unit}
-use Rattle.whole_numbers.proofs.Ring.{mul_distrib_left, mul_distrib_right, mul_sub_left, mul_assoc_int}
-use Rattle.whole_numbers.proofs.Ring.{mul_one_left, mul_comm_int, left_comm, mul_neg_right, mul_zero_right}
-use Rattle.whole_numbers.proofs.Ring.{mul_zero_left}
-use Rattle.whole_numbers.specs.Content.{lowest}
+use Rattle.whole_numbers.proofs.Common.{◌≡◌, ℕ, zero, suc, ◌+◌, false, ℤ, pos, negsuc, ◌*ℤ◌, neg_ℤ, List, [], ◌∷◌, map}
+use Rattle.whole_numbers.proofs.Common.{refl, sym, ◌∙◌, ap, ap₂, inl, inr, arith, length, All, get_or, drop, ◌<ℤ◌, ◌+ℤ◌}
+use Rattle.whole_numbers.proofs.Common.{◌-ℤ◌, ◌≤◌, ints, All-head, All-tail, dot, multiples, dot-sums, dot-multiples}
+use Rattle.whole_numbers.proofs.Common.{dot-nil, dot-unit, mul_distrib_left, mul_distrib_right, mul_sub_left}
+use Rattle.whole_numbers.proofs.Common.{mul_assoc_int, mul_one_left, mul_comm_int, left_comm, mul_neg_right}
+use Rattle.whole_numbers.proofs.Common.{mul_zero_right, mul_zero_left, lowest, mul_positive, le_or_lt}
 use Rattle.std.proofs.Math.Seq.{drop-nil}
-use Rattle.whole_numbers.proofs.Order.{mul_positive, le_or_lt}
 use Rattle.null_space.specs.Narrowing.{is_zero, made_flat, against, narrowed_by, narrowed_all, kernel_vectors}
 use Rattle.null_space.specs.Narrowing.{units_from}
 use Rattle.null_space.proofs.KernelSizes.{zero_of, narrowed_yes, narrowed_off}

@@ -1,6 +1,6 @@
 -- Lists made from others, entry by entry: a copy more, an entry more.
-use Rattle.std.proofs.Common.{◌≡◌, ℕ, ◌+◌, ◌<◌, List, [], ◌∷◌, ◌++◌, length, get_or, take, map, refl, sym, ap, ◌∙◌}
-use Rattle.std.proofs.lemmas.List.{take_more, map-append}
+use Rattle.whole_numbers.proofs.Common.{◌≡◌, ℕ, ◌+◌, ◌<◌, List, [], ◌∷◌, ◌++◌, length, get_or, take, map, refl, sym, ap}
+use Rattle.whole_numbers.proofs.Common.{◌∙◌, take_more, map-append}
 
 -- a copy more
 pub copied_more : {A : Type 0} (xs : List A) (k : ℕ) (x : A) (all new : List A) → k < length xs → x ≡ get_or xs k x

@@ -1,13 +1,9 @@
 -- A decision of emptiness is the run's.
-use Rattle.std.proofs.Common.{◌≡◌, ℕ, Bool, not, List, ◌++◌, length, refl, subst, ap, sym, ◌∙◌}
-use Rattle.std.proofs.Common.{arith, inl, inr}
+use Rattle.whole_numbers.proofs.Common.{◌≡◌, ℕ, Bool, not, List, ◌++◌, length, refl, subst, ap, sym, ◌∙◌, arith, inl}
+use Rattle.whole_numbers.proofs.Common.{inr, Result, Ok, Err, All, zeros, length-zeros, Affine}
 use Rattle.std.proofs.lemmas.List.{append-nil}
-use Rattle.std.specs.Prelude.{Result, Ok, Err, All}
 use Rattle.wide_math.specs.declared.Wide.{Wide}
 use Rattle.wide_math.specs.Checked.{◌>>=◌}
-use Rattle.whole_numbers.specs.Lists.{zeros}
-use Rattle.whole_numbers.proofs.Dot.{length-zeros}
-use Rattle.whole_numbers.specs.Affine.{Affine}
 use Rattle.integer_sets.specs.Constraints.{Constraints, IsSized, variables_in}
 use Rattle.tableau_rows.specs.Problem.{problem_of, Speaks}
 use Rattle.tableau_rows.specs.Run.{point, none, wide, Outcome, question}

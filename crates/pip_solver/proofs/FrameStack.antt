@@ -1,9 +1,6 @@
 -- Frames that are put on and taken off, the innermost last in the code's stack.
-use Rattle.std.proofs.Common.{◌≡◌, ℕ, suc, ℤ, List, [], ◌∷◌, ◌++◌, length, drop, reverse, refl, subst, ap, sym, ◌∙◌}
-use Rattle.std.proofs.Common.{arith}
-use Rattle.std.specs.Prelude.{Result, Ok, Err, OnOk}
-use Rattle.std.proofs.lemmas.List.{reverse-append}
-use Rattle.whole_numbers.specs.Affine.{Affine}
+use Rattle.whole_numbers.proofs.Common.{◌≡◌, ℕ, suc, ℤ, List, [], ◌∷◌, ◌++◌, length, drop, reverse, refl, subst, ap}
+use Rattle.whole_numbers.proofs.Common.{sym, ◌∙◌, arith, Result, Ok, Err, OnOk, reverse-append, Affine}
 use Rattle.quast_trees.specs.Tree.{Tree, leaf, bind, branch}
 use Rattle.quast_trees.specs.Source.{unnamed}
 use Rattle.quast_trees.specs.Postfix.{top, branched, bound}

@@ -1,7 +1,6 @@
 -- A step of a node under frames.
-use Rattle.std.proofs.Common.{◌≡◌, ℕ, suc, ◌+◌, ◌<◌, List, ◌∷◌, ◌++◌, length, drop, reverse, refl, subst, ap, sym, ◌∙◌}
-use Rattle.std.proofs.Common.{arith}
-use Rattle.std.specs.Prelude.{Ok, Err}
+use Rattle.whole_numbers.proofs.Common.{◌≡◌, ℕ, suc, ◌+◌, ◌<◌, List, ◌∷◌, ◌++◌, length, drop, reverse, refl, subst, ap}
+use Rattle.whole_numbers.proofs.Common.{sym, ◌∙◌, arith, Ok, Err}
 use Rattle.std.proofs.lemmas.List.{append-nil}
 use Rattle.quast_trees.specs.Tree.{Tree, initial}
 use Rattle.quast_trees.specs.Postfix.{top}

@@ -1,12 +1,8 @@
 -- The point of a tree that is one leaf.
-use Rattle.std.proofs.Common.{◌≡◌, ℕ, ◌+◌, ℤ, ◌+ℤ◌, List, [], ◌∷◌, map, refl, subst, ap₂, arith}
-use Rattle.std.specs.Prelude.{Option, Some, None, Ok, Vec}
+use Rattle.whole_numbers.proofs.Common.{◌≡◌, ℕ, ◌+◌, ℤ, ◌+ℤ◌, List, [], ◌∷◌, map, refl, subst, ap₂, arith, Option, Some}
+use Rattle.whole_numbers.proofs.Common.{None, Ok, Vec, ints, Affine, values_of, dot, dot-nil}
 use Rattle.std.specs.declared.alloc.Global.{Global}
 use Rattle.std.specs.Option.{ForSome, IfNone}
-use Rattle.std.proofs.lemmas.Int.{ints}
-use Rattle.whole_numbers.specs.Affine.{Affine, values_of}
-use Rattle.whole_numbers.specs.Lists.{dot}
-use Rattle.whole_numbers.proofs.Dot.{dot-nil}
 use Rattle.tableau_rows.specs.Problem.{Problem, IsLexmin, IsEmpty, Speaks, problem_of}
 use Rattle.checked_tableau.specs.declared.problem.Problem.{Problem as Posed}
 use Rattle.quast_trees.specs.Tree.{Tree}

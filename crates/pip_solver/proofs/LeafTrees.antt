@@ -1,8 +1,7 @@
 -- A row's part, and a leaf's form, read off a row's line.
-use Rattle.std.proofs.Common.{◌≡◌, ℕ, suc, ◌+◌, ◌<◌, ℤ, pos, List, ◌∷◌, length, get_or, drop, map, subst, ap, ap₂, sym}
-use Rattle.std.proofs.Common.{◌∙◌, arith, drop-drop, drop-cons}
-use Rattle.whole_numbers.specs.Floor.{floor}
-use Rattle.whole_numbers.specs.Affine.{form_of}
+use Rattle.whole_numbers.proofs.Common.{◌≡◌, ℕ, suc, ◌+◌, ◌<◌, ℤ, pos, List, ◌∷◌, length, get_or, drop, map, subst, ap}
+use Rattle.whole_numbers.proofs.Common.{ap₂, sym, ◌∙◌, arith, drop-cons, floor, form_of}
+use Rattle.std.proofs.Common.{drop-drop}
 use Rattle.tableau_rows.specs.Rows.{Row, entry}
 use Rattle.tableau_rows.specs.Moves.{line_row}
 use Rattle.checked_tableau.specs.Nodes.{all_divided, divided, part_of}

@@ -1,16 +1,11 @@
 -- What is read off a row's line: its part, and what a cut takes off.
-use Rattle.std.proofs.Common.{◌≡◌, ℕ, zero, suc, ◌+◌, ◌<◌, ◌≤◌, ℤ, pos, neg_ℤ, ◌-ℤ◌, ◌<ℤ◌, ◌⊎◌, inl, inr, Bool, true}
-use Rattle.std.proofs.Common.{false, List, [], ◌∷◌, length, get_or, drop, map, refl, subst, ap, ap₂, sym, ◌∙◌, arith}
+use Rattle.whole_numbers.proofs.Common.{◌≡◌, ℕ, zero, suc, ◌+◌, ◌<◌, ◌≤◌, ℤ, pos, neg_ℤ, ◌-ℤ◌, ◌<ℤ◌, ◌⊎◌, inl, inr}
+use Rattle.whole_numbers.proofs.Common.{Bool, true, false, List, [], ◌∷◌, length, get_or, drop, map, refl, subst, ap}
+use Rattle.whole_numbers.proofs.Common.{ap₂, sym, ◌∙◌, arith, ints, if◌then◌else◌, drop-map, length-drop, floor}
+use Rattle.whole_numbers.proofs.Common.{remainder, form_of, mul_sub_left, mul_neg_right, mul_one_right, remainder_is}
 use Rattle.std.proofs.Common.{drop-drop}
-use Rattle.std.proofs.lemmas.Int.{ints}
-use Rattle.std.specs.Prelude.{if◌then◌else◌}
-use Rattle.std.proofs.lemmas.List.{drop-map, length-drop}
 use Rattle.std.proofs.Math.ListN.{drop_of_length-le}
-use Rattle.whole_numbers.specs.Floor.{floor, remainder}
-use Rattle.whole_numbers.specs.Affine.{form_of}
-use Rattle.whole_numbers.proofs.Ring.{mul_sub_left, mul_neg_right, mul_one_right}
 use Rattle.whole_numbers.proofs.Euclid.{euclid_unique}
-use Rattle.whole_numbers.proofs.Remainders.{remainder_is}
 use Rattle.checked_tableau.specs.Rows.{Row}
 use Rattle.checked_tableau.specs.Moves.{line_row, cut_entries}
 use Rattle.checked_tableau.specs.Nodes.{all_zero, same_list, taken_off}

@@ -1,9 +1,8 @@
 -- The moves of a node, from those of its rows.
-use Rattle.std.proofs.Common.{◌≡◌, ℕ, ◌+◌, ◌<◌, ℤ, [], ◌∷◌, ◌++◌, length, map, refl, subst, ap, ◌∙◌}
-use Rattle.std.specs.Prelude.{Some, None, Result, Ok, Err, IfOk, OnOk}
+use Rattle.whole_numbers.proofs.Common.{◌≡◌, ℕ, ◌+◌, ◌<◌, ℤ, [], ◌∷◌, ◌++◌, length, map, refl, subst, ap, ◌∙◌, Some}
+use Rattle.whole_numbers.proofs.Common.{None, Result, Ok, Err, IfOk, OnOk, Affine}
 use Rattle.wide_math.specs.declared.Wide.{Wide}
 use Rattle.wide_math.specs.Checked.{◌>>=◌}
-use Rattle.whole_numbers.specs.Affine.{Affine}
 use Rattle.checked_tableau.specs.Rows.{Row}
 use Rattle.checked_tableau.specs.Moves.{cut_run, row_at}
 use Rattle.checked_tableau.specs.Lines.{behind_columns}

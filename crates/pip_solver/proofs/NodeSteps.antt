@@ -1,6 +1,5 @@
 -- A step of a node, from the calls that it makes.
-use Rattle.std.proofs.Common.{◌≡◌, ℕ, true, false, refl, subst, sym}
-use Rattle.std.specs.Prelude.{Result, Ok, if◌then◌else◌}
+use Rattle.whole_numbers.proofs.Common.{◌≡◌, ℕ, true, false, refl, subst, sym, Result, Ok, if◌then◌else◌}
 use Rattle.quast_trees.specs.Tree.{initial}
 use Rattle.checked_tableau.specs.Nodes.{Node, Next, Counted, ends, chained, context_holds, looked, step}
 use Rattle.pip_solver.specs.declared.node.Tableau.{Tableau}

@@ -1,7 +1,6 @@
 -- A loop over a part's numbers: whether a divisor divides each.
-use Rattle.std.proofs.Common.{◌≡◌, ℕ, zero, suc, ◌+◌, ◌<◌, ℤ, pos, negsuc, false, List}
-use Rattle.std.proofs.Common.{length, drop, get_or, drop-cons, refl, sym, ◌∙◌, add-one}
-use Rattle.whole_numbers.specs.Floor.{remainder}
+use Rattle.whole_numbers.proofs.Common.{◌≡◌, ℕ, zero, suc, ◌+◌, ◌<◌, ℤ, pos, negsuc, false, List, length, drop, get_or}
+use Rattle.whole_numbers.proofs.Common.{drop-cons, refl, sym, ◌∙◌, add-one, remainder}
 use Rattle.checked_tableau.specs.Nodes.{all_divided, is_zero}
 
 pub divided-more : (d : ℤ) (xs : List ℤ) (k : ℕ) (r : ℤ) → k < length xs → r ≡ remainder (get_or xs k (pos 0)) d

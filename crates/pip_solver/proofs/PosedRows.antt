@@ -1,13 +1,9 @@
 -- The rows of equalities and of bounds, form by form.
-use Rattle.std.proofs.Common.{◌≡◌, ℕ, suc, ◌+◌, ℤ, pos, List, [], ◌∷◌, ◌++◌, set, take, drop, refl, sym, subst, ap}
-use Rattle.std.proofs.Common.{◌∙◌, add-one}
-use Rattle.std.proofs.Common.{append_assoc}
-use Rattle.std.specs.Prelude.{Result, Ok, Err, negsuc}
-use Rattle.std.proofs.lemmas.List.{take-append-drop}
+use Rattle.whole_numbers.proofs.Common.{◌≡◌, ℕ, suc, ◌+◌, ℤ, pos, List, [], ◌∷◌, ◌++◌, set, take, drop, refl, sym}
+use Rattle.whole_numbers.proofs.Common.{subst, ap, ◌∙◌, add-one, append_assoc, Result, Ok, Err, negsuc}
+use Rattle.whole_numbers.proofs.Common.{take-append-drop, Affine, form_of, zeros}
 use Rattle.wide_math.specs.declared.Wide.{Wide}
 use Rattle.wide_math.specs.Checked.{difference_of, ◌>>=◌}
-use Rattle.whole_numbers.specs.Affine.{Affine, form_of}
-use Rattle.whole_numbers.specs.Lists.{zeros}
 use Rattle.affine_forms.specs.Runs.{map_run}
 use Rattle.checked_tableau.specs.Nodes.{opposites_run}
 use Rattle.checked_tableau.specs.Emptiness.{negated_run, equality_rows_run, bound_rows}

@@ -1,6 +1,5 @@
 -- A problem's run, from that of its first node.
-use Rattle.std.proofs.Common.{◌≡◌, ℕ, ◌+◌, length, refl, subst, ap, sym, ◌∙◌}
-use Rattle.std.specs.Prelude.{All, Ok}
+use Rattle.whole_numbers.proofs.Common.{◌≡◌, ℕ, ◌+◌, length, refl, subst, ap, sym, ◌∙◌, All, Ok}
 use Rattle.tableau_rows.specs.Problem.{problem_of, Speaks}
 use Rattle.quast_trees.specs.Tree.{Tree, Speaks as TreeSpeaks}
 use Rattle.checked_tableau.specs.Nodes.{Node, whole, first_node, lexmin_run}

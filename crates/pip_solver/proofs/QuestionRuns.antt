@@ -1,6 +1,6 @@
 -- A question's run, step by step.
-use Rattle.std.proofs.Common.{◌≡◌, ℕ, zero, suc, ◌<◌, true, false, List, [], ◌∷◌, ◌++◌, take, refl, ap, ◌∙◌, arith}
-use Rattle.std.specs.Prelude.{Option, Some, None, Result, Ok, Err}
+use Rattle.whole_numbers.proofs.Common.{◌≡◌, ℕ, zero, suc, ◌<◌, true, false, List, [], ◌∷◌, ◌++◌, take, refl, ap, ◌∙◌}
+use Rattle.whole_numbers.proofs.Common.{arith, Option, Some, None, Result, Ok, Err}
 use Rattle.wide_math.specs.declared.Wide.{Wide}
 use Rattle.wide_math.specs.Checked.{◌>>=◌}
 use Rattle.tableau_rows.specs.Rows.{Row}

@@ -1,16 +1,11 @@
 -- The questions of a node, as the code asks them; the first row of which a counted question's answer is yes
 -- (`asked-yes`, `asked-more`, `asked-stops`).
-use Rattle.std.proofs.Common.{◌≡◌, ℕ, zero, suc, ◌+◌, ◌<◌, ℤ, pos, negsuc, Bool, true, false, List, []}
-use Rattle.std.proofs.Common.{length, drop, refl}
-use Rattle.std.proofs.Common.{◌∷◌, ◌++◌, append_assoc, subst, ap, sym, ◌∙◌, arith, add-one, drop-cons}
-use Rattle.std.specs.Prelude.{Option, Result, Some, Ok, Err, T, not, if◌then◌else◌}
+use Rattle.whole_numbers.proofs.Common.{◌≡◌, ℕ, zero, suc, ◌+◌, ◌<◌, ℤ, pos, negsuc, Bool, true, false, List, []}
+use Rattle.whole_numbers.proofs.Common.{length, drop, refl, ◌∷◌, ◌++◌, append_assoc, subst, ap, sym, ◌∙◌, arith}
+use Rattle.whole_numbers.proofs.Common.{add-one, drop-cons, Option, Result, Some, Ok, Err, T, not, if◌then◌else◌, zeros}
+use Rattle.whole_numbers.proofs.Common.{length-zeros, ints, Affine, remainder}
 use Rattle.wide_math.specs.declared.Wide.{Wide}
-use Rattle.whole_numbers.specs.Lists.{zeros}
-use Rattle.whole_numbers.proofs.Dot.{length-zeros}
 use Rattle.std.specs.Int.Signed.{lt_z, lt_z_no}
-use Rattle.std.proofs.lemmas.Int.{ints}
-use Rattle.whole_numbers.specs.Affine.{Affine}
-use Rattle.whole_numbers.specs.Floor.{remainder}
 use Rattle.tableau_rows.specs.Rows.{Row, row_of}
 use Rattle.tableau_rows.specs.Moves.{row_at, is_positive}
 use Rattle.tableau_rows.specs.Problem.{problem_of, first_rows}

@@ -1,14 +1,10 @@
 -- The least point of the problem that a system poses is the system's.
-use Rattle.std.proofs.Common.{◌≡◌, ℕ, ◌+◌, ℤ, pos, List, [], refl, sym, ◌∙◌, ap, subst, inl, inr, arith, length}
-use Rattle.std.proofs.Common.{None, Some}
-use Rattle.std.specs.Prelude.{◌≤ℤ◌, Option, Vec, Result, Ok, Err, IfOk}
+use Rattle.whole_numbers.proofs.Common.{◌≡◌, ℕ, ◌+◌, ℤ, pos, List, [], refl, sym, ◌∙◌, ap, subst, inl, inr, arith}
+use Rattle.whole_numbers.proofs.Common.{length, None, Some, ◌≤ℤ◌, Option, Vec, Result, Ok, Err, IfOk, All-nil, Affine}
+use Rattle.whole_numbers.proofs.Common.{NotNegative, not_negative_all}
 use Rattle.std.specs.Option.{ForSome, IfNone}
 use Rattle.std.specs.Global.{Global}
 use Rattle.std.proofs.lemmas.List.{append-nil}
-use Rattle.std.proofs.lemmas.List.Elements.{All-nil}
-use Rattle.whole_numbers.specs.Affine.{Affine}
-use Rattle.whole_numbers.specs.Lists.{NotNegative}
-use Rattle.whole_numbers.proofs.Lists.{not_negative_all}
 use Rattle.integer_sets.specs.Constraints.{Constraints, IsSized, variables_in}
 use Rattle.integer_sets.specs.Points.{Satisfies}
 use Rattle.tableau_rows.specs.Problem.{problem_of, IsPoint, IsLexmin, IsEmpty}

@@ -1,11 +1,7 @@
 -- Rows appended to rows.
-use Rattle.std.proofs.Common.{length-append, ◌+◌}
-use Rattle.std.proofs.Common.{◌≡◌, ℕ, zero, suc, ◌-◌, ◌<◌, ℤ, pos, negsuc, List, [], ◌∷◌, ◌++◌, length, get_or}
-use Rattle.std.proofs.Common.{refl, ap, subst, sym, ◌∙◌, All, arith}
-use Rattle.std.specs.Prelude.{◌≤◌, ◌^◌, ◌≤ℤ◌, Some, unsigned_abs}
-use Rattle.std.proofs.lemmas.Int.{ints}
-use Rattle.whole_numbers.specs.Affine.{Affine, value_of, multiple_of_form}
-use Rattle.whole_numbers.proofs.Dot.{length-multiples}
+use Rattle.scop_syntax.proofs.Common.{length-append, ◌+◌, ◌≡◌, ℕ, zero, suc, ◌-◌, ◌<◌, ℤ, pos, negsuc, List, [], ◌∷◌}
+use Rattle.scop_syntax.proofs.Common.{◌++◌, length, get_or, refl, ap, subst, sym, ◌∙◌, All, arith, ◌≤◌, ◌^◌, ◌≤ℤ◌, Some}
+use Rattle.scop_syntax.proofs.Common.{unsigned_abs, ints, Affine, value_of, multiple_of_form, length-multiples}
 use Rattle.affine_forms.specs.Parts.{variables_of}
 use Rattle.integer_sets.specs.Constraints.{Constraints, variables_in}
 use Rattle.integer_sets.specs.Points.{Satisfies}

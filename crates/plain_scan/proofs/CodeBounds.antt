@@ -1,12 +1,8 @@
 -- Bounds, tests and leaves as code makes them.
-use Rattle.std.proofs.Common.{◌≡◌, ℕ, zero, suc, ◌+◌, ◌-◌, ◌<◌, ℤ, pos, negsuc, List, [], ◌∷◌, ◌++◌, ◌≤◌, length}
-use Rattle.std.proofs.Common.{get_or, map, take, refl, ap, ap₂, subst, sym, ◌∙◌, arith}
-use Rattle.std.proofs.lemmas.List.{map-append}
-use Rattle.std.specs.Prelude.{neg_ℤ, ◌*ℤ◌}
-use Rattle.std.proofs.lemmas.Int.{ints}
-use Rattle.whole_numbers.specs.Lists.{multiples}
-use Rattle.whole_numbers.specs.Affine.{Affine, form_of, multiple_of_form}
-use Rattle.whole_numbers.proofs.Ring.{mul_one_left, mul_neg_left}
+use Rattle.scop_syntax.proofs.Common.{◌≡◌, ℕ, zero, suc, ◌+◌, ◌-◌, ◌<◌, ℤ, pos, negsuc, List, [], ◌∷◌, ◌++◌, ◌≤◌}
+use Rattle.scop_syntax.proofs.Common.{length, get_or, map, take, refl, ap, ap₂, subst, sym, ◌∙◌, arith, map-append}
+use Rattle.scop_syntax.proofs.Common.{neg_ℤ, ◌*ℤ◌, ints, multiples, Affine, form_of, multiple_of_form, mul_one_left}
+use Rattle.scop_syntax.proofs.Common.{mul_neg_left}
 use Rattle.fractions.specs.Elimination.{coefficient_of}
 use Rattle.loop_tree.specs.Tree.{Bound, besides, bounds_of, Test, at_least, equal, Tree, guard, more, none}
 use Rattle.loop_tree.specs.View.{trees_of}

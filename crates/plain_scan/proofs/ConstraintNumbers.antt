@@ -1,11 +1,7 @@
 -- What the numbers of a system's one variable tell, constraint by constraint.
-use Rattle.std.proofs.Common.{◌≡◌, ℕ, ◌<◌, ℤ, List, length, get_or, take, inl, inr, subst, sym, All}
-use Rattle.std.specs.Prelude.{◌⊎◌, IfSome, None, Option, Some}
-use Rattle.std.proofs.lemmas.List.Elements.{All-nil}
-use Rattle.whole_numbers.specs.Affine.{Affine}
+use Rattle.scop_syntax.proofs.Common.{◌≡◌, ℕ, ◌<◌, ℤ, List, length, get_or, take, inl, inr, subst, sym, All, ◌⊎◌}
+use Rattle.scop_syntax.proofs.Common.{IfSome, None, Option, Some, All-nil, Affine, In, member_at}
 use Rattle.integer_sets.specs.Constraints.{Constraints}
-use Rattle.scop_syntax.specs.Members.{In}
-use Rattle.scop_syntax.proofs.Members.{member_at}
 use Rattle.plain_scan.specs.Between.{IsLargeIn, IsLargeOf}
 use Rattle.plain_scan.proofs.CodeBounds.{take_none}
 

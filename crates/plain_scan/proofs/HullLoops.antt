@@ -1,14 +1,9 @@
 -- A hull's loop serves its sets one dimension further out; leaves under all their constraints serve them behind the
 -- last.
-use Rattle.std.proofs.Common.{◌≡◌, ℕ, zero, suc, ◌+◌, ◌-◌, ◌<◌, Bool, ℤ, pos, negsuc, List, [], ◌∷◌, ◌++◌, length}
-use Rattle.std.proofs.Common.{get_or, map, inl, inr, refl, ap, subst, sym, ◌∙◌, All, arith}
-use Rattle.std.specs.Prelude.{◌≤◌, ◌≤ℤ◌, ◌<ℤ◌}
-use Rattle.std.proofs.lemmas.Int.{ints}
-use Rattle.std.proofs.lemmas.List.{get_or-set_same}
-use Rattle.std.proofs.lemmas.List.Elements.{All-cons, All-head, All-nil, All-tail}
-use Rattle.whole_numbers.specs.Lists.{zeros}
-use Rattle.whole_numbers.specs.Affine.{Affine, value_of}
-use Rattle.whole_numbers.proofs.Dot.{length-zeros}
+use Rattle.scop_syntax.proofs.Common.{◌≡◌, ℕ, zero, suc, ◌+◌, ◌-◌, ◌<◌, Bool, ℤ, pos, negsuc, List, [], ◌∷◌, ◌++◌}
+use Rattle.scop_syntax.proofs.Common.{length, get_or, map, inl, inr, refl, ap, subst, sym, ◌∙◌, All, arith, ◌≤◌, ◌≤ℤ◌}
+use Rattle.scop_syntax.proofs.Common.{◌<ℤ◌, ints, get_or-set_same, All-cons, All-head, All-nil, All-tail, zeros, Affine}
+use Rattle.scop_syntax.proofs.Common.{value_of, length-zeros, option_eq, eqb, Option, Some}
 use Rattle.fractions.specs.Elimination.{coefficient_of}
 use Rattle.fm_projection.specs.Alone.{place_form}
 use Rattle.fm_projection.proofs.WholePoints.{one_more}
@@ -23,8 +18,6 @@ use Rattle.plain_scan.specs.Pieces.{Piece, loops_of, AreEnough}
 use Rattle.plain_scan.specs.Sorting.{lows_in, highs_in}
 use Rattle.plain_scan.specs.Hulls.{flags, HoldsAt, IsAlike, IsHull, IsHullRow, AreHullRows, sets_in}
 use Rattle.plain_scan.specs.Hulls.{hull_piece, own_leaf}
-use Rattle.std.specs.Option.{option_eq}
-use Rattle.std.specs.Prelude.{eqb, Option, Some}
 use Rattle.loop_tree.specs.Marks.{FlatAll, MarksAll}
 use Rattle.plain_scan.proofs.Shape.{flat_lows, flat_highs}
 use Rattle.plain_scan.proofs.ConstraintLists.{zeros_of, of_zeros, rows_of, of_rows}

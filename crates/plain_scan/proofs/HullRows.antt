@@ -1,19 +1,13 @@
 -- Rows that hold at each of several sets.
-use Rattle.std.proofs.Common.{◌≡◌, ℕ, zero, suc, ◌+◌, ◌<◌, ℤ, pos, negsuc, List, [], ◌∷◌, ◌++◌, length, get_or, refl}
-use Rattle.std.proofs.Common.{ap, subst, sym, ◌∙◌, All, arith}
-use Rattle.std.specs.Prelude.{neg_ℤ, ◌+ℤ◌, ◌*ℤ◌, ◌≤ℤ◌}
+use Rattle.scop_syntax.proofs.Common.{◌≡◌, ℕ, zero, suc, ◌+◌, ◌<◌, ℤ, pos, negsuc, List, [], ◌∷◌, ◌++◌, length, get_or}
+use Rattle.scop_syntax.proofs.Common.{refl, ap, subst, sym, ◌∙◌, All, arith, neg_ℤ, ◌+ℤ◌, ◌*ℤ◌, ◌≤ℤ◌, zeros}
+use Rattle.scop_syntax.proofs.Common.{length-zeros, get_or-append_seam, mul_one_left, mul_neg_left, ints, All-append}
+use Rattle.scop_syntax.proofs.Common.{All-cons, All-nil, Affine, value_of, form_of, ◌≤◌, ◌^◌, unsigned_abs}
 use Rattle.std.proofs.Math.ListN.{length-set}
-use Rattle.whole_numbers.specs.Lists.{zeros}
-use Rattle.whole_numbers.proofs.Dot.{length-zeros}
 use Rattle.affine_forms.specs.Parts.{variables_of}
-use Rattle.std.proofs.Math.Seq.{get_or-append_seam}
-use Rattle.whole_numbers.proofs.Ring.{mul_one_left, mul_neg_left}
 use Rattle.fm_projection.proofs.WholePoints.{one_more}
 use Rattle.fm_projection.proofs.Ranges.{place_value}
 use Rattle.fm_projection.specs.Alone.{AreInRange}
-use Rattle.std.proofs.lemmas.Int.{ints}
-use Rattle.std.proofs.lemmas.List.Elements.{All-append, All-cons, All-nil}
-use Rattle.whole_numbers.specs.Affine.{Affine, value_of, form_of}
 use Rattle.integer_sets.specs.Scanned.{Scanned}
 use Rattle.fm_projection.specs.Alone.{place_form}
 use Rattle.plain_scan.specs.Between.{HasSmallNumbers}
@@ -24,7 +18,6 @@ use Rattle.plain_scan.specs.Outlines.{IsRowBefore, IsShadowOf}
 use Rattle.plain_scan.specs.Hulls.{Hold, HoldsAt, IsAlike, IsHullRow, AreHullRows, IsHull}
 use Rattle.plain_scan.proofs.Rows.{weaker_row}
 use Rattle.plain_scan.proofs.Smallness.{place_has_small}
-use Rattle.std.specs.Prelude.{◌≤◌, ◌^◌, unsigned_abs}
 
 pub weaker : (depth : ℕ) (cs : List ℤ) (c d : ℤ) (o : Outline) → c ≤ℤ d → HoldsAt depth (form_of cs c) o
     → HoldsAt depth (form_of cs d) o

@@ -1,13 +1,9 @@
 -- What a scanner has to know at each node.
-use Rattle.std.proofs.Common.{◌≡◌, ℕ, zero, suc, Bool, true, false, ℤ, pos, List, [], ◌∷◌, ◌++◌, length, inl}
-use Rattle.std.proofs.Common.{inr, ap, subst, sym, refl, ◌∙◌, arith}
-use Rattle.std.specs.Prelude.{◌<ℤ◌, if◌then◌else◌}
-use Rattle.std.specs.Int.Signed.{le_z}
-use Rattle.std.proofs.lemmas.Int.{ints}
+use Rattle.scop_syntax.proofs.Common.{◌≡◌, ℕ, zero, suc, Bool, true, false, ℤ, pos, List, [], ◌∷◌, ◌++◌, length, inl}
+use Rattle.scop_syntax.proofs.Common.{inr, ap, subst, sym, refl, ◌∙◌, arith, ◌<ℤ◌, if◌then◌else◌, le_z, ints, Affine}
+use Rattle.scop_syntax.proofs.Common.{value_of, both, le_z_holds, holds_le_z}
 use Rattle.fm_projection.proofs.WholePoints.{one_more}
-use Rattle.whole_numbers.specs.Affine.{Affine, value_of}
 use Rattle.whole_numbers.proofs.Tests.{if_both}
-use Rattle.scop_syntax.proofs.Members.{both, le_z_holds, holds_le_z}
 use Rattle.integer_sets.specs.Points.{Satisfies}
 use Rattle.loop_tree.specs.Tree.{Bounds, Test, equal, Tree, loop, guard, instance, Trees, none, more}
 use Rattle.loop_tree.specs.Walk.{holds, all_hold, walk_all}

@@ -1,8 +1,7 @@
 -- Sets left out: what is left has the keys, and keeps what holds of all.
-use Rattle.std.proofs.Common.{◌≡◌, ℕ, ◌<◌, ℤ, List, [], ◌∷◌, ◌++◌, inl, inr, sym, refl, subst, All}
-use Rattle.std.proofs.lemmas.List.Elements.{All-cons, All-head, All-nil, All-tail}
+use Rattle.scop_syntax.proofs.Common.{◌≡◌, ℕ, ◌<◌, ℤ, List, [], ◌∷◌, ◌++◌, inl, inr, sym, refl, subst, All, All-cons}
+use Rattle.scop_syntax.proofs.Common.{All-head, All-nil, All-tail, In}
 use Rattle.integer_sets.specs.Scanned.{Scanned}
-use Rattle.scop_syntax.specs.Members.{In}
 use Rattle.fm_projection.specs.Alone.{AreInRange}
 use Rattle.plain_scan.specs.Sets.{AllAbove, IsKeyOf, Keys, NumbersRise}
 use Rattle.plain_scan.specs.Outlines.{HasNoPoint}

@@ -1,21 +1,12 @@
 -- A bounded set one of whose projections is open in its last dimension has no point.
-use Rattle.std.proofs.Common.{◌≡◌, ℕ, zero, suc, ◌+◌, ◌*◌, ◌-◌, ◌<◌, ℤ, pos, negsuc, List, [], ◌∷◌, ◌++◌, length}
-use Rattle.std.proofs.Common.{get_or, inl, inr, refl, sym, ◌∙◌, ap, subst, All, arith, append_assoc, length-append}
-use Rattle.std.proofs.Common.{mul-le-mul}
-use Rattle.std.specs.Prelude.{◌≤◌, ◌^◌, ◌≤ℤ◌, ◌<ℤ◌, ◌+ℤ◌, ◌*ℤ◌, unsigned_abs}
-use Rattle.std.proofs.lemmas.Int.{ints, unsigned_abs-mul}
+use Rattle.scop_syntax.proofs.Common.{◌≡◌, ℕ, zero, suc, ◌+◌, ◌*◌, ◌-◌, ◌<◌, ℤ, pos, negsuc, List, [], ◌∷◌, ◌++◌}
+use Rattle.scop_syntax.proofs.Common.{length, get_or, inl, inr, refl, sym, ◌∙◌, ap, subst, All, arith, append_assoc}
+use Rattle.scop_syntax.proofs.Common.{length-append, mul-le-mul, ◌≤◌, ◌^◌, ◌≤ℤ◌, ◌<ℤ◌, ◌+ℤ◌, ◌*ℤ◌, unsigned_abs, ints}
+use Rattle.scop_syntax.proofs.Common.{unsigned_abs-mul, cases_lt, All-cons, All-head, All-nil, All-tail, dot, multiples}
+use Rattle.scop_syntax.proofs.Common.{Affine, value_of, mul_zero_left, mul_assoc_int, mul_comm_int, mul_one_right}
+use Rattle.scop_syntax.proofs.Common.{mul_one_left, mul_neg_left, mul_positive, mul_le_left, mul_not_negative}
+use Rattle.scop_syntax.proofs.Common.{length-multiples, multiples-append, abs_low, abs_high, get_or_same}
 use Rattle.std.proofs.lemmas.List.{append-nil}
-use Rattle.std.proofs.lemmas.Bool.{cases_lt}
-use Rattle.std.proofs.lemmas.List.Elements.{All-cons, All-head, All-nil, All-tail}
-use Rattle.whole_numbers.specs.Lists.{dot, multiples}
-use Rattle.whole_numbers.specs.Affine.{Affine, value_of}
-use Rattle.whole_numbers.proofs.Ring.{mul_zero_left, mul_assoc_int, mul_comm_int, mul_one_right, mul_one_left}
-use Rattle.whole_numbers.proofs.Ring.{mul_neg_left}
-use Rattle.whole_numbers.proofs.Order.{mul_positive, mul_le_left, mul_not_negative}
-use Rattle.whole_numbers.proofs.Dot.{length-multiples}
-use Rattle.whole_numbers.proofs.Lists.{multiples-append}
-use Rattle.whole_numbers.proofs.Sizes.{abs_low, abs_high}
-use Rattle.whole_numbers.proofs.Entries.{get_or_same}
 use Rattle.fractions.specs.Fractions.{HoldsOver, value_over}
 use Rattle.fractions.specs.Elimination.{coefficient_of}
 use Rattle.integer_sets.specs.Constraints.{Constraints, IsSized, variables_in}

@@ -1,8 +1,6 @@
 -- Pieces of a dimension serve their sets; from the outermost dimension on the tree is exact.
-use Rattle.std.proofs.Common.{◌≡◌, ℕ, zero, suc, ℤ, List, [], ◌∷◌, ◌++◌, length, map, inl, inr, ap, subst, sym}
-use Rattle.std.proofs.Common.{refl, ◌∙◌}
-use Rattle.std.specs.Prelude.{◌≤ℤ◌}
-use Rattle.whole_numbers.specs.Affine.{Affine, widened}
+use Rattle.scop_syntax.proofs.Common.{◌≡◌, ℕ, zero, suc, ℤ, List, [], ◌∷◌, ◌++◌, length, map, inl, inr, ap, subst, sym}
+use Rattle.scop_syntax.proofs.Common.{refl, ◌∙◌, ◌≤ℤ◌, Affine, widened}
 use Rattle.loop_tree.specs.Tree.{Trees}
 use Rattle.loop_tree.specs.Walk.{lower, upper, walk_all}
 use Rattle.loop_tree.specs.Scans.{Within, Spans, SpansAll, Scans, ScansAll, Exact}

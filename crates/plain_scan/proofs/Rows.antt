@@ -1,15 +1,12 @@
 -- Rows as bounds, hulls, pieces.
-use Rattle.std.proofs.Common.{◌≡◌, ℕ, ℤ, pos, List, [], ◌∷◌, ◌++◌, length, map, get_or, subst, sym, refl, arith}
-use Rattle.std.specs.Prelude.{neg_ℤ, ◌+ℤ◌, ◌*ℤ◌, ◌≤ℤ◌, ◌<ℤ◌}
-use Rattle.std.proofs.lemmas.Int.{ints}
-use Rattle.whole_numbers.specs.Lists.{dot}
-use Rattle.whole_numbers.specs.Floor.{floor, ceiling}
-use Rattle.whole_numbers.specs.Affine.{Affine, value_of, multiple_of_form, widened}
+use Rattle.scop_syntax.proofs.Common.{◌≡◌, ℕ, ℤ, pos, List, [], ◌∷◌, ◌++◌, length, map, get_or, subst, sym, refl, arith}
+use Rattle.scop_syntax.proofs.Common.{neg_ℤ, ◌+ℤ◌, ◌*ℤ◌, ◌≤ℤ◌, ◌<ℤ◌, ints, dot, floor, ceiling, Affine, value_of}
+use Rattle.scop_syntax.proofs.Common.{multiple_of_form, widened, mul_zero_left, mul_comm_int, mul_neg_left}
+use Rattle.scop_syntax.proofs.Common.{mul_neg_right, mul_one_left, value_of-multiple, floor_is, ceiling_is}
+use Rattle.scop_syntax.proofs.Common.{floor_at_least, ceiling_at_most}
 use Rattle.fractions.specs.Elimination.{coefficient_of, removed, narrowed}
 use Rattle.loop_tree.proofs.Extremes.{max_below, below_max, above_min, min_above}
-use Rattle.whole_numbers.proofs.Ring.{mul_zero_left, mul_comm_int, mul_neg_left, mul_neg_right, mul_one_left}
-use Rattle.whole_numbers.proofs.Values.{value_of-multiple, value_of-widened}
-use Rattle.whole_numbers.proofs.Floors.{floor_is, ceiling_is, floor_at_least, ceiling_at_most}
+use Rattle.whole_numbers.proofs.Values.{value_of-widened}
 use Rattle.loop_tree.specs.Walk.{lower, upper}
 use Rattle.plain_scan.specs.Sets.{AllAtLeast}
 use Rattle.plain_scan.specs.Rows.{low_bound, high_bound, low_bounds, high_bounds, AreLow, AreHigh}

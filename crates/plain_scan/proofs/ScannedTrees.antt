@@ -1,16 +1,11 @@
 -- What a scanned tree is like: how many coefficients its forms have, how large its numbers are, whose its instances
 -- are.
-use Rattle.std.proofs.Common.{◌≡◌, ℕ, zero, suc, ◌+◌, ◌-◌, ◌<◌, Bool, ℤ, pos, negsuc, List, [], ◌∷◌, length, get_or}
-use Rattle.std.proofs.Common.{map, inl, inr, refl, ap, subst, sym, ◌∙◌, All, arith}
-use Rattle.std.specs.Prelude.{◌≤◌, ◌^◌, neg_ℤ, unsigned_abs}
-use Rattle.std.proofs.lemmas.List.Elements.{All-cons, All-head, All-nil, All-tail}
+use Rattle.scop_syntax.proofs.Common.{◌≡◌, ℕ, zero, suc, ◌+◌, ◌-◌, ◌<◌, Bool, ℤ, pos, negsuc, List, [], ◌∷◌, length}
+use Rattle.scop_syntax.proofs.Common.{get_or, map, inl, inr, refl, ap, subst, sym, ◌∙◌, All, arith, ◌≤◌, ◌^◌, neg_ℤ}
+use Rattle.scop_syntax.proofs.Common.{unsigned_abs, All-cons, All-head, All-nil, All-tail, Affine, multiple_of_form}
+use Rattle.scop_syntax.proofs.Common.{zeros, length-multiples, length-zeros, AreAtMost, IsForm, In}
 use Rattle.std.proofs.Math.ListN.{length-set}
-use Rattle.whole_numbers.specs.Affine.{Affine, multiple_of_form}
-use Rattle.whole_numbers.specs.Lists.{zeros}
-use Rattle.whole_numbers.proofs.Dot.{length-multiples, length-zeros}
 use Rattle.affine_forms.specs.Parts.{variables_of}
-use Rattle.scop_syntax.specs.Kernel.{AreAtMost, IsForm}
-use Rattle.scop_syntax.specs.Members.{In}
 use Rattle.fractions.specs.Elimination.{coefficient_of, narrowed}
 use Rattle.integer_sets.specs.Constraints.{variables_in}
 use Rattle.integer_sets.specs.Scanned.{Scanned}

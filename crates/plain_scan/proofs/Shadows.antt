@@ -1,5 +1,6 @@
 -- From a set down to its first dimensions.
-use Rattle.std.proofs.Common.{◌≡◌, ℕ, suc, ◌<◌, ℤ, pos, List, [], ◌∷◌, ◌++◌, length, ap, subst, sym, refl, ◌∙◌, arith}
+use Rattle.scop_syntax.proofs.Common.{◌≡◌, ℕ, suc, ◌<◌, ℤ, pos, List, [], ◌∷◌, ◌++◌, length, ap, subst, sym, refl, ◌∙◌}
+use Rattle.scop_syntax.proofs.Common.{arith}
 use Rattle.fm_projection.proofs.WholePoints.{one_more}
 use Rattle.integer_sets.specs.Scanned.{Scanned}
 use Rattle.plain_scan.specs.Sets.{IsKeyOf}

@@ -1,7 +1,5 @@
 -- A scanner's sequences are flat and marked.
-use Rattle.std.proofs.Common.{ℕ, Bool, List, [], ◌∷◌, map, arith}
-use Rattle.std.proofs.lemmas.Int.{ints}
-use Rattle.whole_numbers.specs.Affine.{Affine}
+use Rattle.scop_syntax.proofs.Common.{ℕ, Bool, List, [], ◌∷◌, map, arith, ints, Affine}
 use Rattle.loop_tree.specs.Tree.{Test, Tree, instance}
 use Rattle.integer_sets.specs.Scanned.{Scanned}
 use Rattle.plain_scan.specs.Sets.{equal_tests, row_tests, tests_of, turn_forms, under, Leaf, leaves}

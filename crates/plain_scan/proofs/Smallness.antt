@@ -1,13 +1,8 @@
 -- The numbers of a scanned tree are small, and each loop has a number on each side.
-use Rattle.std.proofs.Common.{◌≡◌, ℕ, zero, suc, Bool, ℤ, pos, negsuc, List, [], ◌∷◌, get_or, set}
-use Rattle.std.proofs.Common.{inl, map, refl, sym, ap, subst, All, arith}
-use Rattle.std.specs.Prelude.{◌≤◌, ◌^◌, neg_ℤ, ◌*ℤ◌, unsigned_abs}
-use Rattle.std.proofs.lemmas.Int.{ints}
-use Rattle.std.proofs.lemmas.List.Elements.{All-cons, All-head, All-nil, All-tail}
-use Rattle.whole_numbers.specs.Lists.{multiples, zeros}
-use Rattle.whole_numbers.specs.Affine.{Affine, multiple_of_form}
-use Rattle.whole_numbers.proofs.Ring.{mul_one_left, mul_neg_left}
-use Rattle.scop_syntax.specs.Kernel.{AreAtMost}
+use Rattle.scop_syntax.proofs.Common.{◌≡◌, ℕ, zero, suc, Bool, ℤ, pos, negsuc, List, [], ◌∷◌, get_or, set, inl, map}
+use Rattle.scop_syntax.proofs.Common.{refl, sym, ap, subst, All, arith, ◌≤◌, ◌^◌, neg_ℤ, ◌*ℤ◌, unsigned_abs, ints}
+use Rattle.scop_syntax.proofs.Common.{All-cons, All-head, All-nil, All-tail, multiples, zeros, Affine, multiple_of_form}
+use Rattle.scop_syntax.proofs.Common.{mul_one_left, mul_neg_left, AreAtMost}
 use Rattle.fractions.specs.Elimination.{narrowed, removed}
 use Rattle.integer_sets.specs.Constraints.{variables_in}
 use Rattle.integer_sets.specs.Scanned.{Scanned}

@@ -1,9 +1,6 @@
 -- What holds of rows holds of those that are sorted out.
-use Rattle.std.proofs.Common.{◌≡◌, ℕ, zero, suc, ℤ, pos, negsuc, List, [], ◌∷◌, All, refl, arith}
-use Rattle.std.specs.Prelude.{◌≤ℤ◌}
-use Rattle.std.proofs.lemmas.Int.{ints}
-use Rattle.std.proofs.lemmas.List.Elements.{All-cons, All-head, All-tail}
-use Rattle.whole_numbers.specs.Affine.{Affine, value_of}
+use Rattle.scop_syntax.proofs.Common.{◌≡◌, ℕ, zero, suc, ℤ, pos, negsuc, List, [], ◌∷◌, All, refl, arith, ◌≤ℤ◌, ints}
+use Rattle.scop_syntax.proofs.Common.{All-cons, All-head, All-tail, Affine, value_of}
 use Rattle.plain_scan.specs.Sets.{AllAtLeast}
 use Rattle.plain_scan.specs.Rows.{AreLow, AreHigh}
 use Rattle.fractions.specs.Elimination.{coefficient_of}

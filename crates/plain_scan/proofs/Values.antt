@@ -1,14 +1,9 @@
 -- Values of rows of one variable, and what their bounds tell.
-use Rattle.std.proofs.Common.{◌≡◌, ℤ, pos, List, [], ◌∷◌, length, get_or, subst, sym, ◌∙◌, arith}
-use Rattle.std.specs.Prelude.{neg_ℤ, ◌+ℤ◌, ◌*ℤ◌, ◌≤ℤ◌, ◌<ℤ◌, ◌≤◌, ◌^◌, unsigned_abs}
-use Rattle.std.proofs.lemmas.Int.{ints}
-use Rattle.whole_numbers.specs.Lists.{dot}
-use Rattle.whole_numbers.specs.Affine.{Affine, value_of}
-use Rattle.whole_numbers.specs.Division.{IsFloor, IsCeiling}
-use Rattle.whole_numbers.proofs.Ring.{mul_comm_int, mul_neg_left, mul_neg_right, mul_one_right}
-use Rattle.whole_numbers.proofs.Order.{mul_le_left}
-use Rattle.whole_numbers.proofs.Floors.{floor_at_least, ceiling_at_most, ceiling_at_least}
-use Rattle.whole_numbers.proofs.Sizes.{abs_low, abs_high, abs_at_most}
+use Rattle.scop_syntax.proofs.Common.{◌≡◌, ℤ, pos, List, [], ◌∷◌, length, get_or, subst, sym, ◌∙◌, arith, neg_ℤ, ◌+ℤ◌}
+use Rattle.scop_syntax.proofs.Common.{◌*ℤ◌, ◌≤ℤ◌, ◌<ℤ◌, ◌≤◌, ◌^◌, unsigned_abs, ints, dot, Affine, value_of, IsFloor}
+use Rattle.scop_syntax.proofs.Common.{IsCeiling, mul_comm_int, mul_neg_left, mul_neg_right, mul_one_right, mul_le_left}
+use Rattle.scop_syntax.proofs.Common.{floor_at_least, ceiling_at_most, abs_low, abs_high, abs_at_most}
+use Rattle.whole_numbers.proofs.Floors.{ceiling_at_least}
 
 pub low_row : (a c q x : ℤ) → pos 0 <ℤ a → IsCeiling (neg_ℤ c) a q → pos 0 ≤ℤ ((a *ℤ x) +ℤ c) → q ≤ℤ x
 low_row a c q x h is p =

@@ -1,19 +1,14 @@
 -- Visits give the iterators of their points: leaves do, and so does a loop round what does.
-use Rattle.std.proofs.Common.{◌≡◌, ℕ, zero, suc, ◌+◌, ◌<◌, Bool, ℤ, pos, List, [], ◌∷◌, ◌++◌, length, get_or, inl}
-use Rattle.std.proofs.Common.{inr, map, take, drop, refl, sym, ◌∙◌, ap, ap₂, subst, All, arith, length-append}
-use Rattle.std.specs.Prelude.{◌≤◌, ◌+ℤ◌, ◌*ℤ◌}
-use Rattle.std.proofs.lemmas.Int.{ints}
+use Rattle.scop_syntax.proofs.Common.{◌≡◌, ℕ, zero, suc, ◌+◌, ◌<◌, Bool, ℤ, pos, List, [], ◌∷◌, ◌++◌, length, get_or}
+use Rattle.scop_syntax.proofs.Common.{inl, inr, map, take, drop, refl, sym, ◌∙◌, ap, ap₂, subst, All, arith}
+use Rattle.scop_syntax.proofs.Common.{length-append, ◌≤◌, ◌+ℤ◌, ◌*ℤ◌, ints, All-head, All-tail, value_of, values_of}
+use Rattle.scop_syntax.proofs.Common.{mul_one_left, In, in_append, in_map_from, in_if_from}
 use Rattle.std.proofs.lemmas.List.{append-nil}
-use Rattle.std.proofs.lemmas.List.Elements.{All-head, All-tail}
-use Rattle.whole_numbers.specs.Affine.{value_of, values_of}
-use Rattle.whole_numbers.proofs.Ring.{mul_one_left}
 use Rattle.integer_sets.specs.Constraints.{variables_in}
 use Rattle.integer_sets.specs.Scanned.{Scanned, iterators_at}
 use Rattle.fm_projection.specs.Alone.{place_form}
 use Rattle.fm_projection.proofs.Ranges.{place_value}
 use Rattle.fm_projection.proofs.WholePoints.{one_more}
-use Rattle.scop_syntax.specs.Members.{In}
-use Rattle.scop_syntax.proofs.Members.{in_append, in_map_from, in_if_from}
 use Rattle.loop_tree.specs.Tree.{Bounds, Test, Tree, Trees, instance, loop, more, none}
 use Rattle.loop_tree.specs.Walk.{Visit, all_hold, lower, through, upper, walk, walk_all}
 use Rattle.loop_tree.proofs.Lists.{in_between_from}

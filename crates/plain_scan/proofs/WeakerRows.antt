@@ -1,18 +1,12 @@
 -- Rows of greater numbers are weaker, since parameters are not negative; a row above those of one part in the
 -- dimensions.
-use Rattle.std.proofs.Common.{◌≡◌, ◌∙◌, ℕ, zero, suc, ◌+◌, ◌<◌, ℤ, pos, List, [], ◌∷◌, ◌++◌, length, get_or, take, drop}
-use Rattle.std.proofs.Common.{ap, refl, subst, sym, arith}
-use Rattle.std.specs.Prelude.{◌*ℤ◌, ◌≤ℤ◌, ⊤, All}
-use Rattle.std.proofs.lemmas.Int.{ints}
-use Rattle.std.proofs.lemmas.List.Elements.{All-tail}
-use Rattle.whole_numbers.specs.Lists.{dot}
-use Rattle.whole_numbers.specs.Affine.{Affine, value_of, multiple_of_form}
+use Rattle.scop_syntax.proofs.Common.{◌≡◌, ◌∙◌, ℕ, zero, suc, ◌+◌, ◌<◌, ℤ, pos, List, [], ◌∷◌, ◌++◌, length, get_or}
+use Rattle.scop_syntax.proofs.Common.{take, drop, ap, refl, subst, sym, arith, ◌*ℤ◌, ◌≤ℤ◌, ⊤, All, ints, All-tail, dot}
+use Rattle.scop_syntax.proofs.Common.{Affine, value_of, multiple_of_form, length-multiples, mul_le, mul_not_negative}
+use Rattle.scop_syntax.proofs.Common.{value_of-multiple}
 use Rattle.whole_numbers.specs.Content.{lowest_of_form}
-use Rattle.whole_numbers.proofs.Dot.{length-multiples}
 use Rattle.fractions.proofs.PointValues.{value_over-one}
 use Rattle.fractions.proofs.Content.{lowest_sign}
-use Rattle.whole_numbers.proofs.Order.{mul_le, mul_not_negative}
-use Rattle.whole_numbers.proofs.Values.{value_of-multiple}
 use Rattle.affine_forms.specs.Parts.{variables_of}
 use Rattle.fm_projection.specs.Alone.{AreInRange}
 use Rattle.fm_projection.proofs.Exact.{lowest_sized}

@@ -1,8 +1,6 @@
 -- From the hull of the sets that are kept to the scan of all.
-use Rattle.std.proofs.Common.{◌≡◌, ℕ, zero, ◌+◌, ◌<◌, ℤ, List, [], ◌∷◌, ◌++◌, length, get_or, take}
-use Rattle.std.proofs.Common.{refl, sym, ◌∙◌, ap, subst, All, arith}
-use Rattle.std.specs.Prelude.{◌^◌}
-use Rattle.std.proofs.lemmas.List.Elements.{All-cons, All-head, All-nil, All-tail}
+use Rattle.scop_syntax.proofs.Common.{◌≡◌, ℕ, zero, ◌+◌, ◌<◌, ℤ, List, [], ◌∷◌, ◌++◌, length, get_or, take, refl, sym}
+use Rattle.scop_syntax.proofs.Common.{◌∙◌, ap, subst, All, arith, ◌^◌, All-cons, All-head, All-nil, All-tail}
 use Rattle.integer_sets.specs.Scanned.{Scanned}
 use Rattle.fm_projection.specs.Alone.{AreInRange}
 use Rattle.scop_syntax.proofs.Limits.{size_params}

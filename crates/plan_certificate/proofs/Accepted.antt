@@ -1,15 +1,10 @@
 -- What certifying gives is a certificate: its items are laid, and its goals are proved one by one.
-use Rattle.std.proofs.Common.{◌≡◌, ◌∙◌, ap, sym, refl, subst, ℕ, ◌^◌, ◌<◌, true, List, [], ◌∷◌, ◌++◌, length}
-use Rattle.std.proofs.Common.{codes, arith, nat_le, append_assoc, zero-add}
-use Rattle.std.specs.Prelude.{Result, Ok, Err}
-use Rattle.std.specs.List.{list_all}
-use Rattle.std.proofs.lemmas.List.{length-append, length-map}
+use Rattle.scop_syntax.proofs.Common.{◌≡◌, ◌∙◌, ap, sym, refl, subst, ℕ, ◌^◌, ◌<◌, true, List, [], ◌∷◌, ◌++◌, length}
+use Rattle.scop_syntax.proofs.Common.{codes, arith, nat_le, append_assoc, zero-add, Result, Ok, Err, list_all}
+use Rattle.scop_syntax.proofs.Common.{length-map, IsKernel, In, in_guard_of, placed_all, statements_of, Program, guard}
+use Rattle.scop_syntax.proofs.Common.{length-placed}
+use Rattle.std.proofs.lemmas.List.{length-append}
 use Rattle.scop_lexer.specs.Bytes.{Text}
-use Rattle.scop_syntax.specs.Kernel.{IsKernel}
-use Rattle.scop_syntax.specs.Members.{In}
-use Rattle.scop_syntax.specs.Statements.{in_guard_of, placed_all, statements_of}
-use Rattle.scop_syntax.specs.Tree.{Program, guard}
-use Rattle.scop_syntax.proofs.Statements.{length-placed}
 use Rattle.iteration_domains.specs.Dependence.{Dependence}
 use Rattle.iteration_domains.specs.Model.{KernelModel, model_of, modelled}
 use Rattle.conflict_deps.specs.Conflicts.{conflicts_of}

@@ -1,12 +1,7 @@
 -- The items of a schedule can be printed.
-use Rattle.std.proofs.Common.{◌≡◌, ap₂, refl, ℕ, suc, ◌^◌, ◌<◌, ℤ, pos, ◌≤ℤ◌, ◌<ℤ◌}
-use Rattle.std.proofs.Common.{List, [], ◌∷◌, ◌++◌, length, map, All, arith, inl, inr}
-use Rattle.std.specs.Prelude.{slice_index_or}
-use Rattle.std.specs.List.{flat_map}
-use Rattle.std.proofs.lemmas.Int.{ints}
-use Rattle.std.proofs.lemmas.List.Elements.{All-nil, All-cons, All-head, All-tail, All-weaker}
-use Rattle.whole_numbers.proofs.Entries.{all_front, all_back}
-use Rattle.scop_syntax.specs.Members.{In}
+use Rattle.scop_syntax.proofs.Common.{◌≡◌, ap₂, refl, ℕ, suc, ◌^◌, ◌<◌, ℤ, pos, ◌≤ℤ◌, ◌<ℤ◌, List, [], ◌∷◌, ◌++◌, length}
+use Rattle.scop_syntax.proofs.Common.{map, All, arith, inl, inr, slice_index_or, flat_map, ints, All-nil, All-cons}
+use Rattle.scop_syntax.proofs.Common.{All-head, All-tail, All-weaker, all_front, all_back, In}
 use Rattle.schedule_rows.specs.Unknowns.{Part, part_numbers}
 use Rattle.schedule_rows.specs.Items.{Row, Marked, Block, scalar, band, band_rows, part_of, rows_in}
 use Rattle.schedule_rows.specs.Sized.{AreSized, AreSizedRows, IsSizedRow, IsSmall}

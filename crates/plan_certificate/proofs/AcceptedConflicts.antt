@@ -1,19 +1,10 @@
 -- The systems of a kernel's conflicts are over their variables.
-use Rattle.std.proofs.Common.{◌≡◌, ap, sym, subst, ℕ, zero, suc, ◌+◌, Bool, true, false, List, [], ◌∷◌, ◌++◌, length}
-use Rattle.std.proofs.Common.{All, map, inl, inr}
-use Rattle.std.specs.Prelude.{nat_lt, ⊤}
-use Rattle.std.specs.List.{flat_map}
-use Rattle.std.proofs.lemmas.List.Elements.{All-nil, All-cons, All-head, All-tail}
-use Rattle.whole_numbers.specs.Affine.{Affine, composed}
-use Rattle.whole_numbers.proofs.Dot.{length-zeros}
+use Rattle.scop_syntax.proofs.Common.{◌≡◌, ap, sym, subst, ℕ, zero, suc, ◌+◌, Bool, true, false, List, [], ◌∷◌, ◌++◌}
+use Rattle.scop_syntax.proofs.Common.{length, All, map, inl, inr, nat_lt, ⊤, flat_map, All-nil, All-cons, All-head}
+use Rattle.scop_syntax.proofs.Common.{All-tail, Affine, composed, length-zeros, accesses, test_form, In, common, Scope}
+use Rattle.scop_syntax.proofs.Common.{round, under, loops_in, Placed, statements_of, Access, Program, Test, at_least}
+use Rattle.scop_syntax.proofs.Common.{equal, in_from_place, in_if_from, in_map_from}
 use Rattle.affine_forms.specs.Parts.{variables_of}
-use Rattle.scop_syntax.specs.Cells.{accesses}
-use Rattle.scop_syntax.specs.Kernel.{test_form}
-use Rattle.scop_syntax.specs.Members.{In}
-use Rattle.scop_syntax.specs.Order.{common}
-use Rattle.scop_syntax.specs.Statements.{Scope, round, under, loops_in, Placed, statements_of}
-use Rattle.scop_syntax.specs.Tree.{Access, Program, Test, at_least, equal}
-use Rattle.scop_syntax.proofs.Members.{in_from_place, in_if_from, in_map_from}
 use Rattle.iteration_domains.specs.Constraints.{equalities_in, rows_in, tests_of}
 use Rattle.iteration_domains.specs.Dependence.{Dependence}
 use Rattle.iteration_domains.specs.Model.{Modelled, access_over, model_of, modelled}

@@ -1,17 +1,12 @@
 -- The goals of a plan that suits the statements are over their variables.
-use Rattle.std.proofs.Common.{◌≡◌, ◌∙◌, ap, sym, refl, subst, ℕ, zero, suc, ◌+◌, Bool, true, false, negsuc, List, [], ◌∷◌, ◌++◌}
-use Rattle.std.proofs.Common.{All, arith, inl, inr, length-set}
-use Rattle.std.specs.Prelude.{if◌then◌else◌, nat_lt, slice_index_or}
-use Rattle.std.specs.List.{flat_map}
+use Rattle.scop_syntax.proofs.Common.{◌≡◌, ◌∙◌, ap, sym, refl, subst, ℕ, zero, suc, ◌+◌, Bool, true, false, negsuc}
+use Rattle.scop_syntax.proofs.Common.{List, [], ◌∷◌, ◌++◌, All, arith, inl, inr, if◌then◌else◌, nat_lt, slice_index_or}
+use Rattle.scop_syntax.proofs.Common.{flat_map, All-nil, All-cons, All-append, All-head, All-tail, Affine, complement}
+use Rattle.scop_syntax.proofs.Common.{multiples, zeros, length-multiples, length-zeros, In, all_in}
+use Rattle.std.proofs.Common.{length-set}
 use Rattle.std.proofs.lemmas.List.{length-append}
-use Rattle.std.proofs.lemmas.List.Elements.{All-nil, All-cons, All-append, All-head, All-tail}
-use Rattle.whole_numbers.specs.Affine.{Affine, complement}
-use Rattle.whole_numbers.specs.Lists.{multiples, zeros}
-use Rattle.whole_numbers.proofs.Dot.{length-multiples, length-zeros}
 use Rattle.affine_forms.specs.Parts.{variables_of}
 use Rattle.integer_sets.specs.Constraints.{variables_in}
-use Rattle.scop_syntax.specs.Members.{In}
-use Rattle.scop_syntax.proofs.Members.{all_in}
 use Rattle.iteration_domains.specs.Dependence.{Dependence}
 use Rattle.iteration_domains.specs.Model.{KernelModel}
 use Rattle.iteration_domains.specs.Restrictions.{equality_behind, row_behind}

@@ -1,13 +1,11 @@
 -- The lines of a schedule's items are laid one by one, up to the items behind them.
-use Rattle.std.proofs.Common.{◌≡◌, ◌∙◌, ap, ap₂, sym, refl, ℕ, suc, ◌+◌, ◌^◌, ◌<◌, ◌≤◌, Bool, true, false, ℤ, pos}
-use Rattle.std.proofs.Common.{List, [], ◌∷◌, ◌++◌, length, map, codes, decimal, All, arith, unsigned_abs, append_assoc}
-use Rattle.std.specs.Prelude.{⊤, ◌==◌, ◌&&◌, Some, Ok, if◌then◌else◌}
-use Rattle.std.specs.Fmt.{signed_decimal}
-use Rattle.std.specs.List.{concat, list_all}
-use Rattle.std.proofs.lemmas.List.{length-append, length-map}
-use Rattle.std.proofs.lemmas.List.Elements.{All-nil, All-cons, All-head, All-tail}
+use Rattle.scop_syntax.proofs.Common.{◌≡◌, ◌∙◌, ap, ap₂, sym, refl, ℕ, suc, ◌+◌, ◌^◌, ◌<◌, ◌≤◌, Bool, true, false, ℤ}
+use Rattle.scop_syntax.proofs.Common.{pos, List, [], ◌∷◌, ◌++◌, length, map, codes, decimal, All, arith, unsigned_abs}
+use Rattle.scop_syntax.proofs.Common.{append_assoc, ⊤, ◌==◌, ◌&&◌, Some, Ok, if◌then◌else◌, signed_decimal, list_all}
+use Rattle.scop_syntax.proofs.Common.{length-map, All-nil, All-cons, All-head, All-tail, Affine, form_of}
+use Rattle.std.specs.List.{concat}
+use Rattle.std.proofs.lemmas.List.{length-append}
 use Rattle.scop_lexer.specs.Bytes.{Text}
-use Rattle.whole_numbers.specs.Affine.{Affine, form_of}
 use Rattle.iteration_domains.specs.Model.{KernelModel}
 use Rattle.form_text.specs.View.{saturated}
 use Rattle.schedule_rows.specs.Unknowns.{Part}

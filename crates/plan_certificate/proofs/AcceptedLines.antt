@@ -1,8 +1,7 @@
 -- A printed line goes on as what it says, where its numbers are those that are read.
-use Rattle.std.proofs.Common.{◌≡◌, ◌∙◌, ap, sym, ℕ, suc, ◌^◌, ◌<◌, ◌≤◌, Bool, true, List, ◌∷◌, ◌++◌, length, codes, arith, map, refl, ap₂}
-use Rattle.std.proofs.Common.{[], All}
-use Rattle.std.specs.Prelude.{Some, Result, Ok, Err, ◌==◌, not, if◌then◌else◌, false}
-use Rattle.std.proofs.lemmas.List.Elements.{All-head, All-tail}
+use Rattle.scop_syntax.proofs.Common.{◌≡◌, ◌∙◌, ap, sym, ℕ, suc, ◌^◌, ◌<◌, ◌≤◌, Bool, true, List, ◌∷◌, ◌++◌, length}
+use Rattle.scop_syntax.proofs.Common.{codes, arith, map, refl, ap₂, [], All, Some, Result, Ok, Err, ◌==◌, not}
+use Rattle.scop_syntax.proofs.Common.{if◌then◌else◌, false, All-head, All-tail}
 use Rattle.std.proofs.lemmas.List.{length-append}
 use Rattle.scop_lexer.specs.Bytes.{Text}
 use Rattle.form_text.specs.View.{saturated}

@@ -1,9 +1,7 @@
 -- What is laid by a schedule's lines is its plan, with as many rows.
-use Rattle.std.proofs.Common.{◌≡◌, ◌∙◌, ap, sym, refl, ℕ, suc, ◌+◌, Bool, false, List, [], ◌∷◌}
-use Rattle.std.proofs.Common.{◌++◌, length, map, arith, append_assoc, append-nil}
-use Rattle.std.specs.Prelude.{◌==◌, if◌then◌else◌}
+use Rattle.scop_syntax.proofs.Common.{◌≡◌, ◌∙◌, ap, sym, refl, ℕ, suc, ◌+◌, Bool, false, List, [], ◌∷◌, ◌++◌, length}
+use Rattle.scop_syntax.proofs.Common.{map, arith, append_assoc, append-nil, ◌==◌, if◌then◌else◌, Affine}
 use Rattle.std.proofs.lemmas.List.{length-append}
-use Rattle.whole_numbers.specs.Affine.{Affine}
 use Rattle.schedule_rows.specs.Items.{Marked, Block, scalar, band, band_rows, rows_in}
 use Rattle.plan_check.specs.Judged.{Laid, nothing_laid, row_laid, scalar_laid, with_row}
 use Rattle.plan_check.specs.Plans.{Plan, PlanItem, PlanRow, rows, numbers}

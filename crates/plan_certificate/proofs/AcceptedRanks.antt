@@ -1,11 +1,8 @@
 -- A schedule has as many rows as any statement has loops, and no number of a row is negative.
-use Rattle.std.proofs.Common.{◌≡◌, ◌∙◌, ap, ap₂, sym, refl, subst, ℕ, zero, suc, ◌+◌, ◌<◌, ◌≤◌, Bool, true, false, ℤ}
-use Rattle.std.proofs.Common.{List, [], ◌∷◌, ◌++◌, length, map, All, arith, nat_le, append-nil, inl, inr}
-use Rattle.std.specs.Prelude.{◌&&◌, if◌then◌else◌, slice_index_or}
-use Rattle.std.specs.List.{list_all}
-use Rattle.std.proofs.lemmas.List.{length-map}
-use Rattle.std.proofs.lemmas.List.Elements.{All-nil, All-cons, All-append}
-use Rattle.whole_numbers.specs.Lists.{dot}
+use Rattle.scop_syntax.proofs.Common.{◌≡◌, ◌∙◌, ap, ap₂, sym, refl, subst, ℕ, zero, suc, ◌+◌, ◌<◌, ◌≤◌, Bool, true}
+use Rattle.scop_syntax.proofs.Common.{false, ℤ, List, [], ◌∷◌, ◌++◌, length, map, All, arith, nat_le, append-nil, inl}
+use Rattle.scop_syntax.proofs.Common.{inr, ◌&&◌, if◌then◌else◌, slice_index_or, list_all, length-map, All-nil, All-cons}
+use Rattle.scop_syntax.proofs.Common.{All-append, dot}
 use Rattle.fractions.specs.Farkas.{AreNotNegative}
 use Rattle.iteration_domains.specs.Dependence.{Dependence}
 use Rattle.null_space.specs.Narrowing.{against, is_zero, kernel_vectors, narrowed_all, narrowed_by, units_from}

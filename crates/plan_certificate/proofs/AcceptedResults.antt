@@ -1,9 +1,7 @@
 -- A schedule's certificate that a call gives is accepted.
-use Rattle.std.proofs.Common.{◌≡◌, ◌∙◌, ap, sym, subst, ◌^◌, ◌<◌, true, List, length}
-use Rattle.std.specs.Prelude.{IfOk, Result, Ok, Err}
+use Rattle.scop_syntax.proofs.Common.{◌≡◌, ◌∙◌, ap, sym, subst, ◌^◌, ◌<◌, true, List, length, IfOk, Result, Ok, Err}
+use Rattle.scop_syntax.proofs.Common.{IsKernel, Program}
 use Rattle.scop_lexer.specs.Bytes.{Text}
-use Rattle.scop_syntax.specs.Kernel.{IsKernel}
-use Rattle.scop_syntax.specs.Tree.{Program}
 use Rattle.iteration_domains.specs.Dependence.{Dependence}
 use Rattle.iteration_domains.specs.Model.{KernelModel, model_of}
 use Rattle.schedule_rows.specs.Items.{Block}

@@ -1,11 +1,11 @@
 -- The lines of a run are accepted by the checker, and are such as are written.
-use Rattle.std.proofs.Common.{◌≡◌, ◌≢◌, ℕ, zero, suc, ◌≤◌, ◌/◌, ℤ, pos, negsuc, Bool, true, false, List, []}
-use Rattle.std.proofs.Common.{◌∷◌, ◌++◌, length, map, ◌*◌, All, refl, sym, ◌∙◌, ap, subst, arith, append_assoc, unsigned_abs}
-use Rattle.std.specs.Prelude.{Option, Some, None, Result, Ok, Err, if◌then◌else◌, nat_eq, nat_le, nat_lt, ◌&&◌, ⊤}
+use Rattle.scop_syntax.proofs.Common.{◌≡◌, ◌≢◌, ℕ, zero, suc, ◌≤◌, ◌/◌, ℤ, pos, negsuc, Bool, true, false, List, []}
+use Rattle.scop_syntax.proofs.Common.{◌∷◌, ◌++◌, length, map, ◌*◌, All, refl, sym, ◌∙◌, ap, subst, arith, append_assoc}
+use Rattle.scop_syntax.proofs.Common.{unsigned_abs, Option, Some, None, Result, Ok, Err, if◌then◌else◌, nat_eq, nat_le}
+use Rattle.scop_syntax.proofs.Common.{nat_lt, ◌&&◌, ⊤, All-append, All-cons, All-head, All-nil, All-tail, Affine}
+use Rattle.scop_syntax.proofs.Common.{content}
 use Rattle.std.proofs.lemmas.List.{length-append}
-use Rattle.std.proofs.lemmas.List.Elements.{All-append, All-cons, All-head, All-nil, All-tail}
-use Rattle.whole_numbers.specs.Affine.{Affine}
-use Rattle.whole_numbers.specs.Content.{content, gcd_of}
+use Rattle.whole_numbers.specs.Content.{gcd_of}
 use Rattle.fractions.specs.Elimination.{coefficient_of, is_negative, is_positive, is_zero}
 use Rattle.plan_check.specs.declared.lines.Term.{Term}
 use Rattle.plan_check.specs.declared.lines.Fault.{Fault}

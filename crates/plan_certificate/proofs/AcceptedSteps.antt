@@ -1,16 +1,12 @@
 -- The lines of a derivation, and those of goals one by one, are accepted up to the last goal.
-use Rattle.std.proofs.Common.{◌≡◌, ◌≢◌, ◌∙◌, ap, ap₂, sym, refl, subst, ℕ, suc, ◌+◌, ◌^◌, ◌<◌, ◌≤◌, Bool, true, false}
-use Rattle.std.proofs.Common.{ℤ, pos, List, [], ◌∷◌, ◌++◌, length, map, codes, All, arith, append_assoc, unsigned_abs}
-use Rattle.std.proofs.Common.{inl, inr, add-one}
+use Rattle.scop_syntax.proofs.Common.{◌≡◌, ◌≢◌, ◌∙◌, ap, ap₂, sym, refl, subst, ℕ, suc, ◌+◌, ◌^◌, ◌<◌, ◌≤◌, Bool, true}
+use Rattle.scop_syntax.proofs.Common.{false, ℤ, pos, List, [], ◌∷◌, ◌++◌, length, map, codes, All, arith, append_assoc}
+use Rattle.scop_syntax.proofs.Common.{unsigned_abs, inl, inr, add-one, ◌==◌, ◌&&◌, Option, Some, None, Result, Ok, Err}
+use Rattle.scop_syntax.proofs.Common.{if◌then◌else◌, list_all, All-nil, All-cons, All-head, All-tail, In, Affine}
 use Rattle.std.proofs.lemmas.List.{length-append}
-use Rattle.std.specs.Prelude.{◌==◌, ◌&&◌, Option, Some, None, Result, Ok, Err, if◌then◌else◌}
-use Rattle.std.specs.List.{list_all}
-use Rattle.std.proofs.lemmas.List.Elements.{All-nil, All-cons, All-head, All-tail}
 use Rattle.scop_lexer.specs.Bytes.{Text}
-use Rattle.scop_syntax.specs.Members.{In}
 use Rattle.wide_math.specs.declared.Wide.{Wide}
 use Rattle.wide_math.specs.Checked.{◌>>=◌}
-use Rattle.whole_numbers.specs.Affine.{Affine}
 use Rattle.affine_forms.specs.Parts.{variables_of}
 use Rattle.integer_sets.specs.Constraints.{variables_in}
 use Rattle.iteration_domains.specs.Dependence.{Dependence}

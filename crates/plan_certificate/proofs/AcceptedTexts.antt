@@ -1,12 +1,9 @@
 -- The lines of a schedule whose numbers are not negative are printed items.
-use Rattle.std.proofs.Common.{◌≡◌, ◌∙◌, ap, ap₂, sym, refl, ℕ, zero, suc, ◌+◌, ◌^◌, ◌<◌, Bool, true, false, ℤ, pos}
-use Rattle.std.proofs.Common.{negsuc, ◌≤ℤ◌, ◌<ℤ◌, List, [], ◌∷◌, ◌++◌, length, map, codes, decimal, All, arith, unsigned_abs}
-use Rattle.std.proofs.Common.{append_assoc, append-nil}
-use Rattle.std.specs.Fmt.{signed_decimal}
+use Rattle.scop_syntax.proofs.Common.{◌≡◌, ◌∙◌, ap, ap₂, sym, refl, ℕ, zero, suc, ◌+◌, ◌^◌, ◌<◌, Bool, true, false, ℤ}
+use Rattle.scop_syntax.proofs.Common.{pos, negsuc, ◌≤ℤ◌, ◌<ℤ◌, List, [], ◌∷◌, ◌++◌, length, map, codes, decimal, All}
+use Rattle.scop_syntax.proofs.Common.{arith, unsigned_abs, append_assoc, append-nil, signed_decimal, ints, length-map}
+use Rattle.scop_syntax.proofs.Common.{All-head, All-tail}
 use Rattle.std.specs.List.{concat}
-use Rattle.std.proofs.lemmas.Int.{ints}
-use Rattle.std.proofs.lemmas.List.{length-map}
-use Rattle.std.proofs.lemmas.List.Elements.{All-head, All-tail}
 use Rattle.scop_lexer.specs.Bytes.{Text}
 use Rattle.schedule_rows.specs.Unknowns.{Part}
 use Rattle.schedule_rows.specs.Items.{Row}

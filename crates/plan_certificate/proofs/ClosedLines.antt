@@ -1,10 +1,8 @@
 -- The needed lines of a derivation are closed: each names rows of the goal and of needed lines alone.
-use Rattle.std.proofs.Common.{◌≡◌, ℕ, zero, suc, ◌<◌, ◌≤◌, Bool, true, false, List, [], ◌∷◌, ◌++◌, length, All, refl}
-use Rattle.std.proofs.Common.{subst, arith}
-use Rattle.std.specs.Prelude.{Option, Some, None, Ok, if◌then◌else◌, nat_eq, nat_lt, ◌&&◌, ◌||◌, ⊤}
+use Rattle.scop_syntax.proofs.Common.{◌≡◌, ℕ, zero, suc, ◌<◌, ◌≤◌, Bool, true, false, List, [], ◌∷◌, ◌++◌, length, All}
+use Rattle.scop_syntax.proofs.Common.{refl, subst, arith, Option, Some, None, Ok, if◌then◌else◌, nat_eq, nat_lt, ◌&&◌}
+use Rattle.scop_syntax.proofs.Common.{◌||◌, ⊤, All-cons, All-head, All-nil, All-tail, Affine}
 use Rattle.std.proofs.lemmas.List.{length-append}
-use Rattle.std.proofs.lemmas.List.Elements.{All-cons, All-head, All-nil, All-tail}
-use Rattle.whole_numbers.specs.Affine.{Affine}
 use Rattle.plan_check.specs.declared.lines.Term.{Term}
 use Rattle.plan_check.specs.Derivations.{Step, row_at, in_front, named, is_contradiction, sum_said, quotient_said, row_said}
 use Rattle.plan_check.specs.Derivations.{derived, moved, AreClosed, is_own}

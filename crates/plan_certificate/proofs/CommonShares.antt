@@ -1,5 +1,5 @@
 -- What is left of two numbers over their greatest common divisor.
-use Rattle.std.proofs.Common.{ℕ, ◌≤◌, ◌/◌, subst, arith, inl, inr}
+use Rattle.scop_syntax.proofs.Common.{ℕ, ◌≤◌, ◌/◌, subst, arith, inl, inr}
 use Prim.Native.Nat.{◌∣◌}
 use Rattle.std.proofs.Math.Nat.{eq-zero_of_zero-dvd, eq-zero-or-pos}
 use Rattle.std.proofs.lemmas.Nat.{le-div}

@@ -1,6 +1,6 @@
 -- The texts of goals, one more; and that all of them with the items' lines are the certificate.
-use Rattle.std.proofs.Common.{◌≡◌, ◌∙◌, sym, ap, subst, refl, ℕ, suc, ◌+◌, List, ◌∷◌, ◌++◌, append_assoc, arith}
-use Rattle.std.specs.Prelude.{Option, Some, None, Result, Ok, Err}
+use Rattle.scop_syntax.proofs.Common.{◌≡◌, ◌∙◌, sym, ap, subst, refl, ℕ, suc, ◌+◌, List, ◌∷◌, ◌++◌, append_assoc, arith}
+use Rattle.scop_syntax.proofs.Common.{Option, Some, None, Result, Ok, Err}
 use Rattle.wide_math.specs.Gives.{Gives}
 use Rattle.scop_lexer.specs.Bytes.{Text}
 use Rattle.iteration_domains.specs.Dependence.{Dependence}

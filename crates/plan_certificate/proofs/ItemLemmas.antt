@@ -1,9 +1,7 @@
 -- The plan that items make one by one is that of their blocks.
-use Rattle.std.proofs.Common.{◌≡◌, ◌∙◌, sym, ap, ℕ, zero, suc, ◌+◌, ◌<◌, ◌≤◌, Bool}
-use Rattle.std.proofs.Common.{List, [], ◌∷◌, ◌++◌, map, length, drop, get_or, add-one, drop-cons, append_assoc}
-use Rattle.std.proofs.Common.{append-nil, arith, drop_of_length-le}
-use Rattle.std.specs.Prelude.{Some, slice_get}
-use Rattle.std.proofs.lemmas.Bool.{le-leb, lt-leb}
+use Rattle.scop_syntax.proofs.Common.{◌≡◌, ◌∙◌, sym, ap, ℕ, zero, suc, ◌+◌, ◌<◌, ◌≤◌, Bool, List, [], ◌∷◌, ◌++◌, map}
+use Rattle.scop_syntax.proofs.Common.{length, drop, get_or, add-one, drop-cons, append_assoc, append-nil, arith}
+use Rattle.scop_syntax.proofs.Common.{drop_of_length-le, Some, slice_get, le-leb, lt-leb}
 use Rattle.schedule_rows.specs.Items.{Marked, Block, scalar, band}
 use Rattle.schedule_rows.specs.Schedule as plain
 use Rattle.schedule_rows.specs.Schedule.{Item, items_of, bands_from, marks_of}

@@ -1,9 +1,8 @@
 -- Marks of lines from the last one on, and the new numbers of their rows.
-use Rattle.std.proofs.Common.{◌≡◌, ℕ, zero, suc, ◌+◌, ◌-◌, ◌<◌, ◌≤◌, Bool, true, false, List, [], ◌∷◌, ◌++◌, length, map}
-use Rattle.std.proofs.Common.{get_or, set, drop, drop-cons, add-one, replicate, refl, sym, ◌∙◌, ap, subst, arith}
-use Rattle.std.proofs.Common.{append_assoc, ◌⊎◌, inl, inr}
+use Rattle.scop_syntax.proofs.Common.{◌≡◌, ℕ, zero, suc, ◌+◌, ◌-◌, ◌<◌, ◌≤◌, Bool, true, false, List, [], ◌∷◌, ◌++◌}
+use Rattle.scop_syntax.proofs.Common.{length, map, get_or, set, drop, drop-cons, add-one, replicate, refl, sym, ◌∙◌, ap}
+use Rattle.scop_syntax.proofs.Common.{subst, arith, append_assoc, ◌⊎◌, inl, inr, if◌then◌else◌, nat_eq, nat_le}
 use Rattle.std.proofs.lemmas.List.{append-nil, length-append}
-use Rattle.std.specs.Prelude.{if◌then◌else◌, nat_eq, nat_le}
 use Rattle.plan_check.specs.Derivations.{Step, step_of, pruned, moved, renumbered}
 use Rattle.plan_check.specs.declared.lines.Line.{Line}
 use Rattle.plan_certificate.specs.Derivation.{marked_takes, needed}

@@ -1,10 +1,7 @@
 -- What a loop over moves keeps: what comes of the rest is what comes of all, and the rows grow.
-use Rattle.std.proofs.Common.{◌≡◌, ℕ, zero, suc, ◌+◌, ◌-◌, ◌<◌, Bool, true, false, List, [], ◌∷◌, ◌++◌, length, get_or, drop}
-use Rattle.std.proofs.Common.{drop-cons, add-one, refl, sym, ◌∙◌, ap, subst, arith, append_assoc, pos}
-use Rattle.std.specs.Prelude.{nat_le, if◌then◌else◌}
-use Rattle.std.proofs.lemmas.List.Elements.{All-append}
-use Rattle.whole_numbers.specs.Affine.{Affine, form_of}
-use Rattle.whole_numbers.specs.Content.{content}
+use Rattle.scop_syntax.proofs.Common.{◌≡◌, ℕ, zero, suc, ◌+◌, ◌-◌, ◌<◌, Bool, true, false, List, [], ◌∷◌, ◌++◌, length}
+use Rattle.scop_syntax.proofs.Common.{get_or, drop, drop-cons, add-one, refl, sym, ◌∙◌, ap, subst, arith, append_assoc}
+use Rattle.scop_syntax.proofs.Common.{pos, nat_le, if◌then◌else◌, All-append, Affine, form_of, content}
 use Rattle.affine_forms.specs.Parts.{variables_of}
 use Rattle.plan_certificate.specs.Derivation.{State, Outcome, goes, and_then, row_of, times, with_terms, divided_from}
 use Rattle.plan_certificate.specs.Derivation.{pair, pairs_with, pairs, eliminated, all_eliminated}

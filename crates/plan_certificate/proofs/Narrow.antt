@@ -1,12 +1,7 @@
 -- What holds of each item holds of the rows and scalars of its blocks, and what holds of each goal of any.
-use Rattle.std.proofs.Common.{◌≡◌, ◌∙◌, sym, subst, ap, ℕ, ◌^◌, List, [], ◌∷◌, map, inl, inr, arith}
-use Rattle.std.proofs.Common.{FitsSigned}
-use Rattle.std.specs.Prelude.{All, ℤ, pos, ◌<ℤ◌, IfOk, Result, Ok, Err}
-use Rattle.std.specs.Int.{w128}
-use Rattle.std.proofs.lemmas.Int.{ints}
-use Rattle.std.proofs.lemmas.List.Elements.{All-nil, All-cons, All-head, All-tail, All-append}
-use Rattle.whole_numbers.proofs.Entries.{all_front, all_back}
-use Rattle.scop_syntax.specs.Members.{In}
+use Rattle.scop_syntax.proofs.Common.{◌≡◌, ◌∙◌, sym, subst, ap, ℕ, ◌^◌, List, [], ◌∷◌, map, inl, inr, arith, FitsSigned}
+use Rattle.scop_syntax.proofs.Common.{All, ℤ, pos, ◌<ℤ◌, IfOk, Result, Ok, Err, w128, ints, All-nil, All-cons, All-head}
+use Rattle.scop_syntax.proofs.Common.{All-tail, All-append, all_front, all_back, In}
 use Rattle.iteration_domains.specs.Dependence.{Dependence}
 use Rattle.schedule_rows.specs.Items.{Block, Marked, scalar, band, band_rows, rows_in}
 use Rattle.schedule_rows.specs.Schedule as plain

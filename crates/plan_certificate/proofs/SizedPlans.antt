@@ -1,7 +1,6 @@
 -- The plan of a schedule's blocks has a form for each statement, and no number below 0.
-use Rattle.std.proofs.Common.{◌≡◌, ◌∙◌, ap, refl, ℕ, suc, List, [], ◌∷◌, map, length, arith}
-use Rattle.std.specs.Prelude.{ℤ, pos, ◌≤ℤ◌, All, slice_index_or}
-use Rattle.std.proofs.lemmas.List.Elements.{All-nil, All-cons, All-head, All-tail, All-append}
+use Rattle.scop_syntax.proofs.Common.{◌≡◌, ◌∙◌, ap, refl, ℕ, suc, List, [], ◌∷◌, map, length, arith, ℤ, pos, ◌≤ℤ◌, All}
+use Rattle.scop_syntax.proofs.Common.{slice_index_or, All-nil, All-cons, All-head, All-tail, All-append}
 use Rattle.affine_forms.specs.Parts.{variables_of}
 use Rattle.schedule_rows.specs.Unknowns.{Part}
 use Rattle.schedule_rows.specs.Items.{Row, Marked, Block, scalar, band}

@@ -1,6 +1,6 @@
 -- The texts of terms and of steps, one more.
-use Rattle.std.proofs.Common.{◌≡◌, ◌+◌, ◌<◌, ◌++◌, ℕ, List, refl, ap, ◌∙◌, add-one, drop-cons, drop, get_or, length, map}
-use Rattle.std.specs.Prelude.{codes}
+use Rattle.scop_syntax.proofs.Common.{◌≡◌, ◌+◌, ◌<◌, ◌++◌, ℕ, List, refl, ap, ◌∙◌, add-one, drop-cons, drop, get_or}
+use Rattle.scop_syntax.proofs.Common.{length, map, codes}
 use Rattle.scop_lexer.specs.Bytes.{Text}
 use Rattle.plan_check.specs.Derivations.{step_of}
 use Rattle.plan_check.specs.Printed.{step_text, terms_text}

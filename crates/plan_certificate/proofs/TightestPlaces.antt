@@ -1,7 +1,6 @@
 -- One place more among those of the tightest rows, by the place of the first whose row has the same coefficients.
-use Rattle.std.proofs.Common.{◌≡◌, ℕ, ◌<◌, ◌≤◌, Bool, true, false, List, [], ◌∷◌, ◌++◌, length, get_or, set}
-use Rattle.std.proofs.Common.{refl, ◌∙◌, ap, subst, arith}
-use Rattle.whole_numbers.specs.Affine.{Affine}
+use Rattle.scop_syntax.proofs.Common.{◌≡◌, ℕ, ◌<◌, ◌≤◌, Bool, true, false, List, [], ◌∷◌, ◌++◌, length, get_or, set}
+use Rattle.scop_syntax.proofs.Common.{refl, ◌∙◌, ap, subst, arith, Affine}
 use Rattle.fm_projection.specs.Tightest.{are_parallel}
 use Rattle.plan_certificate.specs.Derivation.{row_of, tighter, with_place}
 use Rattle.plan_certificate.specs.steps.Places.{parallel_place}

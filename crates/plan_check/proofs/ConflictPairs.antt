@@ -1,9 +1,7 @@
 -- Two conflicting places are a pair of a dependence between statements of the model.
-use Rattle.std.proofs.Common.{◌≡◌, ◌+◌, ℕ, zero, suc, ◌<◌, List, [], ◌∷◌, refl, sym, ◌∙◌, ap, arith, length, map, Some}
-use Rattle.std.proofs.Common.{All}
-use Rattle.std.specs.Prelude.{Option, slice_get, slice_index_or}
-use Rattle.std.proofs.lemmas.List.Elements.{All-nil, All-cons, All-head, All-tail}
-use Rattle.whole_numbers.specs.Affine.{Affine}
+use Rattle.scop_syntax.proofs.Common.{◌≡◌, ◌+◌, ℕ, zero, suc, ◌<◌, List, [], ◌∷◌, refl, sym, ◌∙◌, ap, arith, length}
+use Rattle.scop_syntax.proofs.Common.{map, Some, All, Option, slice_get, slice_index_or, All-nil, All-cons, All-head}
+use Rattle.scop_syntax.proofs.Common.{All-tail, Affine}
 use Rattle.iteration_domains.specs.Dependence.{Dependence}
 use Rattle.iteration_domains.specs.Model.{Modelled, KernelModel}
 use Rattle.conflict_deps.specs.Parts.{HasParts}

@@ -1,9 +1,8 @@
 -- Lines are rejected exactly at their first fault; its line is the next one, or the last one of a goal that is not proved.
-use Rattle.std.proofs.Common.{◌≡◌, ◌∙◌, ap, sym, subst, refl, inl, inr, ◌↔◌, ℕ, suc, ◌+◌, Bool, true, false, not, List, []}
-use Rattle.std.proofs.Common.{◌∷◌, ◌++◌, length, arith}
-use Rattle.std.specs.Prelude.{◌==◌, if◌then◌else◌, Option, Some, None, Result, Ok, Err}
+use Rattle.scop_syntax.proofs.Common.{◌≡◌, ◌∙◌, ap, sym, subst, refl, inl, inr, ◌↔◌, ℕ, suc, ◌+◌, Bool, true, false}
+use Rattle.scop_syntax.proofs.Common.{not, List, [], ◌∷◌, ◌++◌, length, arith, ◌==◌, if◌then◌else◌, Option, Some, None}
+use Rattle.scop_syntax.proofs.Common.{Result, Ok, Err, Program}
 use Rattle.scop_lexer.specs.Bytes.{Text}
-use Rattle.scop_syntax.specs.Tree.{Program}
 use Rattle.iteration_domains.specs.Model.{KernelModel, model_of}
 use Rattle.schedule_lines.specs.Lines.{Row, Scalar}
 use Rattle.plan_check.specs.FirstFaults.{AreTaken, IsAtLine, IsFirstFault, IsNextFault}

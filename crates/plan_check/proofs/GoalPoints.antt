@@ -1,20 +1,12 @@
 -- A conflicting pair is a whole point of a goal where its rows say so; goals without points keep rows in order.
-use Rattle.std.proofs.Common.{◌≡◌, ◌+◌, ℕ, zero, suc, ◌<◌, ◌≤◌, ℤ, pos, negsuc, neg_ℤ, ◌-ℤ◌}
-use Rattle.std.proofs.Common.{◌*ℤ◌, ◌≤ℤ◌, List, [], ◌∷◌, ◌++◌, length, set, get_or, All, refl, sym, ◌∙◌, ap}
-use Rattle.std.proofs.Common.{subst, arith, inl, inr}
-use Rattle.std.specs.List.{flat_map}
-use Rattle.std.proofs.lemmas.Int.{ints}
+use Rattle.scop_syntax.proofs.Common.{◌≡◌, ◌+◌, ℕ, zero, suc, ◌<◌, ◌≤◌, ℤ, pos, negsuc, neg_ℤ, ◌-ℤ◌, ◌*ℤ◌, ◌≤ℤ◌, List}
+use Rattle.scop_syntax.proofs.Common.{[], ◌∷◌, ◌++◌, length, set, get_or, All, refl, sym, ◌∙◌, ap, subst, arith, inl}
+use Rattle.scop_syntax.proofs.Common.{inr, flat_map, ints, All-nil, All-cons, All-append, All-push, All-head, All-tail}
+use Rattle.scop_syntax.proofs.Common.{get_or-append_seam, Affine, form_of, value_of, complement, dot, multiples, zeros}
+use Rattle.scop_syntax.proofs.Common.{dot-append, dot-multiples, dot-zeros, dot-set_left, length-multiples}
+use Rattle.scop_syntax.proofs.Common.{length-zeros, get_or-zeros, le_or_lt, value_of-complement, In}
 use Rattle.std.proofs.lemmas.List.{length-append, append_assoc}
-use Rattle.std.proofs.lemmas.List.Elements.{All-nil, All-cons, All-append, All-push, All-head, All-tail}
-use Rattle.std.proofs.Math.Seq.{get_or-append_seam}
-use Rattle.whole_numbers.specs.Affine.{Affine, form_of, value_of, complement}
-use Rattle.whole_numbers.specs.Lists.{dot, multiples, zeros}
-use Rattle.whole_numbers.proofs.Dot.{dot-append, dot-multiples, dot-zeros, dot-set_left, length-multiples}
-use Rattle.whole_numbers.proofs.Dot.{length-zeros, get_or-zeros}
-use Rattle.whole_numbers.proofs.Order.{le_or_lt}
-use Rattle.whole_numbers.proofs.Values.{value_of-complement}
 use Rattle.integer_sets.specs.Points.{Satisfies}
-use Rattle.scop_syntax.specs.Members.{In}
 use Rattle.iteration_domains.specs.Dependence.{Dependence}
 use Rattle.iteration_domains.specs.Restrictions.{equality_behind, row_behind}
 use Rattle.iteration_domains.specs.declared.dep.DepEnd.{DepEnd}

@@ -1,14 +1,9 @@
 -- The rows of a goal: over its variables, and not negative at its points.
-use Rattle.std.proofs.Common.{◌≡◌, ℕ, ℤ, pos, negsuc, ◌+ℤ◌, ◌≤ℤ◌, List, [], ◌∷◌, ◌++◌, All, ◌∙◌}
-use Rattle.std.proofs.Common.{zero, suc, ◌-ℤ◌, neg_ℤ, refl, sym, ap, ap₂, arith}
-use Rattle.whole_numbers.specs.Lists.{multiples, zeros}
-use Rattle.whole_numbers.proofs.Ring.{mul_zero_right}
-use Rattle.whole_numbers.proofs.Lists.{multiples-append, multiples-multiples, multiples-one}
-use Rattle.std.proofs.lemmas.Int.{ints}
-use Rattle.std.proofs.lemmas.List.Elements.{All-nil, All-cons, All-append, All-head, All-tail}
-use Rattle.whole_numbers.specs.Affine.{Affine, value_of, multiple_of_form, form_of, complement}
-use Rattle.whole_numbers.proofs.Dot.{length-multiples}
-use Rattle.whole_numbers.proofs.Values.{value_of-multiple}
+use Rattle.scop_syntax.proofs.Common.{◌≡◌, ℕ, ℤ, pos, negsuc, ◌+ℤ◌, ◌≤ℤ◌, List, [], ◌∷◌, ◌++◌, All, ◌∙◌, zero, suc}
+use Rattle.scop_syntax.proofs.Common.{◌-ℤ◌, neg_ℤ, refl, sym, ap, ap₂, arith, multiples, zeros, mul_zero_right}
+use Rattle.scop_syntax.proofs.Common.{multiples-append, multiples-multiples, multiples-one, ints, All-nil, All-cons}
+use Rattle.scop_syntax.proofs.Common.{All-append, All-head, All-tail, Affine, value_of, multiple_of_form, form_of}
+use Rattle.scop_syntax.proofs.Common.{complement, length-multiples, value_of-multiple}
 use Rattle.affine_forms.specs.Parts.{variables_of}
 use Rattle.integer_sets.specs.Points.{Satisfies}
 use Rattle.iteration_domains.specs.Dependence.{Dependence}

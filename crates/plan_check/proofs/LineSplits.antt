@@ -1,7 +1,6 @@
 -- The first line of a text, and those behind its line feed.
-use Rattle.std.proofs.Common.{◌≡◌, ◌∙◌, sym, ap, subst, ℕ, ◌+◌, ◌<◌, ◌≤◌, List, [], ◌∷◌, length, take, drop, arith}
-use Rattle.std.specs.List.{slice_split, position_or_len}
-use Rattle.std.proofs.lemmas.List.{length-drop, length-take-le}
+use Rattle.scop_syntax.proofs.Common.{◌≡◌, ◌∙◌, sym, ap, subst, ℕ, ◌+◌, ◌<◌, ◌≤◌, List, [], ◌∷◌, length, take, drop}
+use Rattle.scop_syntax.proofs.Common.{arith, slice_split, position_or_len, length-drop, length-take-le}
 use Rattle.scop_lexer.specs.Bytes.{Text}
 use Rattle.data_lines.proofs.PartLemmas.{first_part, parts_behind}
 use Rattle.plan_check.specs.Text.{is_line_feed, lines_of, without_end}

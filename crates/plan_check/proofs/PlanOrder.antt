@@ -1,20 +1,10 @@
 -- A pair that is a point of no goal of its dependence is in order under the plan's tiling.
-use Rattle.std.proofs.Common.{◌≡◌, ◌+◌, ℕ, zero, suc, ◌<◌, ◌≤◌, Bool, true, false, ℤ, pos, ◌+ℤ◌, ◌≤ℤ◌, ◌<ℤ◌}
-use Rattle.std.proofs.Common.{List, [], ◌∷◌, ◌++◌, length, map, All, refl, sym, ◌∙◌, ap, ap₂, subst, arith, ◌⊎◌}
-use Rattle.std.proofs.Common.{inl, inr}
-use Rattle.std.specs.Prelude.{if◌then◌else◌, nat_lt, not, slice_index_or, ⊤, ◌-◌}
-use Rattle.std.specs.List.{flat_map}
-use Rattle.std.proofs.lemmas.Int.{ints}
+use Rattle.scop_syntax.proofs.Common.{◌≡◌, ◌+◌, ℕ, zero, suc, ◌<◌, ◌≤◌, Bool, true, false, ℤ, pos, ◌+ℤ◌, ◌≤ℤ◌, ◌<ℤ◌}
+use Rattle.scop_syntax.proofs.Common.{List, [], ◌∷◌, ◌++◌, length, map, All, refl, sym, ◌∙◌, ap, ap₂, subst, arith, ◌⊎◌}
+use Rattle.scop_syntax.proofs.Common.{inl, inr, if◌then◌else◌, nat_lt, not, slice_index_or, ⊤, ◌-◌, flat_map, ints}
+use Rattle.scop_syntax.proofs.Common.{All-head, All-tail, value_of, complement, floor, zeros, LexLess, floor_is}
+use Rattle.scop_syntax.proofs.Common.{floor_at_least, le_or_lt, LexLess-front, LexLess-rest, Instance}
 use Rattle.std.proofs.lemmas.List.{length-append}
-use Rattle.std.proofs.lemmas.List.Elements.{All-head, All-tail}
-use Rattle.whole_numbers.specs.Affine.{value_of, complement}
-use Rattle.whole_numbers.specs.Floor.{floor}
-use Rattle.whole_numbers.specs.Lists.{zeros}
-use Rattle.whole_numbers.specs.Lexicographic.{LexLess}
-use Rattle.whole_numbers.proofs.Floors.{floor_is, floor_at_least}
-use Rattle.whole_numbers.proofs.Order.{le_or_lt}
-use Rattle.whole_numbers.proofs.Lexicographic.{LexLess-front, LexLess-rest}
-use Rattle.scop_syntax.specs.Walk.{Instance}
 use Rattle.iteration_domains.specs.Dependence.{Dependence}
 use Rattle.iteration_domains.specs.Restrictions.{equality_behind, row_behind}
 use Rattle.iteration_domains.specs.declared.dep.DepEnd.{DepEnd}

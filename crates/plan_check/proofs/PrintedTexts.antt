@@ -1,10 +1,10 @@
 -- Printed lines have no line feed, so with one behind it each is the first line of a text; goals and steps are read back.
-use Rattle.std.proofs.Common.{◌≡◌, ◌∙◌, ap, sym, refl, ℕ, zero, suc, ◌+◌, ◌<◌, ◌≤◌, Bool, true, false, not, ◌&&◌, List}
-use Rattle.std.proofs.Common.{[], ◌∷◌, ◌++◌, map, length, ne_eqb, append-nil, length-append, arith}
-use Rattle.std.specs.Prelude.{◌==◌, ◌≢◌, All, if◌then◌else◌, Some, None, codes}
+use Rattle.scop_syntax.proofs.Common.{◌≡◌, ◌∙◌, ap, sym, refl, ℕ, zero, suc, ◌+◌, ◌<◌, ◌≤◌, Bool, true, false, not}
+use Rattle.scop_syntax.proofs.Common.{◌&&◌, List, [], ◌∷◌, ◌++◌, map, length, append-nil, length-append, arith, ◌==◌}
+use Rattle.scop_syntax.proofs.Common.{◌≢◌, All, if◌then◌else◌, Some, None, codes, list_all, slice_split, and_parts}
+use Rattle.std.proofs.Common.{ne_eqb}
 use Rattle.std.specs.Int.Digits.{digits_of}
-use Rattle.std.specs.List.{list_all, onto_first, slice_split}
-use Rattle.std.proofs.lemmas.Bool.{and_parts}
+use Rattle.std.specs.List.{onto_first}
 use Rattle.std.proofs.lemmas.List.{append_assoc}
 use Rattle.scop_lexer.specs.Bytes.{Text}
 use Rattle.form_text.specs.Reading.{strip, when}

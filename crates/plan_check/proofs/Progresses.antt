@@ -1,9 +1,7 @@
 -- What is known of a plan's goals while a certificate's lines are read.
-use Rattle.std.proofs.Common.{◌≡◌, ℕ, pos, ◌≤ℤ◌, List, [], ◌∷◌, ◌++◌, Bool, true, false, Result, Ok, Err, All, refl}
-use Rattle.std.proofs.Common.{sym, ◌∙◌, ap, ap₂, subst, append_assoc, negsuc}
-use Rattle.std.specs.Prelude.{slice_index_or}
-use Rattle.std.proofs.lemmas.List.Elements.{All-nil, All-cons, All-append}
-use Rattle.whole_numbers.specs.Affine.{Affine, value_of, multiple_of_form}
+use Rattle.scop_syntax.proofs.Common.{◌≡◌, ℕ, pos, ◌≤ℤ◌, List, [], ◌∷◌, ◌++◌, Bool, true, false, Result, Ok, Err, All}
+use Rattle.scop_syntax.proofs.Common.{refl, sym, ◌∙◌, ap, ap₂, subst, append_assoc, negsuc, slice_index_or, All-nil}
+use Rattle.scop_syntax.proofs.Common.{All-cons, All-append, Affine, value_of, multiple_of_form}
 use Rattle.wide_math.specs.declared.Wide.{Wide}
 use Rattle.wide_math.specs.Checked.{◌>>=◌}
 use Rattle.affine_forms.specs.Parts.{variables_of}

@@ -1,10 +1,9 @@
 -- A derivation without the lines that nothing needs.
-use Rattle.std.proofs.Common.{◌≡◌, ℕ, zero, suc, ◌<◌, Bool, true, false, ℤ, pos, List, [], ◌∷◌, ◌++◌, length}
-use Rattle.std.proofs.Common.{map, All, refl, sym, ◌∙◌, ap, ap₂, subst, arith, ◌⊎◌, inl, inr}
-use Rattle.std.specs.Prelude.{Option, Some, None, Result, Ok, Err, if◌then◌else◌, nat_eq, nat_lt}
+use Rattle.scop_syntax.proofs.Common.{◌≡◌, ℕ, zero, suc, ◌<◌, Bool, true, false, ℤ, pos, List, [], ◌∷◌, ◌++◌, length}
+use Rattle.scop_syntax.proofs.Common.{map, All, refl, sym, ◌∙◌, ap, ap₂, subst, arith, ◌⊎◌, inl, inr, Option, Some}
+use Rattle.scop_syntax.proofs.Common.{None, Result, Ok, Err, if◌then◌else◌, nat_eq, nat_lt, All-head, All-tail, Affine}
+use Rattle.scop_syntax.proofs.Common.{form_of}
 use Rattle.std.proofs.lemmas.List.{length-append}
-use Rattle.std.proofs.lemmas.List.Elements.{All-head, All-tail}
-use Rattle.whole_numbers.specs.Affine.{Affine, form_of}
 use Rattle.affine_forms.specs.Runs.{compose_run}
 use Rattle.plan_check.specs.declared.lines.Term.{Term}
 use Rattle.plan_check.specs.declared.lines.Fault.{Fault}

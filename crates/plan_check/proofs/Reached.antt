@@ -1,9 +1,7 @@
 -- How far the judge of a text has come, line by line.
-use Rattle.std.proofs.Common.{◌≡◌, ◌∙◌, ap, sym, refl, subst, ℕ, suc, ◌+◌, ◌<◌, ◌≤◌, Bool, true, false, [], ◌∷◌, length, take, drop}
-use Rattle.std.proofs.Common.{arith}
-use Rattle.std.specs.Prelude.{not, if◌then◌else◌, Option, Some, None, Result, Ok, Err}
-use Rattle.std.specs.List.{position_or_len}
-use Rattle.std.proofs.lemmas.List.{length-drop}
+use Rattle.scop_syntax.proofs.Common.{◌≡◌, ◌∙◌, ap, sym, refl, subst, ℕ, suc, ◌+◌, ◌<◌, ◌≤◌, Bool, true, false, [], ◌∷◌}
+use Rattle.scop_syntax.proofs.Common.{length, take, drop, arith, not, if◌then◌else◌, Option, Some, None, Result, Ok}
+use Rattle.scop_syntax.proofs.Common.{Err, position_or_len, length-drop}
 use Rattle.wide_math.specs.Gives.{IsTold}
 use Rattle.scop_lexer.specs.Bytes.{Text}
 use Rattle.iteration_domains.specs.Model.{KernelModel}

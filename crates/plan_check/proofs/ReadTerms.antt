@@ -1,7 +1,6 @@
 -- Terms that are read one by one.
-use Rattle.std.proofs.Common.{◌≡◌, ◌∙◌, ap, sym, ℕ, ◌+◌, ◌-◌, ◌<◌, ◌≤◌, List, [], ◌∷◌, ◌++◌, length}
-use Rattle.std.proofs.Common.{arith}
-use Rattle.std.specs.Prelude.{Option, Some, None}
+use Rattle.scop_syntax.proofs.Common.{◌≡◌, ◌∙◌, ap, sym, ℕ, ◌+◌, ◌-◌, ◌<◌, ◌≤◌, List, [], ◌∷◌, ◌++◌, length, arith}
+use Rattle.scop_syntax.proofs.Common.{Option, Some, None}
 use Rattle.scop_lexer.specs.Bytes.{Text}
 use Rattle.form_text.specs.Reading.{when}
 use Rattle.schedule_lines.specs.Reading.{with_first}

@@ -1,12 +1,10 @@
 -- Lines of a certificate that are read are printed ones.
-use Rattle.std.proofs.Common.{◌≡◌, ◌∙◌, ap, ap₂, sym, subst, refl, inl, inr, ◌⊎◌, ℕ, zero, suc, ◌≤◌, Bool, true, false}
-use Rattle.std.proofs.Common.{List, [], ◌∷◌, ◌++◌, map, length, append-nil, arith}
-use Rattle.std.specs.Prelude.{◌==◌, ◌≢◌, All, if◌then◌else◌, Option, Some, None, codes}
-use Rattle.std.specs.Option.{option_map}
+use Rattle.scop_syntax.proofs.Common.{◌≡◌, ◌∙◌, ap, ap₂, sym, subst, refl, inl, inr, ◌⊎◌, ℕ, zero, suc, ◌≤◌, Bool, true}
+use Rattle.scop_syntax.proofs.Common.{false, List, [], ◌∷◌, ◌++◌, map, length, append-nil, arith, ◌==◌, ◌≢◌, All}
+use Rattle.scop_syntax.proofs.Common.{if◌then◌else◌, Option, Some, None, codes, option_map, All-cons, All-nil}
+use Rattle.scop_syntax.proofs.Common.{none-some, same_Some}
 use Rattle.std.proofs.lemmas.Bool.{true≢false}
 use Rattle.std.proofs.lemmas.List.{append_assoc}
-use Rattle.std.proofs.lemmas.List.Elements.{All-cons, All-nil}
-use Rattle.std.proofs.lemmas.Option.{none-some, same_Some}
 use Rattle.scop_lexer.specs.Bytes.{Text}
 use Rattle.form_text.specs.Reading.{strip, when}
 use Rattle.form_text.specs.View.{saturated}

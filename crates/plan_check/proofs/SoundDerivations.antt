@@ -1,16 +1,11 @@
 -- A derivation that ends in a contradiction shows that its rows have no whole point.
-use Rattle.std.proofs.Common.{◌≡◌, ℕ, zero, suc, Bool, true, false, ℤ, pos, negsuc, ◌*ℤ◌, neg_ℤ}
-use Rattle.std.proofs.Common.{◌≤ℤ◌, ◌<ℤ◌, List, [], ◌∷◌, ◌++◌, length, All, refl, sym, ◌∙◌, ap, subst, arith}
-use Rattle.std.specs.Prelude.{Option, Some, None, Result, Ok, Err, if◌then◌else◌}
-use Rattle.std.proofs.lemmas.Int.{ints}
-use Rattle.std.proofs.lemmas.List.Elements.{All-nil, All-cons, All-append, All-head, All-tail}
-use Rattle.whole_numbers.specs.Affine.{Affine, form_of, value_of, values_of}
-use Rattle.whole_numbers.specs.Floor.{floor, floors, remainder}
-use Rattle.whole_numbers.specs.Lists.{dot}
-use Rattle.whole_numbers.proofs.Floors.{floor_is, floor_at_least}
-use Rattle.whole_numbers.proofs.Ring.{mul_distrib_left, mul_assoc_int, mul_neg_left, mul_comm_int, mul_zero_left}
-use Rattle.whole_numbers.proofs.Order.{mul_not_negative}
-use Rattle.whole_numbers.proofs.Values.{value_of-composed}
+use Rattle.scop_syntax.proofs.Common.{◌≡◌, ℕ, zero, suc, Bool, true, false, ℤ, pos, negsuc, ◌*ℤ◌, neg_ℤ, ◌≤ℤ◌, ◌<ℤ◌}
+use Rattle.scop_syntax.proofs.Common.{List, [], ◌∷◌, ◌++◌, length, All, refl, sym, ◌∙◌, ap, subst, arith, Option, Some}
+use Rattle.scop_syntax.proofs.Common.{None, Result, Ok, Err, if◌then◌else◌, ints, All-nil, All-cons, All-append}
+use Rattle.scop_syntax.proofs.Common.{All-head, All-tail, Affine, form_of, value_of, values_of, floor, remainder, dot}
+use Rattle.scop_syntax.proofs.Common.{floor_is, floor_at_least, mul_distrib_left, mul_assoc_int, mul_neg_left}
+use Rattle.scop_syntax.proofs.Common.{mul_comm_int, mul_zero_left, mul_not_negative, value_of-composed}
+use Rattle.whole_numbers.specs.Floor.{floors}
 use Rattle.wide_math.specs.declared.Wide.{Wide}
 use Rattle.affine_forms.specs.Parts.{variables_of}
 use Rattle.affine_forms.specs.Runs.{compose_run}

@@ -1,12 +1,9 @@
 -- Stages go from line to line: items suit the kernel and their numbers are not negative, goals stay those of the plan.
-use Rattle.std.proofs.Common.{◌⊎◌, inl, inr, ◌≡◌, ◌∙◌, ap, sym, refl, subst, ℕ, suc, ◌≤◌, Bool, true, false, List, [], ◌∷◌, ◌++◌, length, map, arith}
-use Rattle.std.specs.Prelude.{◌==◌, ◌≤ℤ◌, not, if◌then◌else◌, pos, Option, Some, None, Result, Ok, Err}
+use Rattle.scop_syntax.proofs.Common.{◌⊎◌, inl, inr, ◌≡◌, ◌∙◌, ap, sym, refl, subst, ℕ, suc, ◌≤◌, Bool, true, false}
+use Rattle.scop_syntax.proofs.Common.{List, [], ◌∷◌, ◌++◌, length, map, arith, ◌==◌, ◌≤ℤ◌, not, if◌then◌else◌, pos}
+use Rattle.scop_syntax.proofs.Common.{Option, Some, None, Result, Ok, Err, option_map, ints, length-map, All-nil}
+use Rattle.scop_syntax.proofs.Common.{All-map, All-push, Affine}
 use Rattle.std.specs.List.{slice_index_or}
-use Rattle.std.specs.Option.{option_map}
-use Rattle.std.proofs.lemmas.Int.{ints}
-use Rattle.std.proofs.lemmas.List.{length-map}
-use Rattle.std.proofs.lemmas.List.Elements.{All-nil, All-map, All-push}
-use Rattle.whole_numbers.specs.Affine.{Affine}
 use Rattle.affine_forms.specs.Parts.{variables_of}
 use Rattle.scop_lexer.specs.Bytes.{Text}
 use Rattle.iteration_domains.specs.Dependence.{Dependence}

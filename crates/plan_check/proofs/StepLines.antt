@@ -1,13 +1,8 @@
 -- The numbers of a step that was read are at least 1.
-use Rattle.std.proofs.Common.{◌≡◌, sym, refl, subst, ℕ, zero, suc, ◌≤◌, Bool, true, false, List, [], ◌∷◌, length}
-use Rattle.std.proofs.Common.{arith}
-use Rattle.std.specs.Prelude.{◌==◌, ◌≤ℤ◌, if◌then◌else◌, pos, Option, Some, None, All, codes}
+use Rattle.scop_syntax.proofs.Common.{◌≡◌, sym, refl, subst, ℕ, zero, suc, ◌≤◌, Bool, true, false, List, [], ◌∷◌}
+use Rattle.scop_syntax.proofs.Common.{length, arith, ◌==◌, ◌≤ℤ◌, if◌then◌else◌, pos, Option, Some, None, All, codes}
+use Rattle.scop_syntax.proofs.Common.{option_map, false≢true, ints, All-nil, All-cons, All-map, none-some, same_Some}
 use Rattle.std.specs.List.{slice_index_or}
-use Rattle.std.specs.Option.{option_map}
-use Rattle.std.proofs.lemmas.Bool.{false≢true}
-use Rattle.std.proofs.lemmas.Int.{ints}
-use Rattle.std.proofs.lemmas.List.Elements.{All-nil, All-cons, All-map}
-use Rattle.std.proofs.lemmas.Option.{none-some, same_Some}
 use Rattle.scop_lexer.specs.Bytes.{Text}
 use Rattle.form_text.specs.Reading.{strip}
 use Rattle.schedule_lines.specs.Lines.{Row, Scalar}

@@ -1,23 +1,18 @@
 -- The goals of a dependence from each place on, and what a plan's rows are over.
-use Rattle.std.proofs.Common.{◌≡◌, ◌+◌, ℕ, zero, suc, ◌<◌, ◌≤◌, pos, negsuc, Bool, true, false, List, [], ◌∷◌, ◌++◌}
-use Rattle.std.proofs.Common.{inl, inr, All, Some, None, drop, length, map, refl, sym, ◌∙◌, ap, ap₂, subst, arith, append_assoc}
-use Rattle.std.specs.Prelude.{IfOk, Option, Result, ◌-◌, if◌then◌else◌, nat_lt, option_map, set, slice_get}
-use Rattle.std.specs.List.{flat_map}
+use Rattle.scop_syntax.proofs.Common.{◌≡◌, ◌+◌, ℕ, zero, suc, ◌<◌, ◌≤◌, pos, negsuc, Bool, true, false, List, [], ◌∷◌}
+use Rattle.scop_syntax.proofs.Common.{◌++◌, inl, inr, All, Some, None, drop, length, map, refl, sym, ◌∙◌, ap, ap₂}
+use Rattle.scop_syntax.proofs.Common.{subst, arith, append_assoc, IfOk, Option, Result, ◌-◌, if◌then◌else◌, nat_lt, set}
+use Rattle.scop_syntax.proofs.Common.{slice_get, flat_map, length-map, All-nil, All-cons, All-head, All-tail}
+use Rattle.scop_syntax.proofs.Common.{AllocError, slice_get-map, slice_get_past, IfOk-weaker, Affine, complement}
+use Rattle.scop_syntax.proofs.Common.{form_of, multiples, zeros, length-multiples, length-zeros, In}
+use Rattle.std.specs.Prelude.{option_map}
 use Rattle.std.proofs.Common.{length-set}
-use Rattle.std.proofs.lemmas.List.{length-append, length-map}
-use Rattle.std.proofs.lemmas.List.Elements.{All-nil, All-cons, All-head, All-tail}
-use Rattle.std.specs.declared.alloc.AllocError.{AllocError}
-use Rattle.std.proofs.lemmas.Option.{slice_get-map, slice_get_past}
-use Rattle.std.proofs.lemmas.Result.{IfOk-weaker}
-use Rattle.whole_numbers.specs.Affine.{Affine, complement, form_of}
-use Rattle.whole_numbers.specs.Lists.{multiples, zeros}
-use Rattle.whole_numbers.proofs.Dot.{length-multiples, length-zeros}
+use Rattle.std.proofs.lemmas.List.{length-append}
 use Rattle.affine_forms.specs.Parts.{variables_of}
 use Rattle.integer_sets.specs.Constraints.{variables_in}
 use Rattle.iteration_domains.specs.Dependence.{Dependence}
 use Rattle.iteration_domains.specs.Model.{KernelModel}
 use Rattle.iteration_domains.specs.Restrictions.{equality_behind, row_behind}
-use Rattle.scop_syntax.specs.Members.{In}
 use Rattle.conflict_deps.specs.Conflicts.{conflicts_of}
 use Rattle.conflict_deps.specs.Parts.{HasParts}
 use Rattle.plan_check.specs.Goals.{above, bounded, difference, goals_of, later_goals, leading_goals, loops_in, restricted}

@@ -1,6 +1,5 @@
 -- Dependences that lie between statements of a model are such as a search asks for, and of the sizes of its loops.
-use Rattle.std.proofs.Common.{◌∙◌, sym, List}
-use Rattle.scop_syntax.specs.Members.{In}
+use Rattle.scop_syntax.proofs.Common.{◌∙◌, sym, List, In}
 use Rattle.iteration_domains.specs.Dependence.{Dependence}
 use Rattle.iteration_domains.specs.Model.{KernelModel}
 use Rattle.pluto_search.specs.Next.{IsSizedDep}

@@ -1,6 +1,6 @@
 -- From what certifying answers to the text that is printed.
-use Rattle.std.proofs.Common.{◌≡◌, ◌∙◌, sym, subst, ap, refl, inl, inr, ℕ, true, List, [], Option, Result, Ok, Err}
-use Rattle.scop_syntax.specs.Tree.{Program}
+use Rattle.scop_syntax.proofs.Common.{◌≡◌, ◌∙◌, sym, subst, ap, refl, inl, inr, ℕ, true, List, [], Option, Result, Ok}
+use Rattle.scop_syntax.proofs.Common.{Err, Program}
 use Rattle.iteration_domains.specs.Dependence.{Dependence}
 use Rattle.iteration_domains.specs.Model.{KernelModel, model_of}
 use Rattle.pluto_search.specs.Schedule.{Scheduled, loops_in}

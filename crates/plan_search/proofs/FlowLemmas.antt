@@ -1,10 +1,6 @@
 -- A plan over the reads with their last writers is one for runs in which each instance has a copy of its own.
-use Rattle.std.proofs.Common.{◌≡◌, ◌⊎◌, sym, subst, inl, inr, refl, ℕ, ◌≤◌, ◌<◌, ℤ, Bool, true, false, List, [], All}
-use Rattle.std.proofs.Common.{map}
-use Rattle.scop_syntax.specs.Kernel.{IsKernel}
-use Rattle.scop_syntax.specs.Limits.{HasParameters}
-use Rattle.scop_syntax.specs.Members.{In}
-use Rattle.scop_syntax.specs.Tree.{Program}
+use Rattle.scop_syntax.proofs.Common.{◌≡◌, ◌⊎◌, sym, subst, inl, inr, refl, ℕ, ◌≤◌, ◌<◌, ℤ, Bool, true, false, List, []}
+use Rattle.scop_syntax.proofs.Common.{All, map, IsKernel, HasParameters, In, Program}
 use Rattle.iteration_domains.specs.Dependence.{Dependence}
 use Rattle.iteration_domains.specs.Held.{HoldSources}
 use Rattle.iteration_domains.specs.Model.{KernelModel, model_of}

@@ -1,8 +1,6 @@
 -- What a search over a model's dependences comes to: a schedule for each program of the model, with its text, or a
 -- cause that keeps the order.
-use Rattle.std.proofs.Common.{◌≡◌, ◌∙◌, sym, subst, ℕ, List, Option, Ok}
-use Rattle.scop_syntax.specs.Members.{In}
-use Rattle.scop_syntax.specs.Tree.{Program}
+use Rattle.scop_syntax.proofs.Common.{◌≡◌, ◌∙◌, sym, subst, ℕ, List, Option, Ok, In, Program}
 use Rattle.iteration_domains.specs.Dependence.{Dependence}
 use Rattle.iteration_domains.specs.Model.{KernelModel, model_of}
 use Rattle.pluto_search.specs.Items.{Block}

@@ -1,5 +1,5 @@
 -- From what a search answers to the text that is printed.
-use Rattle.std.proofs.Common.{◌≡◌, inl, inr, subst, ℕ, List, [], Option}
+use Rattle.scop_syntax.proofs.Common.{◌≡◌, inl, inr, subst, ℕ, List, [], Option}
 use Rattle.iteration_domains.specs.Dependence.{Dependence}
 use Rattle.iteration_domains.specs.Model.{KernelModel}
 use Rattle.dataflow.specs.Covering.{covers_of}

@@ -1,7 +1,6 @@
 -- Parallel loops of a tree are free of conflicts where no visits conflict whose values part at a marked loop.
-use Rattle.std.proofs.Common.{Bool, ℤ, List, [], ◌∷◌, ◌++◌, map, inl, inr, sym, ◌∙◌, refl}
-use Rattle.scop_syntax.specs.Walk.{Instance}
-use Rattle.scop_syntax.proofs.Members.{in_map, in_if, in_front, in_back}
+use Rattle.scop_syntax.proofs.Common.{Bool, ℤ, List, [], ◌∷◌, ◌++◌, map, inl, inr, sym, ◌∙◌, refl, Instance, in_map}
+use Rattle.scop_syntax.proofs.Common.{in_if, in_front, in_back}
 use Rattle.loop_tree.specs.Tree.{Tree, loop, guard, instance, Trees, none, more}
 use Rattle.loop_tree.specs.Walk.{Visit, lower, upper, all_hold, through, walk, walk_all}
 use Rattle.loop_tree.specs.Marks.{Marks, MarksAll}

@@ -1,20 +1,12 @@
 -- A tree that scans a schedule's sets visits each walked instance once, in the tiling's order.
-use Rattle.std.proofs.Common.{◌≡◌, ℕ, ◌+◌, ◌-◌, ◌<◌, ◌≤◌, ℤ, pos, List, [], ◌∷◌, ◌++◌, refl, sym, ◌∙◌, ap, ap₂}
-use Rattle.std.proofs.Common.{subst, arith, length, map, take, drop, inl, inr}
-use Rattle.std.proofs.Math.Seq.{drop-append_seam, take-append_seam}
-use Rattle.std.proofs.lemmas.List.{length-append, length-map}
-use Rattle.whole_numbers.specs.Affine.{value_of}
-use Rattle.whole_numbers.specs.Floor.{floor}
-use Rattle.whole_numbers.specs.Lexicographic.{LexLess}
-use Rattle.whole_numbers.specs.Lists.{zeros}
-use Rattle.whole_numbers.proofs.Dot.{length-zeros}
+use Rattle.scop_syntax.proofs.Common.{◌≡◌, ℕ, ◌+◌, ◌-◌, ◌<◌, ◌≤◌, ℤ, pos, List, [], ◌∷◌, ◌++◌, refl, sym, ◌∙◌, ap, ap₂}
+use Rattle.scop_syntax.proofs.Common.{subst, arith, length, map, take, drop, inl, inr, drop-append_seam}
+use Rattle.scop_syntax.proofs.Common.{take-append_seam, length-map, value_of, floor, LexLess, zeros, length-zeros, In}
+use Rattle.scop_syntax.proofs.Common.{Sorted, Program, Instance, instance, walk_of, in_map, in_map_from, one_instance}
+use Rattle.std.proofs.lemmas.List.{length-append}
 use Rattle.integer_sets.specs.Points.{Satisfies}
 use Rattle.integer_sets.specs.Scanned.{Scanned, iterators_at}
-use Rattle.scop_syntax.specs.Members.{In, Sorted}
-use Rattle.scop_syntax.specs.Tree.{Program}
-use Rattle.scop_syntax.specs.Walk.{Instance, instance, Visit as Walked, walk_of}
-use Rattle.scop_syntax.proofs.Members.{in_map, in_map_from}
-use Rattle.scop_syntax.proofs.Statements.{one_instance}
+use Rattle.scop_syntax.specs.Walk.{Visit as Walked}
 use Rattle.iteration_domains.specs.Instances.{IsInstanceOf}
 use Rattle.iteration_domains.specs.Model.{Modelled, model_of}
 use Rattle.loop_tree.specs.Plans.{AreInOrder, Precedes, walked}

@@ -1,24 +1,12 @@
 -- A schedule of dependences that hold the reads with their last writers: but for all arrays it is one of dependences
 -- that hold the covers, and its tiling is a flow plan.
-use Rattle.std.proofs.Common.{◌≡◌, ◌∙◌, sym, ap, subst, inl, inr, arith, ℕ, zero, suc, ◌+◌, ◌≤◌, ◌<◌, Bool}
-use Rattle.std.proofs.Common.{true, false, ℤ, List, refl, length}
-use Rattle.std.specs.Prelude.{nat_eq, if◌then◌else◌, slice_get}
-use Rattle.std.specs.List.{range_with_len}
-use Rattle.std.proofs.lemmas.Bool.{eqb-false}
-use Rattle.std.proofs.lemmas.List.{length-map}
-use Rattle.scop_syntax.specs.Cells.{Cell, written}
+use Rattle.scop_syntax.proofs.Common.{◌≡◌, ◌∙◌, sym, ap, subst, inl, inr, arith, ℕ, zero, suc, ◌+◌, ◌≤◌, ◌<◌, Bool}
+use Rattle.scop_syntax.proofs.Common.{true, false, ℤ, List, refl, length, nat_eq, if◌then◌else◌, slice_get}
+use Rattle.scop_syntax.proofs.Common.{range_with_len, eqb-false, length-map, Cell, written, layout, IsKernel}
+use Rattle.scop_syntax.proofs.Common.{HasParameters, In, is_marked, Program, Visit, walk_of, writes, in_from_place}
+use Rattle.scop_syntax.proofs.Common.{nat_cases, last_is, next_is, writer_of}
 use Rattle.scop_syntax.specs.Covers.{CoverBy}
-use Rattle.scop_syntax.specs.Execution.{layout}
 use Rattle.scop_syntax.specs.Failures.{VisitsAreRanked}
-use Rattle.scop_syntax.specs.Kernel.{IsKernel}
-use Rattle.scop_syntax.specs.Limits.{HasParameters}
-use Rattle.scop_syntax.specs.Members.{In}
-use Rattle.scop_syntax.specs.Reductions.{is_marked}
-use Rattle.scop_syntax.specs.Tree.{Program}
-use Rattle.scop_syntax.specs.Walk.{Visit, walk_of}
-use Rattle.scop_syntax.specs.Writers.{writes}
-use Rattle.scop_syntax.proofs.Members.{in_from_place, nat_cases}
-use Rattle.scop_syntax.proofs.Writers.{last_is, next_is, writer_of}
 use Rattle.iteration_domains.specs.Dependence.{Dependence}
 use Rattle.iteration_domains.specs.Held.{HoldCovers, HoldSources}
 use Rattle.iteration_domains.specs.Model.{KernelModel, model_of}

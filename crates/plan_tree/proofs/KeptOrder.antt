@@ -1,9 +1,6 @@
 -- The source's own tree is one of the kept order.
-use Rattle.std.proofs.Common.{◌≡◌, ◌^◌, ℕ, ℤ, List, [], length, map, subst, sym, arith}
-use Rattle.scop_syntax.specs.Kernel.{IsKernel}
-use Rattle.scop_syntax.specs.Limits.{HasParameters}
-use Rattle.scop_syntax.specs.Tree.{Program}
-use Rattle.scop_syntax.specs.Walk.{instance, walk_of}
+use Rattle.scop_syntax.proofs.Common.{◌≡◌, ◌^◌, ℕ, ℤ, List, [], length, map, subst, sym, arith, IsKernel, HasParameters}
+use Rattle.scop_syntax.proofs.Common.{Program, instance, walk_of}
 use Rattle.loop_tree.specs.Conditions.{CanWalk}
 use Rattle.loop_tree.specs.Marks.{FlatAll}
 use Rattle.loop_tree.specs.Plans.{Conflict}

@@ -1,9 +1,7 @@
 -- One marked place of so many, or none: where values part, which loops are parallel.
-use Rattle.std.proofs.Common.{◌≡◌, ℕ, zero, suc, ◌+◌, ◌<◌, ◌≤◌, Bool, true, false, ℤ, List, [], ◌∷◌, ◌++◌, length}
-use Rattle.std.proofs.Common.{inl, inr, ap, ap₂, ◌∙◌, refl, arith}
-use Rattle.std.specs.Prelude.{eqb, ◌<ℤ◌, Option, Some, None, if◌then◌else◌}
-use Rattle.std.specs.Option.{option_eq}
-use Rattle.std.proofs.lemmas.Bool.{eqb-true, eq-eqb, false_from_ne_true}
+use Rattle.scop_syntax.proofs.Common.{◌≡◌, ℕ, zero, suc, ◌+◌, ◌<◌, ◌≤◌, Bool, true, false, ℤ, List, [], ◌∷◌, ◌++◌}
+use Rattle.scop_syntax.proofs.Common.{length, inl, inr, ap, ap₂, ◌∙◌, refl, arith, eqb, ◌<ℤ◌, Option, Some, None}
+use Rattle.scop_syntax.proofs.Common.{if◌then◌else◌, option_eq, eqb-true, eq-eqb, false_from_ne_true}
 use Rattle.loop_tree.specs.Tree.{Tree, loop, guard, instance, Trees, none, more}
 use Rattle.loop_tree.specs.Marks.{Marks, MarksAll, marked}
 use Rattle.loop_tree.specs.Shape.{IsSerial, AreSerial}

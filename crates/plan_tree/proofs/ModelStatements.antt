@@ -1,11 +1,6 @@
 -- The statements of a kernel's model: each by its number, with at most five loops.
-use Rattle.std.proofs.Common.{◌≡◌, ◌<◌, ◌≤◌, sym, ◌∙◌, ap, subst, arith, length}
-use Rattle.std.proofs.lemmas.List.{length-map}
-use Rattle.std.proofs.lemmas.Option.{slice_get_within}
-use Rattle.scop_syntax.specs.Members.{In}
-use Rattle.scop_syntax.specs.Statements.{Placed, loops_in, statements_of}
-use Rattle.scop_syntax.specs.Tree.{Program}
-use Rattle.scop_syntax.proofs.Members.{in_map_from, place_of}
+use Rattle.scop_syntax.proofs.Common.{◌≡◌, ◌<◌, ◌≤◌, sym, ◌∙◌, ap, subst, arith, length, length-map, slice_get_within}
+use Rattle.scop_syntax.proofs.Common.{In, Placed, loops_in, statements_of, Program, in_map_from, place_of}
 use Rattle.scop_syntax.proofs.Statements.{placed_number}
 use Rattle.iteration_domains.specs.Model.{Modelled, model_of, modelled}
 

@@ -1,8 +1,7 @@
 -- As many loops of the source's tree stand in one another as of the kernel.
-use Rattle.std.proofs.Common.{◌≡◌, ℕ, zero, suc, ◌+◌, ◌-◌, List, [], length, subst, arith}
-use Rattle.scop_syntax.specs.Kernel.{IsKernel, IsTree, AreTrees, ranks_of}
-use Rattle.scop_syntax.specs.Tree.{Tree, loop, guard, statement, Trees, none, more, Program}
-use Rattle.scop_syntax.specs.Walk.{statements_in}
+use Rattle.scop_syntax.proofs.Common.{◌≡◌, ℕ, zero, suc, ◌+◌, ◌-◌, List, [], length, subst, arith, IsKernel, IsTree}
+use Rattle.scop_syntax.proofs.Common.{AreTrees, ranks_of, Tree, loop, guard, statement, Trees, none, more, Program}
+use Rattle.scop_syntax.proofs.Common.{statements_in}
 use Rattle.iteration_domains.specs.Path.{Path, path_at}
 use Rattle.loop_tree.specs.Shape.{NestsTo, NestAllTo}
 use Rattle.loop_tree.specs.Source.{in_loop, in_guard, source, sources, source_of}

@@ -1,12 +1,8 @@
 -- The parallel loops of a tree that scans a schedule's sets: free of conflicts, over the first tile coordinate.
-use Rattle.std.proofs.Common.{◌≡◌, ℕ, zero, ◌+◌, ◌<◌, ◌≤◌, Bool, true, false, ℤ, pos, List, [], ◌∷◌, length, inl}
-use Rattle.std.proofs.Common.{ap, subst, sym, ◌∙◌, refl, arith}
-use Rattle.std.specs.Prelude.{Option, None, if◌then◌else◌}
+use Rattle.scop_syntax.proofs.Common.{◌≡◌, ℕ, zero, ◌+◌, ◌<◌, ◌≤◌, Bool, true, false, ℤ, pos, List, [], ◌∷◌, length}
+use Rattle.scop_syntax.proofs.Common.{inl, ap, subst, sym, ◌∙◌, refl, arith, Option, None, if◌then◌else◌, In, Program}
+use Rattle.scop_syntax.proofs.Common.{Instance, in_map_from}
 use Rattle.integer_sets.specs.Scanned.{Scanned}
-use Rattle.scop_syntax.specs.Members.{In}
-use Rattle.scop_syntax.specs.Tree.{Program}
-use Rattle.scop_syntax.specs.Walk.{Instance}
-use Rattle.scop_syntax.proofs.Members.{in_map_from}
 use Rattle.iteration_domains.specs.Model.{Modelled, model_of}
 use Rattle.loop_tree.specs.Marks.{MarksAll, marked}
 use Rattle.loop_tree.specs.Plans.{AreFree, AreMarked, Conflict, first_coordinate, has_row, has_rows}

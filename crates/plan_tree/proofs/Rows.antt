@@ -1,17 +1,8 @@
 -- The rows of a schedule's first band have small numbers, and so have their values where turns are small.
-use Rattle.std.proofs.Common.{ℕ, ◌+◌, ◌*◌, ◌^◌, ◌<◌, ◌≤◌, ℤ, pos, negsuc, List, [], ◌∷◌, length, refl, subst, sym}
-use Rattle.std.proofs.Common.{arith, mul-le-mul}
-use Rattle.std.specs.Prelude.{◌≤ℤ◌, ◌<ℤ◌, All, FitsSigned, not, unsigned_abs}
-use Rattle.std.specs.Int.{w64}
-use Rattle.std.proofs.lemmas.Int.{ints}
-use Rattle.std.proofs.lemmas.List.{length-map}
-use Rattle.std.proofs.lemmas.List.Elements.{All-nil, All-cons, All-head, All-tail}
-use Rattle.whole_numbers.specs.Affine.{value_of}
-use Rattle.scop_syntax.specs.Kernel.{AreAtMost, IsForm}
-use Rattle.scop_syntax.specs.Statements.{statements_of}
-use Rattle.scop_syntax.specs.Tree.{Program}
-use Rattle.scop_syntax.specs.Walk.{Instance}
-use Rattle.scop_syntax.proofs.Limits.{size, value_size}
+use Rattle.scop_syntax.proofs.Common.{ℕ, ◌+◌, ◌*◌, ◌^◌, ◌<◌, ◌≤◌, ℤ, pos, negsuc, List, [], ◌∷◌, length, refl, subst}
+use Rattle.scop_syntax.proofs.Common.{sym, arith, mul-le-mul, ◌≤ℤ◌, ◌<ℤ◌, All, FitsSigned, not, unsigned_abs, w64, ints}
+use Rattle.scop_syntax.proofs.Common.{length-map, All-nil, All-cons, All-head, All-tail, value_of, AreAtMost, IsForm}
+use Rattle.scop_syntax.proofs.Common.{statements_of, Program, Instance, size, value_size}
 use Rattle.iteration_domains.specs.Model.{model_of, modelled}
 use Rattle.loop_tree.specs.Tiling.{Items, TileRow, items_at}
 use Rattle.loop_tree.proofs.SourceSizes.{entries_size}

@@ -1,10 +1,7 @@
 -- The scan sets of a schedule have what a scan asks of them.
-use Rattle.std.proofs.Common.{◌≡◌, ℕ, ◌+◌, ◌<◌, ◌≤◌, List, [], ◌∷◌, inl, inr, refl, sym, ◌∙◌, All, arith}
-use Rattle.std.proofs.Common.{length}
-use Rattle.std.specs.Prelude.{◌^◌, None}
-use Rattle.std.proofs.lemmas.List.Elements.{All-cons, All-nil}
+use Rattle.scop_syntax.proofs.Common.{◌≡◌, ℕ, ◌+◌, ◌<◌, ◌≤◌, List, [], ◌∷◌, inl, inr, refl, sym, ◌∙◌, All, arith}
+use Rattle.scop_syntax.proofs.Common.{length, ◌^◌, None, All-cons, All-nil, In, Sorted}
 use Rattle.integer_sets.specs.Scanned.{Scanned}
-use Rattle.scop_syntax.specs.Members.{In, Sorted}
 use Rattle.plain_scan.specs.Alone.{IsBounded}
 use Rattle.plain_scan.specs.Scanning.{AreScanned, IsScanned, dimensions_of, parameters_of}
 use Rattle.plain_scan.specs.Sets.{AllAbove, NumbersRise}

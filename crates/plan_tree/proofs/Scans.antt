@@ -1,5 +1,5 @@
 -- Trees that scan the sets of a schedule: of no set the empty one, which is over any number of parameters.
-use Rattle.std.proofs.Common.{◌≡◌, ◌<◌, ℕ, List, [], ◌∷◌, length, refl, sym, subst, arith}
+use Rattle.scop_syntax.proofs.Common.{◌≡◌, ◌<◌, ℕ, List, [], ◌∷◌, length, refl, sym, subst, arith}
 use Rattle.integer_sets.specs.Scanned.{Scanned}
 use Rattle.loop_tree.specs.Tree.{Trees, none}
 use Rattle.plain_scan.specs.Scanning.{parameters_of}

@@ -1,9 +1,6 @@
 -- A program's schedule, its blocks, its scan sets and its tiling.
-use Rattle.std.proofs.Common.{◌≡◌, ◌∙◌, ℕ, ◌<◌, ◌≤◌, List, length, pos, ap, subst, sym, arith}
-use Rattle.std.proofs.lemmas.List.{length-map}
-use Rattle.scop_syntax.specs.Members.{In}
-use Rattle.scop_syntax.specs.Statements.{statements_of}
-use Rattle.scop_syntax.specs.Tree.{Program}
+use Rattle.scop_syntax.proofs.Common.{◌≡◌, ◌∙◌, ℕ, ◌<◌, ◌≤◌, List, length, pos, ap, subst, sym, arith, length-map, In}
+use Rattle.scop_syntax.proofs.Common.{statements_of, Program}
 use Rattle.iteration_domains.specs.Dependence.{Dependence}
 use Rattle.iteration_domains.specs.Model.{KernelModel, model_of, modelled}
 use Rattle.loop_tree.specs.Tiling.{Items}

@@ -1,10 +1,7 @@
 -- Trees whose instances are those of sets, and numbers within a bound that are within a larger one.
-use Rattle.std.proofs.Common.{◌≡◌, List, ◌∙◌, subst}
-use Rattle.std.specs.Prelude.{slice_get, Some}
+use Rattle.scop_syntax.proofs.Common.{◌≡◌, List, ◌∙◌, subst, slice_get, Some, In, Placed, loops_in, statements_of}
+use Rattle.scop_syntax.proofs.Common.{Program}
 use Rattle.integer_sets.specs.Scanned.{Scanned}
-use Rattle.scop_syntax.specs.Members.{In}
-use Rattle.scop_syntax.specs.Statements.{Placed, loops_in, statements_of}
-use Rattle.scop_syntax.specs.Tree.{Program}
 use Rattle.loop_tree.specs.Shape.{TreeIsOf, TreesAreOf}
 use Rattle.loop_tree.specs.Tree.{Tree, loop, guard, instance}
 use Rattle.loop_tree.specs.Tree.{Trees, none, more}

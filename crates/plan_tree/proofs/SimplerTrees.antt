@@ -1,8 +1,6 @@
 -- Trees of a plan with less in them are trees of the plan.
-use Rattle.std.proofs.Common.{◌≡◌, ◌∙◌, ℕ, ℤ, List, [], ◌∷◌, length, map, refl, sym, ap, subst}
-use Rattle.scop_syntax.specs.Members.{In}
-use Rattle.scop_syntax.specs.Tree.{Program}
-use Rattle.scop_syntax.proofs.Members.{in_map, in_map_from}
+use Rattle.scop_syntax.proofs.Common.{◌≡◌, ◌∙◌, ℕ, ℤ, List, [], ◌∷◌, length, map, refl, sym, ap, subst, In, Program}
+use Rattle.scop_syntax.proofs.Common.{in_map, in_map_from}
 use Rattle.loop_tree.specs.Plans.{AreInOrder, AreMarked, first_coordinate}
 use Rattle.loop_tree.specs.Tiling.{Tiling, kept, tiled, items_at}
 use Rattle.loop_tree.specs.Tree.{Trees}

@@ -1,17 +1,8 @@
 -- At the marked place of a scan set stands the first tile coordinate, behind the wave: where values part there, the
 -- waves are one and the tiles are two, and instances of a good plan do not conflict.
-use Rattle.std.proofs.Common.{◌≡◌, ℕ, ◌+◌, ◌-◌, ◌≤◌, ℤ, pos, List, [], ◌∷◌, ◌++◌, length, map}
-use Rattle.std.proofs.Common.{inl, inr, ap, subst, sym, ◌∙◌, refl, arith}
-use Rattle.std.specs.Prelude.{◌<ℤ◌, Option, Some, ◌⊎◌}
-use Rattle.std.proofs.lemmas.Int.{ints}
-use Rattle.std.proofs.lemmas.List.{length-map}
-use Rattle.whole_numbers.specs.Affine.{value_of}
-use Rattle.whole_numbers.specs.Floor.{floor}
-use Rattle.whole_numbers.specs.Lists.{zeros}
-use Rattle.whole_numbers.specs.Lexicographic.{LexLess}
-use Rattle.whole_numbers.proofs.Lexicographic.{LexLess-irrefl}
-use Rattle.scop_syntax.specs.Tree.{Program}
-use Rattle.scop_syntax.specs.Walk.{Instance, instance}
+use Rattle.scop_syntax.proofs.Common.{◌≡◌, ℕ, ◌+◌, ◌-◌, ◌≤◌, ℤ, pos, List, [], ◌∷◌, ◌++◌, length, map, inl, inr, ap}
+use Rattle.scop_syntax.proofs.Common.{subst, sym, ◌∙◌, refl, arith, ◌<ℤ◌, Option, Some, ◌⊎◌, ints, length-map, value_of}
+use Rattle.scop_syntax.proofs.Common.{floor, zeros, LexLess, LexLess-irrefl, Program, Instance, instance}
 use Rattle.loop_tree.specs.Marks.{marked}
 use Rattle.loop_tree.specs.Plans.{Conflict, first_coordinate}
 use Rattle.loop_tree.specs.Tiling.{TileRow, Item, Items, Tiling, item_values, coordinates, wave_sum, tile_of, wave_of}

@@ -1,11 +1,7 @@
 -- Waves and tiles of an even plan have one length each.
-use Rattle.std.proofs.Common.{◌≡◌, ◌∙◌, ℕ, ◌+◌, ℤ, pos, List, ◌++◌, length, map, ap, ap₂, refl, sym, arith}
-use Rattle.std.proofs.lemmas.List.{length-append, length-map}
-use Rattle.whole_numbers.specs.Affine.{value_of}
-use Rattle.whole_numbers.specs.Floor.{floor}
-use Rattle.scop_syntax.specs.Members.{In}
-use Rattle.scop_syntax.specs.Tree.{Program}
-use Rattle.scop_syntax.specs.Walk.{Instance}
+use Rattle.scop_syntax.proofs.Common.{◌≡◌, ◌∙◌, ℕ, ◌+◌, ℤ, pos, List, ◌++◌, length, map, ap, ap₂, refl, sym, arith}
+use Rattle.scop_syntax.proofs.Common.{length-map, value_of, floor, In, Program, Instance}
+use Rattle.std.proofs.lemmas.List.{length-append}
 use Rattle.loop_tree.specs.Plans.{AreInOrder}
 use Rattle.loop_tree.specs.Tiling.{Items, TileRow, Tiling, kept, tiled, coordinates, items_at, tile_of, wave_of}
 use Rattle.planned_trees.specs.Trees.{AreEven}

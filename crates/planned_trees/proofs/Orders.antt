@@ -1,19 +1,11 @@
 -- Conflicting places of the walk are visited in their order by a tree that carries out a plan.
-use Rattle.std.proofs.Common.{◌≡◌, ℕ, ◌+◌, ◌-◌, ◌<◌, ℤ, pos, List, [], ◌∷◌, ◌++◌, length, map, inl, inr, ap, subst}
-use Rattle.std.proofs.Common.{◌∙◌, arith, false}
-use Rattle.std.specs.Prelude.{slice_get, Some}
-use Rattle.std.specs.Option.{option_map}
-use Rattle.std.proofs.lemmas.List.{length-append, length-map}
-use Rattle.std.proofs.lemmas.Option.{slice_get-map, slice_get_within}
-use Rattle.whole_numbers.specs.Lists.{zeros}
-use Rattle.whole_numbers.proofs.Lexicographic.{LexLess-irrefl, LexLess-asym, LexLess-front}
-use Rattle.scop_syntax.specs.Cells.{PlacesConflict, conflict_cell}
-use Rattle.scop_syntax.specs.Members.{In, Sorted}
-use Rattle.scop_syntax.specs.Statements.{statements_of}
-use Rattle.scop_syntax.specs.Reductions.{is_marked}
-use Rattle.scop_syntax.specs.Tree.{Program}
-use Rattle.scop_syntax.specs.Walk.{Instance, instance, Visit, walk_of}
-use Rattle.scop_syntax.proofs.Members.{in_from_place, in_map, nat_cases, place_of, sorted_places}
+use Rattle.scop_syntax.proofs.Common.{◌≡◌, ℕ, ◌+◌, ◌-◌, ◌<◌, ℤ, pos, List, [], ◌∷◌, ◌++◌, length, map, inl, inr, ap}
+use Rattle.scop_syntax.proofs.Common.{subst, ◌∙◌, arith, false, slice_get, Some, option_map, length-map, slice_get-map}
+use Rattle.scop_syntax.proofs.Common.{slice_get_within, zeros, LexLess-irrefl, LexLess-asym, LexLess-front}
+use Rattle.scop_syntax.proofs.Common.{PlacesConflict, conflict_cell, In, Sorted, statements_of, is_marked, Program}
+use Rattle.scop_syntax.proofs.Common.{Instance, instance, Visit, walk_of, in_from_place, in_map, nat_cases, place_of}
+use Rattle.scop_syntax.proofs.Common.{sorted_places}
+use Rattle.std.proofs.lemmas.List.{length-append}
 use Rattle.scop_syntax.proofs.Statements.{found_at, placed_number}
 use Rattle.loop_tree.specs.Plans.{AreInOrder, CarryOut, Precedes, walked}
 use Rattle.loop_tree.specs.Tiling.{Items, Tiling, kept, tiled, item_values, items_at, order_of, tile_of, wave_of}

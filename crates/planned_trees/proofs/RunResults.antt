@@ -1,17 +1,12 @@
 -- Runs of a plan's trees end with the arrays of the source's own execution: their instances are an order of the walk
 -- that keeps conflicts.
-use Rattle.std.proofs.Common.{◌≡◌, ℕ, ℤ, List, [], ◌∷◌, map, Some, inl, inr, ap, ap₂, subst, sym, ◌∙◌, refl, arith}
-use Rattle.std.specs.Prelude.{◌≢◌, ◌↔◌, slice_get}
-use Rattle.whole_numbers.proofs.Lexicographic.{LexLess-irrefl}
-use Rattle.scop_syntax.specs.Cells.{PlacesConflict}
-use Rattle.scop_syntax.specs.Members.{In, Sorted}
-use Rattle.scop_syntax.specs.Tree.{Program}
-use Rattle.scop_syntax.specs.Walk.{Instance, instance, Visit, walk_of}
-use Rattle.scop_syntax.proofs.Members.{in_from_place, in_map, in_map_from, place_of, sorted_map}
-use Rattle.scop_syntax.proofs.Members.{sorted_places}
-use Rattle.scop_syntax.specs.ConflictOrders.{AreDistinct, IsOrderOf, KeepsConflicts}
+use Rattle.scop_syntax.proofs.Common.{◌≡◌, ℕ, ℤ, List, [], ◌∷◌, map, Some, inl, inr, ap, ap₂, subst, sym, ◌∙◌, refl}
+use Rattle.scop_syntax.proofs.Common.{arith, ◌≢◌, ◌↔◌, slice_get, LexLess-irrefl, PlacesConflict, In, Sorted, Program}
+use Rattle.scop_syntax.proofs.Common.{Instance, instance, Visit, walk_of, in_from_place, in_map, in_map_from, place_of}
+use Rattle.scop_syntax.proofs.Common.{sorted_map, sorted_places, AreDistinct, StandOnce, walked_distinct}
+use Rattle.scop_syntax.specs.ConflictOrders.{IsOrderOf, KeepsConflicts}
 use Rattle.scop_syntax.proofs.SortedLists.{distinct_places, sorted_by_places, sorted_stands, sorted_unmapped}
-use Rattle.scop_syntax.proofs.SortedLists.{sorted_weaker, StandOnce, walked_distinct}
+use Rattle.scop_syntax.proofs.SortedLists.{sorted_weaker}
 use Rattle.scop_syntax.proofs.Precedence.{one_stands_before}
 use Rattle.loop_tree.specs.Plans.{AreInOrder, CarryOut, Conflict, Precedes, walked}
 use Rattle.loop_tree.specs.Runs.{MayRunAll}

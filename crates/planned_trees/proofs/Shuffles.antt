@@ -1,11 +1,8 @@
 -- Shuffles, and runs of a loop: their elements are those of the walk, and they are sorted as it is where no iterations
 -- mind their order.
-use Rattle.std.proofs.Common.{◌≡◌, ℕ, zero, suc, Bool, true, false, ℤ, pos, List, [], ◌∷◌, ◌++◌, ◌⊎◌, inl, inr, subst}
-use Rattle.std.proofs.Common.{sym, refl, arith}
-use Rattle.std.specs.Prelude.{◌↔◌, ◌+ℤ◌, ◌≤ℤ◌, ◌<ℤ◌}
-use Rattle.std.proofs.lemmas.Int.{ints}
-use Rattle.scop_syntax.specs.Members.{In, Sorted}
-use Rattle.scop_syntax.proofs.Members.{in_append, in_front, in_back, sorted_append}
+use Rattle.scop_syntax.proofs.Common.{◌≡◌, ℕ, zero, suc, Bool, true, false, ℤ, pos, List, [], ◌∷◌, ◌++◌, ◌⊎◌, inl, inr}
+use Rattle.scop_syntax.proofs.Common.{subst, sym, refl, arith, ◌↔◌, ◌+ℤ◌, ◌≤ℤ◌, ◌<ℤ◌, ints, In, Sorted, in_append}
+use Rattle.scop_syntax.proofs.Common.{in_front, in_back, sorted_append}
 use Rattle.scop_syntax.proofs.SortedLists.{sorted_front, sorted_back, sorted_across}
 use Rattle.loop_tree.specs.Runs.{IsShuffle, Joins, RunsAlong}
 use Rattle.loop_tree.specs.Walk.{along}

@@ -1,12 +1,8 @@
 -- Runs of a tree: they visit what its walk visits, and stand in every order in which the walk stands, if iterations of
 -- its parallel loops do not mind it (`sorted_all`).
-use Rattle.std.proofs.Common.{◌≡◌, Bool, true, false, ℤ, List, [], ◌∷◌, ◌++◌, map, subst, sym}
-use Rattle.std.proofs.Common.{refl, arith}
-use Rattle.std.specs.Prelude.{◌↔◌, ◌-ℤ◌, if◌then◌else◌}
-use Rattle.std.proofs.lemmas.Int.{ints}
-use Rattle.scop_syntax.specs.Members.{In, Sorted}
-use Rattle.scop_syntax.specs.Walk.{Instance, most_turns}
-use Rattle.scop_syntax.proofs.Members.{in_map, in_map_from, sorted_append, sorted_map}
+use Rattle.scop_syntax.proofs.Common.{◌≡◌, Bool, true, false, ℤ, List, [], ◌∷◌, ◌++◌, map, subst, sym, refl, arith, ◌↔◌}
+use Rattle.scop_syntax.proofs.Common.{◌-ℤ◌, if◌then◌else◌, ints, In, Sorted, Instance, most_turns, in_map, in_map_from}
+use Rattle.scop_syntax.proofs.Common.{sorted_append, sorted_map}
 use Rattle.scop_syntax.proofs.SortedLists.{sorted_front, sorted_back, sorted_across, sorted_unmapped}
 use Rattle.loop_tree.specs.Plans.{IsFree, AreFree}
 use Rattle.loop_tree.specs.Runs.{MayRun, MayRunAll}

@@ -1,11 +1,7 @@
 -- The visits of a plan's trees are instances of the walk, which code can hold.
-use Rattle.std.proofs.Common.{◌≡◌, ◌∙◌, ◌^◌, ◌<◌, ◌≤◌, ℤ, pos, List, [], length, ap, subst, sym, arith}
-use Rattle.std.specs.Prelude.{◌≤ℤ◌, ◌<ℤ◌, All}
-use Rattle.scop_syntax.specs.Members.{In}
-use Rattle.scop_syntax.specs.Tree.{Program}
-use Rattle.scop_syntax.specs.Statements.{Scope, Placed, Runs, loops_in, statements_of, visit_of}
-use Rattle.scop_syntax.specs.Walk.{Instance, Visit, instance, walk_of}
-use Rattle.scop_syntax.proofs.Members.{in_map, in_map_from}
+use Rattle.scop_syntax.proofs.Common.{◌≡◌, ◌∙◌, ◌^◌, ◌<◌, ◌≤◌, ℤ, pos, List, [], length, ap, subst, sym, arith, ◌≤ℤ◌}
+use Rattle.scop_syntax.proofs.Common.{◌<ℤ◌, All, In, Program, Scope, Placed, Runs, loops_in, statements_of, visit_of}
+use Rattle.scop_syntax.proofs.Common.{Instance, Visit, instance, walk_of, in_map, in_map_from}
 use Rattle.scop_syntax.proofs.Limits.{turns_fit}
 use Rattle.loop_tree.specs.Conditions.{CanWalk}
 use Rattle.loop_tree.specs.Fits.{FitsAll}

@@ -17,8 +17,8 @@ ghost use Rattle.loop_tree.specs.Walk.{Visit, given, visits, walk_all};
 ghost use Rattle.planned_trees.specs.Executions.{AreVisitsOf};
 ghost use Rattle.planned_trees.specs.Trees.{AreEven, AreTreesOf, StandInOrder};
 
-use scop_syntax::order_laws::orders_of_walks_end_as_they_do;
 use scop_syntax::limit_laws::values_lie_within_45_bits;
+use scop_syntax::order_laws::orders_of_walks_end_as_they_do;
 use scop_syntax::walk_laws::{
     instances_are_those_of_statements, statements_are_numbered, walks_are_in_order,
 };

@@ -1,6 +1,5 @@
 -- Sources that there are not: without a read, and for want of memory.
-use Rattle.std.specs.Prelude.{◌≡◌, ℕ, zero, suc, List, [], ◌∷◌, Option, Some, None, slice_get}
-use Rattle.std.proofs.Common.{refl, subst}
+use Rattle.scop_syntax.proofs.Common.{◌≡◌, ℕ, zero, suc, List, [], ◌∷◌, Option, Some, None, slice_get, refl, subst}
 use Rattle.quast_joins.specs.declared.way.Way.{Way}
 use Rattle.iteration_domains.specs.Model.{KernelModel, Modelled}
 use Rattle.dataflow.specs.ReadSources.{AreSources}

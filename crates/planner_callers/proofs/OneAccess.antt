@@ -1,10 +1,8 @@
 -- The dependences of a model's one access, which is written: those of its run.
-use Rattle.std.proofs.Common.{◌≡◌, ◌∙◌, ap, append-nil, ℕ, Bool, true, false, List, [], ◌∷◌, ◌++◌, Result, nat_eq}
-use Rattle.std.specs.Prelude.{if◌then◌else◌}
-use Rattle.std.specs.List.{flat_map}
+use Rattle.scop_syntax.proofs.Common.{◌≡◌, ◌∙◌, ap, append-nil, ℕ, Bool, true, false, List, [], ◌∷◌, ◌++◌, Result}
+use Rattle.scop_syntax.proofs.Common.{nat_eq, if◌then◌else◌, flat_map, is_marked}
 use Rattle.quast_trees.specs.Tree.{Tree}
 use Rattle.quast_joins.specs.declared.way.Way.TheVariants.{Later, Earlier}
-use Rattle.scop_syntax.specs.Reductions.{is_marked}
 use Rattle.iteration_domains.specs.Model.{KernelModel}
 use Rattle.conflict_deps.specs.Conflicts.{Side, sides_in}
 use Rattle.dataflow.specs.Covering.{covers_at, covers_of, role_deps, roles_at, told_deps}

@@ -1,5 +1,5 @@
 -- The dependences of a model's one read: those of its leaves.
-use Rattle.std.proofs.Common.{◌≡◌, ◌∙◌, ap₂, append-nil, List, [], ◌∷◌, map}
+use Rattle.scop_syntax.proofs.Common.{◌≡◌, ◌∙◌, ap₂, append-nil, List, [], ◌∷◌, map}
 use Rattle.quast_trees.specs.Postfix.{Postfix, tree_of}
 use Rattle.quast_joins.specs.declared.way.Way.TheVariants.{Later}
 use Rattle.iteration_domains.specs.Model.{KernelModel}

@@ -27,9 +27,6 @@ ghost use Rattle.schedule_rows.specs.Schedule.{IsScheduled, Scheduled};
 ghost use Rattle.tile_skew.specs.Tilings.{statements_from};
 ghost use Rattle.plan_tree.specs.Schedules.{IsScheduleFor, StopsTiled, tiling_of};
 
-use scop_syntax::order_laws::{
-    orders_of_walks_end_as_they_do, orders_that_keep_covers_keep_conflicts,
-};
 use fm_projection::FmStop;
 use loop_tree::Tree;
 use plan_tree::laws::rows_of_schedules_fit;
@@ -38,6 +35,9 @@ use planned_trees::laws::{
     waves_have_one_length,
 };
 use schedule_rows::Schedule;
+use scop_syntax::order_laws::{
+    orders_of_walks_end_as_they_do, orders_that_keep_covers_keep_conflicts,
+};
 use scop_syntax::tree::Kernel;
 use std::alloc::{AllocError, Global};
 

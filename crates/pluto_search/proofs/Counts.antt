@@ -1,13 +1,9 @@
 -- How large the numbers of rows are, by what they are rows over.
-use Rattle.std.proofs.Common.{◌≡◌, ℕ, zero, suc, ◌<◌, ◌^◌, ℤ, pos, List, [], ◌∷◌, refl, sym, ◌∙◌, ap, subst, arith}
-use Rattle.std.proofs.Common.{length, All, reverse}
-use Rattle.std.specs.Prelude.{◌≤ℤ◌, slice_index_or}
-use Rattle.std.specs.List.{flat_map}
-use Rattle.std.proofs.lemmas.Int.{ints}
-use Rattle.std.proofs.lemmas.List.{reverse-reverse}
+use Rattle.scop_syntax.proofs.Common.{◌≡◌, ℕ, zero, suc, ◌<◌, ◌^◌, ℤ, pos, List, [], ◌∷◌, refl, sym, ◌∙◌, ap, subst}
+use Rattle.scop_syntax.proofs.Common.{arith, length, All, reverse, ◌≤ℤ◌, slice_index_or, flat_map, ints}
+use Rattle.scop_syntax.proofs.Common.{reverse-reverse, All-nil, All-cons, All-head, All-tail, All-append, All-get_or}
+use Rattle.scop_syntax.proofs.Common.{all_front, all_back}
 use mathlib.Core.List.{reverse-cons}
-use Rattle.std.proofs.lemmas.List.Elements.{All-nil, All-cons, All-head, All-tail, All-append, All-get_or}
-use Rattle.whole_numbers.proofs.Entries.{all_front, all_back}
 use Rattle.fractions.specs.Farkas.{AreNotNegative}
 use Rattle.iteration_domains.specs.Dependence.{Dependence, IsDependence}
 use Rattle.null_space.specs.Sizes.{IsWithin, AreCoefficients}

@@ -1,5 +1,5 @@
 -- Dependence by dependence: those that join two components are dropped.
-use Rattle.std.proofs.Common.{◌≡◌, ℕ, List, [], ◌∷◌, ◌++◌, refl, sym, subst, inl, inr, append_assoc}
+use Rattle.scop_syntax.proofs.Common.{◌≡◌, ℕ, List, [], ◌∷◌, ◌++◌, refl, sym, subst, inl, inr, append_assoc}
 use Rattle.std.proofs.lemmas.List.{append-nil}
 use Rattle.iteration_domains.specs.Dependence.{Dependence}
 use Rattle.stmt_graph.specs.Graph.{number_in}

@@ -1,11 +1,8 @@
 -- What a question of emptiness says of a dependence.
-use Rattle.std.proofs.Common.{◌≡◌, ℕ, ℤ, pos, List, [], ◌∷◌, ◌++◌, refl, sym, ◌∙◌, ap, subst, arith, All, take, drop}
-use Rattle.std.proofs.Common.{append_assoc}
-use Rattle.std.specs.Prelude.{◌≤ℤ◌}
-use Rattle.std.proofs.lemmas.List.{length-append, length-take-le, length-drop, take-append-drop}
-use Rattle.std.proofs.lemmas.List.Elements.{All-nil, All-cons, All-head, All-tail, All-append}
-use Rattle.whole_numbers.proofs.Lists.{not_negative_all}
-use Rattle.whole_numbers.proofs.Entries.{all_front, all_back}
+use Rattle.scop_syntax.proofs.Common.{◌≡◌, ℕ, ℤ, pos, List, [], ◌∷◌, ◌++◌, refl, sym, ◌∙◌, ap, subst, arith, All, take}
+use Rattle.scop_syntax.proofs.Common.{drop, append_assoc, ◌≤ℤ◌, length-take-le, length-drop, take-append-drop, All-nil}
+use Rattle.scop_syntax.proofs.Common.{All-cons, All-head, All-tail, All-append, not_negative_all, all_front, all_back}
+use Rattle.std.proofs.lemmas.List.{length-append}
 use Rattle.fractions.specs.Farkas.{AreNotNegative}
 use Rattle.integer_sets.specs.Points.{Satisfies}
 use Rattle.pip_solver.specs.Emptiness.{IsBoundedPoint, HasBoundedPoint}

@@ -1,11 +1,9 @@
 -- From one state to the next: what holds between steps.
-use Rattle.std.proofs.Common.{◌≡◌, ℕ, zero, suc, ◌<◌, ◌^◌, ℤ, List, [], ◌∷◌, ◌++◌, refl, sym, ◌∙◌, ap, ap₂, subst}
-use Rattle.std.proofs.Common.{inl, inr, arith, length, map, All, Vec, Global}
-use Rattle.std.specs.Prelude.{◌≤◌, slice_index_or, Ok}
-use Rattle.std.proofs.lemmas.List.{append-nil, length-map, get_or-map}
-use Rattle.std.proofs.lemmas.List.Elements.{All-nil, All-cons, All-head, All-tail, All-get_or}
-use Rattle.scop_syntax.specs.Members.{In}
-use Rattle.scop_syntax.proofs.Members.{in_map, in_front}
+use Rattle.scop_syntax.proofs.Common.{◌≡◌, ℕ, zero, suc, ◌<◌, ◌^◌, ℤ, List, [], ◌∷◌, ◌++◌, refl, sym, ◌∙◌, ap, ap₂}
+use Rattle.scop_syntax.proofs.Common.{subst, inl, inr, arith, length, map, All, Vec, Global, ◌≤◌, slice_index_or, Ok}
+use Rattle.scop_syntax.proofs.Common.{length-map, get_or-map, All-nil, All-cons, All-head, All-tail, All-get_or, In}
+use Rattle.scop_syntax.proofs.Common.{in_map, in_front}
+use Rattle.std.proofs.lemmas.List.{append-nil}
 use Rattle.iteration_domains.specs.Dependence.{Dependence}
 use Rattle.null_space.specs.Narrowing.{kernel_vectors, narrowed_all, narrowed_by, units_from}
 use Rattle.null_space.specs.Sizes.{AreWithin, AreLong, AreCoefficients}

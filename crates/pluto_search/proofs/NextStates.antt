@@ -1,10 +1,9 @@
 -- The next state is a good one, and the step is that of the run.
-use Rattle.std.proofs.Common.{◌≡◌, ℕ, zero, suc, ◌+◌, ◌<◌, ℤ, pos, List, [], ◌∷◌, ◌++◌, refl, sym, ◌∙◌, ap, ap₂, subst}
-use Rattle.std.proofs.Common.{inl, inr, arith, length, map, All, Vec, Global}
-use Rattle.std.specs.Prelude.{◌≤◌, ◌↔◌, Bool, true, false, slice_index_or}
-use Rattle.std.proofs.lemmas.List.{append-nil, length-map, map-append}
-use Rattle.std.proofs.lemmas.List.Elements.{All-nil, All-cons, All-head, All-tail, All-append, All-get_or}
-use Rattle.scop_syntax.specs.Members.{In}
+use Rattle.scop_syntax.proofs.Common.{◌≡◌, ℕ, zero, suc, ◌+◌, ◌<◌, ℤ, pos, List, [], ◌∷◌, ◌++◌, refl, sym, ◌∙◌, ap, ap₂}
+use Rattle.scop_syntax.proofs.Common.{subst, inl, inr, arith, length, map, All, Vec, Global, ◌≤◌, ◌↔◌, Bool, true}
+use Rattle.scop_syntax.proofs.Common.{false, slice_index_or, length-map, map-append, All-nil, All-cons, All-head}
+use Rattle.scop_syntax.proofs.Common.{All-tail, All-append, All-get_or, In, Result, Ok, Err, IfOk, IfErr}
+use Rattle.std.proofs.lemmas.List.{append-nil}
 use Rattle.iteration_domains.specs.Dependence.{Dependence}
 use Rattle.null_space.specs.Narrowing.{narrowed_by}
 use Rattle.null_space.specs.Sizes.{AreLong, AreCoefficients}
@@ -39,7 +38,6 @@ use Rattle.integer_sets.specs.Constraints.{Constraints}
 use Rattle.pluto_search.specs.Questions.{AreRuledBy}
 use Rattle.pluto_search.specs.Sizes.{CanNarrowEach, narrowed_each}
 use Rattle.pluto_search.specs.Steps.{state_of, vectors_in, IsGood, IsGoodRow, AreBetween, Steps, going, KeepsAt}
-use Rattle.std.specs.Prelude.{Result, Ok, Err, IfOk, IfErr}
 use Rattle.pluto_search.proofs.Counts.{IsSmallPart, row_small, small_part, shaped_length, counts_within}
 use Rattle.schedule_rows.proofs.Pairs.{legal_kept, parallel_exact}
 use Rattle.schedule_rows.specs.Dependences.{IsEmptyDep, Suits, above_at}

@@ -1,10 +1,9 @@
 -- A search has one answer.
-use Rattle.std.proofs.Common.{◌≡◌, ◌∙◌, ap, ap₂, sym, subst, inl, inr, refl, ℕ, ◌<◌, ◌⊎◌, true, false, List, []}
-use Rattle.std.proofs.Common.{◌∷◌, map, All, true≢false}
-use Rattle.std.specs.Prelude.{Option, None, Some, Vec, ℤ, Result, Ok, Err}
+use Rattle.scop_syntax.proofs.Common.{◌≡◌, ◌∙◌, ap, ap₂, sym, subst, inl, inr, refl, ℕ, ◌<◌, ◌⊎◌, true, false, List, []}
+use Rattle.scop_syntax.proofs.Common.{◌∷◌, map, All, true≢false, Option, None, Some, Vec, ℤ, Result, Ok, Err, All-head}
+use Rattle.scop_syntax.proofs.Common.{All-tail}
 use Rattle.std.specs.Global.{Global}
 use Rattle.std.proofs.lemmas.List.{ext_get_or}
-use Rattle.std.proofs.lemmas.List.Elements.{All-head, All-tail}
 use Rattle.integer_sets.specs.Constraints.{Constraints}
 use Rattle.iteration_domains.specs.Dependence.{Dependence}
 use Rattle.iteration_domains.specs.Model.{KernelModel}

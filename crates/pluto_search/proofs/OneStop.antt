@@ -1,8 +1,6 @@
 -- A question has one answer, or one stop.
-use Rattle.std.proofs.Common.{◌≡◌, ◌∙◌, ap, sym, subst, inl, inr, arith, ℕ, Bool, List, [], ◌∷◌, ◌++◌, Vec}
-use Rattle.std.proofs.Common.{Global, ap₂, ◌⊎◌, refl}
-use Rattle.std.specs.Prelude.{Option, None, Some, Result, Ok, Err, ℤ}
-use Rattle.whole_numbers.specs.Affine.{Affine}
+use Rattle.scop_syntax.proofs.Common.{◌≡◌, ◌∙◌, ap, sym, subst, inl, inr, arith, ℕ, Bool, List, [], ◌∷◌, ◌++◌, Vec}
+use Rattle.scop_syntax.proofs.Common.{Global, ap₂, ◌⊎◌, refl, Option, None, Some, Result, Ok, Err, ℤ, Affine}
 use Rattle.integer_sets.specs.Wide.{Wide}
 use Rattle.integer_sets.specs.Checked.{◌>>=◌}
 use Rattle.integer_sets.proofs.CheckedSteps.{chain-ok}

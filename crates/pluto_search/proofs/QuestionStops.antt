@@ -1,5 +1,5 @@
 -- What a stop of a question tells.
-use Rattle.std.proofs.Common.{ℕ, List, Err, inl, inr, sym, subst}
+use Rattle.scop_syntax.proofs.Common.{ℕ, List, Err, inl, inr, sym, subst}
 use Rattle.integer_sets.specs.Constraints.{Constraints}
 use Rattle.iteration_domains.specs.Dependence.{Dependence}
 use Rattle.pip_solver.specs.declared.stop.Stop.TheVariants as solver

@@ -1,10 +1,8 @@
 -- Dependence by dependence: restricted, asked, dropped.
-use Rattle.std.proofs.Common.{◌≡◌, ℕ, zero, suc, ◌+◌, ◌<◌, List, [], ◌∷◌, ◌++◌, refl, sym, ◌∙◌, ap, subst, inl, inr}
-use Rattle.std.proofs.Common.{arith, length, map, All, drop, append_assoc, add-one, drop-cons}
-use Rattle.std.specs.Prelude.{slice_index_or}
-use Rattle.std.proofs.lemmas.List.{append-nil, length-map, get_or-map}
-use Rattle.std.proofs.lemmas.List.Elements.{All-nil, All-cons, All-head, All-tail}
-use Rattle.scop_syntax.specs.Members.{In}
+use Rattle.scop_syntax.proofs.Common.{◌≡◌, ℕ, zero, suc, ◌+◌, ◌<◌, List, [], ◌∷◌, ◌++◌, refl, sym, ◌∙◌, ap, subst, inl}
+use Rattle.scop_syntax.proofs.Common.{inr, arith, length, map, All, drop, append_assoc, add-one, drop-cons}
+use Rattle.scop_syntax.proofs.Common.{slice_index_or, length-map, get_or-map, All-nil, All-cons, All-head, All-tail, In}
+use Rattle.std.proofs.lemmas.List.{append-nil}
 use Rattle.iteration_domains.specs.Dependence.{Dependence, IsDependence}
 use Rattle.schedule_rows.specs.Items.{Row, Marked}
 use Rattle.schedule_rows.specs.declared.item.Marked as code

@@ -1,13 +1,8 @@
 -- Along a schedule of dependences that hold the covers of a walk the values of conflicting places rise.
-use Rattle.std.proofs.Common.{◌≡◌, ℕ, ◌<◌, ℤ, List, [], ◌∷◌, sym, ◌∙◌, ap, subst, inl, inr, length, Some, false}
-use Rattle.std.specs.Prelude.{slice_get}
-use Rattle.whole_numbers.specs.Lexicographic.{LexLess}
-use Rattle.scop_syntax.specs.Cells.{Cell}
+use Rattle.scop_syntax.proofs.Common.{◌≡◌, ℕ, ◌<◌, ℤ, List, [], ◌∷◌, sym, ◌∙◌, ap, subst, inl, inr, length, Some, false}
+use Rattle.scop_syntax.proofs.Common.{slice_get, LexLess, Cell, In, is_marked, Program, Instance, Visit, walk_of}
+use Rattle.scop_syntax.proofs.Common.{instance}
 use Rattle.scop_syntax.specs.Covers.{Chain, CoverBy, Follows}
-use Rattle.scop_syntax.specs.Members.{In}
-use Rattle.scop_syntax.specs.Reductions.{is_marked}
-use Rattle.scop_syntax.specs.Tree.{Program}
-use Rattle.scop_syntax.specs.Walk.{Instance, Visit, walk_of, instance}
 use Rattle.scop_syntax.proofs.Covers.{cover_by, cover_conflicts}
 use Rattle.iteration_domains.specs.Dependence.{Dependence}
 use Rattle.iteration_domains.specs.Held.{HoldCovers}

@@ -1,11 +1,8 @@
 -- Dependences and systems that stand beside them, one by one; systems put together of their forms.
-use Rattle.std.proofs.Common.{◌≡◌, ℤ, ℕ, zero, suc, ◌+◌, ◌<◌, List, [], ◌∷◌, ◌++◌, refl, sym, ◌∙◌, ap, ap₂, subst}
-use Rattle.std.proofs.Common.{◌⊎◌, inl, inr, arith, length, drop, map, get_or, drop-cons, add-one}
-use Rattle.std.specs.Prelude.{◌≤◌}
-use Rattle.std.specs.List.{flat_map}
-use Rattle.whole_numbers.specs.Affine.{Affine}
+use Rattle.scop_syntax.proofs.Common.{◌≡◌, ℤ, ℕ, zero, suc, ◌+◌, ◌<◌, List, [], ◌∷◌, ◌++◌, refl, sym, ◌∙◌, ap, ap₂}
+use Rattle.scop_syntax.proofs.Common.{subst, ◌⊎◌, inl, inr, arith, length, drop, map, get_or, drop-cons, add-one, ◌≤◌}
+use Rattle.scop_syntax.proofs.Common.{flat_map, Affine, In}
 use Rattle.integer_sets.specs.Constraints.{Constraints, system_of, IsSized}
-use Rattle.scop_syntax.specs.Members.{In}
 use Rattle.iteration_domains.specs.Dependence.{Dependence}
 use Rattle.pluto_systems.specs.Placing.{columns_of}
 use Rattle.pluto_systems.specs.Posing.{RuledDep, IsFarkasOf, HaveSizes, IsRuled, dep_of, ruled_dep}

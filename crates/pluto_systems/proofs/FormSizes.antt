@@ -1,15 +1,10 @@
 -- The forms of a posed system are over all columns.
-use Rattle.std.proofs.Common.{◌≡◌, ℕ, zero, suc, ◌+◌, ◌<◌, ℤ, pos, negsuc, List, [], ◌∷◌, ◌++◌, refl, sym, ◌∙◌, ap}
-use Rattle.std.proofs.Common.{subst, inl, inr, arith, length, reverse, take, drop, map, All}
-use Rattle.std.specs.Prelude.{◌≤◌, ◌≤ℤ◌, slice_index_or}
-use Rattle.std.specs.List.{flat_map}
-use Rattle.std.proofs.lemmas.Int.{ints}
-use Rattle.std.proofs.lemmas.List.{length-append, length-reverse, length-take-le, length-drop}
-use Rattle.std.proofs.lemmas.List.Elements.{All-nil, All-cons, All-head, All-tail, All-append}
-use Rattle.std.proofs.lemmas.Bool.{cases_Bool}
-use Rattle.whole_numbers.specs.Affine.{Affine}
-use Rattle.whole_numbers.specs.Lists.{zeros}
-use Rattle.whole_numbers.proofs.Dot.{length-zeros}
+use Rattle.scop_syntax.proofs.Common.{◌≡◌, ℕ, zero, suc, ◌+◌, ◌<◌, ℤ, pos, negsuc, List, [], ◌∷◌, ◌++◌, refl, sym, ◌∙◌}
+use Rattle.scop_syntax.proofs.Common.{ap, subst, inl, inr, arith, length, reverse, take, drop, map, All, ◌≤◌, ◌≤ℤ◌}
+use Rattle.scop_syntax.proofs.Common.{slice_index_or, flat_map, ints, length-reverse, length-take-le, length-drop}
+use Rattle.scop_syntax.proofs.Common.{All-nil, All-cons, All-head, All-tail, All-append, cases_Bool, Affine, zeros}
+use Rattle.scop_syntax.proofs.Common.{length-zeros}
+use Rattle.std.proofs.lemmas.List.{length-append}
 use Rattle.affine_forms.specs.Parts.{variables_of}
 use Rattle.fractions.specs.Farkas.{AreNotNegative}
 use Rattle.integer_sets.specs.Constraints.{IsSized, variables_in}

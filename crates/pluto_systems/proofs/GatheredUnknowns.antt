@@ -1,9 +1,8 @@
 -- The numbers of a row that are gathered for a dependence are its unknowns in their order.
-use Rattle.std.proofs.Common.{◌≡◌, ℕ, zero, suc, ◌+◌, ◌<◌, Bool, true, false, ℤ, pos, List, [], ◌∷◌, ◌++◌, refl, sym}
-use Rattle.std.proofs.Common.{◌∙◌, ap, ap₂, ◌⊎◌, inl, inr, arith, length}
-use Rattle.std.specs.Prelude.{nat_eq, nat_lt, if◌then◌else◌, slice_index_or}
+use Rattle.scop_syntax.proofs.Common.{◌≡◌, ℕ, zero, suc, ◌+◌, ◌<◌, Bool, true, false, ℤ, pos, List, [], ◌∷◌, ◌++◌, refl}
+use Rattle.scop_syntax.proofs.Common.{sym, ◌∙◌, ap, ap₂, ◌⊎◌, inl, inr, arith, length, nat_eq, nat_lt, if◌then◌else◌}
+use Rattle.scop_syntax.proofs.Common.{slice_index_or, eq-eqb, lt-ltb, le-ltb, cases_lt}
 use Rattle.std.proofs.lemmas.List.{append-nil}
-use Rattle.std.proofs.lemmas.Bool.{eq-eqb, lt-ltb, le-ltb, cases_lt}
 use Rattle.iteration_domains.specs.declared.dep.DepEnd.{DepEnd}
 use Rattle.iteration_domains.specs.Dependence.{Dependence}
 use Rattle.farkas.specs.Unknowns.{Part, Unknowns, part_numbers, end_numbers}

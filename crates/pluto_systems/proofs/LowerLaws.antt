@@ -1,5 +1,5 @@
 -- The laws of lower crates that the lemmas of this one use.
-use Rattle.std.specs.Prelude.{◌≡◌, ℕ, ◌≤◌, ℤ, List, All, length, ◌↔◌}
+use Rattle.scop_syntax.proofs.Common.{◌≡◌, ℕ, ◌≤◌, ℤ, List, All, length, ◌↔◌}
 use Rattle.null_space.specs.Narrowing.{narrowed_by, kernel_vectors}
 use Rattle.null_space.specs.Sizes.{AreCoefficients, AreLong, AreNarrow}
 use Rattle.fractions.specs.Farkas.{AreNotNegative, HasFarkas}

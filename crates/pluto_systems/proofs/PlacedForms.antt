@@ -1,14 +1,10 @@
 -- Values of placed forms.
-use Rattle.std.proofs.Common.{◌≡◌, ℕ, suc, ◌+◌, Bool, true, false, ℤ, List, [], ◌∷◌, ◌++◌, refl, sym, ◌∙◌, ap, inl}
-use Rattle.std.proofs.Common.{inr, arith, length, take, drop, reverse, append_assoc}
-use Rattle.std.specs.Prelude.{◌≤◌, ◌+ℤ◌, if◌then◌else◌}
-use Rattle.std.specs.List.{flat_map}
-use Rattle.std.proofs.lemmas.Int.{ints}
-use Rattle.std.proofs.lemmas.List.{length-append, length-reverse, length-take-le, length-drop, take-append-drop}
-use Rattle.std.proofs.lemmas.Bool.{cases_Bool}
-use Rattle.whole_numbers.specs.Affine.{Affine, value_of}
-use Rattle.whole_numbers.specs.Lists.{dot, zeros}
-use Rattle.whole_numbers.proofs.Dot.{dot-append, dot-zeros, length-zeros}
+use Rattle.scop_syntax.proofs.Common.{◌≡◌, ℕ, suc, ◌+◌, Bool, true, false, ℤ, List, [], ◌∷◌, ◌++◌, refl, sym, ◌∙◌, ap}
+use Rattle.scop_syntax.proofs.Common.{inl, inr, arith, length, take, drop, reverse, append_assoc, ◌≤◌, ◌+ℤ◌}
+use Rattle.scop_syntax.proofs.Common.{if◌then◌else◌, flat_map, ints, length-reverse, length-take-le, length-drop}
+use Rattle.scop_syntax.proofs.Common.{take-append-drop, cases_Bool, Affine, value_of, dot, zeros, dot-append, dot-zeros}
+use Rattle.scop_syntax.proofs.Common.{length-zeros}
+use Rattle.std.proofs.lemmas.List.{length-append}
 use Rattle.farkas.specs.Unknowns.{Part, part_numbers}
 use Rattle.schedule_rows.specs.Items.{Row, numbers_of}
 use Rattle.pluto_systems.specs.Placing.{is_end, placed_parts, placed, gathered_parts, gathered, AreShaped, IsShaped}

@@ -1,17 +1,11 @@
 -- The points of a posed system are the posed rows.
-use Rattle.std.proofs.Common.{◌≡◌, ℕ, zero, suc, ◌+◌, ◌<◌, ℤ, pos, negsuc, List, [], ◌∷◌, ◌++◌, refl, sym, ◌∙◌, ap}
-use Rattle.std.proofs.Common.{ap₂, subst, ◌⊎◌, inl, inr, arith, length, reverse, map, All}
-use Rattle.std.specs.Prelude.{◌≤◌, ◌+ℤ◌, ◌≤ℤ◌, slice_index_or, ◌↔◌}
-use Rattle.std.specs.List.{flat_map}
-use Rattle.std.proofs.lemmas.Int.{ints}
-use Rattle.std.proofs.lemmas.List.{length-append, length-reverse, reverse-append}
-use Rattle.std.proofs.lemmas.List.Elements.{All-nil, All-cons, All-head, All-tail, All-append}
-use Rattle.std.proofs.lemmas.Bool.{cases_Bool}
-use Rattle.whole_numbers.specs.Affine.{Affine, value_of}
-use Rattle.whole_numbers.specs.Lists.{dot, zeros, sums}
-use Rattle.whole_numbers.proofs.Dot.{dot-append, dot-zeros, dot-sums, length-zeros, length-sums}
-use Rattle.whole_numbers.proofs.Ring.{mul_zero_left}
-use Rattle.whole_numbers.proofs.Entries.{all_front, all_back}
+use Rattle.scop_syntax.proofs.Common.{◌≡◌, ℕ, zero, suc, ◌+◌, ◌<◌, ℤ, pos, negsuc, List, [], ◌∷◌, ◌++◌, refl, sym, ◌∙◌}
+use Rattle.scop_syntax.proofs.Common.{ap, ap₂, subst, ◌⊎◌, inl, inr, arith, length, reverse, map, All, ◌≤◌, ◌+ℤ◌, ◌≤ℤ◌}
+use Rattle.scop_syntax.proofs.Common.{slice_index_or, ◌↔◌, flat_map, ints, length-reverse, reverse-append, All-nil}
+use Rattle.scop_syntax.proofs.Common.{All-cons, All-head, All-tail, All-append, cases_Bool, Affine, value_of, dot}
+use Rattle.scop_syntax.proofs.Common.{zeros, sums, dot-append, dot-zeros, dot-sums, length-zeros, length-sums}
+use Rattle.scop_syntax.proofs.Common.{mul_zero_left, all_front, all_back, In}
+use Rattle.std.proofs.lemmas.List.{length-append}
 use Rattle.affine_forms.specs.Parts.{variables_of}
 use Rattle.fractions.specs.Farkas.{AreNotNegative, HasFarkas}
 use Rattle.integer_sets.specs.Constraints.{Constraints, IsSized, variables_in}
@@ -19,7 +13,6 @@ use Rattle.integer_sets.specs.Points.{Satisfies}
 use Rattle.iteration_domains.specs.Dependence.{Dependence}
 use Rattle.farkas.specs.Meaning.{rows_of}
 use Rattle.farkas.specs.declared.claim.Claim.TheVariants.{Legality, Bounding}
-use Rattle.scop_syntax.specs.Members.{In}
 use Rattle.null_space.specs.Narrowing.{Grows, sum_of_products}
 use Rattle.null_space.specs.Sizes.{AreLong}
 use Rattle.farkas.specs.Unknowns.{Part, AreOf, part_numbers}

@@ -1,11 +1,10 @@
 -- Lists of numbers and rows are one, so least points are least rows.
-use Rattle.std.proofs.Common.{◌≡◌, ℕ, suc, ◌+◌, ◌<◌, ℤ, pos, List, [], ◌∷◌, ◌++◌, refl, sym, ◌∙◌, ap, ap₂, subst}
-use Rattle.std.proofs.Common.{arith, length, take, drop, add-one, drop-cons, get_or}
-use Rattle.std.specs.Prelude.{slice_index_or}
-use Rattle.std.specs.List.{flat_map}
-use Rattle.std.proofs.lemmas.List.{length-append, length-reverse, length-take-le, length-drop, take-append-drop}
-use Rattle.std.proofs.lemmas.List.{reverse-reverse}
-use Rattle.whole_numbers.specs.Lexicographic.{LexLess, IsLeast}
+use Rattle.scop_syntax.proofs.Common.{◌≡◌, ℕ, suc, ◌+◌, ◌<◌, ℤ, pos, List, [], ◌∷◌, ◌++◌, refl, sym, ◌∙◌, ap, ap₂}
+use Rattle.scop_syntax.proofs.Common.{subst, arith, length, take, drop, add-one, drop-cons, get_or, slice_index_or}
+use Rattle.scop_syntax.proofs.Common.{flat_map, length-reverse, length-take-le, length-drop, take-append-drop}
+use Rattle.scop_syntax.proofs.Common.{reverse-reverse, LexLess}
+use Rattle.std.proofs.lemmas.List.{length-append}
+use Rattle.whole_numbers.specs.Lexicographic.{IsLeast}
 use Rattle.fractions.specs.Farkas.{AreNotNegative}
 use Rattle.integer_sets.specs.Constraints.{Constraints}
 use Rattle.integer_sets.specs.Points.{Satisfies}

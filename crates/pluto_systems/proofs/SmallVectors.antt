@@ -1,8 +1,6 @@
 -- The kernel vectors of each statement's rows are few and small.
-use Rattle.std.proofs.Common.{◌≡◌, ℕ, zero, suc, ◌<◌, ◌^◌, ℤ, List, [], ◌∷◌, refl, sym, ap, subst}
-use Rattle.std.proofs.Common.{arith, length, All}
-use Rattle.std.specs.Prelude.{◌≤◌, slice_index_or}
-use Rattle.std.proofs.lemmas.List.Elements.{All-nil, All-get_or, All-head}
+use Rattle.scop_syntax.proofs.Common.{◌≡◌, ℕ, zero, suc, ◌<◌, ◌^◌, ℤ, List, [], ◌∷◌, refl, sym, ap, subst, arith}
+use Rattle.scop_syntax.proofs.Common.{length, All, ◌≤◌, slice_index_or, All-nil, All-get_or, All-head}
 use Rattle.null_space.specs.Narrowing.{narrowed_by, narrowed_all, units_from, kernel_vectors}
 use Rattle.null_space.specs.Sizes.{AreWithin, AreLong}
 use Rattle.null_space.proofs.Sizes.{units_length}

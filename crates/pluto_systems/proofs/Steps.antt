@@ -1,9 +1,7 @@
 -- Steps of loops.
-use Rattle.std.proofs.Common.{◌≡◌, ℕ, ◌+◌, ◌<◌, ℤ, pos, List, [], ◌∷◌, ◌++◌, refl, sym, ◌∙◌, ap}
-use Rattle.std.proofs.Common.{arith, length, drop, add-one, drop-cons, append_assoc, get_or}
-use Rattle.std.specs.Prelude.{◌≤◌, ◌+ℤ◌}
-use Rattle.whole_numbers.specs.Lists.{sums}
-use Rattle.std.proofs.lemmas.List.Elements.{All-nil, All-cons, All-head, All-tail}
+use Rattle.scop_syntax.proofs.Common.{◌≡◌, ℕ, ◌+◌, ◌<◌, ℤ, pos, List, [], ◌∷◌, ◌++◌, refl, sym, ◌∙◌, ap, arith, length}
+use Rattle.scop_syntax.proofs.Common.{drop, add-one, drop-cons, append_assoc, get_or, ◌≤◌, ◌+ℤ◌, sums, All-nil}
+use Rattle.scop_syntax.proofs.Common.{All-cons, All-head, All-tail}
 use Rattle.null_space.specs.Sizes.{IsWithin, AreWithin}
 use Rattle.null_space.proofs.Sizes.{within_add}
 use Rattle.pluto_systems.specs.Posing.{added, growth_rows, growth_from}

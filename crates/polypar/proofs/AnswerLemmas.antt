@@ -1,11 +1,8 @@
 -- From what the parts of a call answer to what the call promises.
-use Rattle.std.proofs.Common.{◌≡◌, ◌≢◌, ◌⊎◌, ◌∙◌, sym, subst, ap, refl, inl, inr, ℕ, ◌+◌, ◌≤◌, ◌<◌, List, [], ◌∷◌, ◌++◌}
-use Rattle.std.proofs.Common.{length, Option, None, Some, append-nil, arith}
-use Rattle.std.specs.Prelude.{replicate, option_map}
-use Rattle.std.proofs.Common.{Bor}
-use Rattle.std.specs.Option.{option_copied}
-use Rattle.std.proofs.lemmas.List.{length-replicate}
-use Rattle.std.specs.Io.KnownBytes.{Appends}
+use Rattle.scop_syntax.proofs.Common.{◌≡◌, ◌≢◌, ◌⊎◌, ◌∙◌, sym, subst, ap, refl, inl, inr, ℕ, ◌+◌, ◌≤◌, ◌<◌, List, []}
+use Rattle.scop_syntax.proofs.Common.{◌∷◌, ◌++◌, length, Option, None, Some, append-nil, arith, replicate, Bor}
+use Rattle.scop_syntax.proofs.Common.{option_copied, length-replicate, Appends, program_of, Program}
+use Rattle.std.specs.Prelude.{option_map}
 use Rattle.std.proofs.KnownBytes.{Appends-nil, Appends-trans}
 use Rattle.io_ports.specs.Faults.{Rose}
 use Rattle.io_ports.specs.Bytes.{IsAllOf, IsLonger, GainsFront}
@@ -13,8 +10,6 @@ use Rattle.io_ports.specs.Reads.{SourceShows}
 use Rattle.io_ports.specs.Writes.{SinkShows, HasRoom, Takes, FailsToTake}
 use Rattle.io_ports.proofs.PutTexts.{take_then, whole_is_front, kept_is_nothing, room_next}
 use Rattle.scop_syntax.specs.declared.tree.Kernel.{Kernel}
-use Rattle.scop_syntax.specs.View.{program_of}
-use Rattle.scop_syntax.specs.Tree.{Program}
 use Rattle.plan_search.specs.Status.{Status}
 use Rattle.plan_search.specs.Status.TheVariants.{Done, Usage, Refused, BadData, Outside, ReadFault}
 use Rattle.plan_search.specs.Status.TheVariants.{WriteFault, NoMemory, Rejected}

@@ -1,12 +1,10 @@
 -- A text is accepted as a certificate or has a first fault; and what `check` prints of it.
-use Rattle.std.proofs.Common.{◌≡◌, ◌⊎◌, sym, subst, refl, inl, inr, ℕ, suc, Bool, true, false, List, [], ◌∷◌, Result, Ok}
-use Rattle.std.proofs.Common.{Err, arith, if◌then◌else◌}
-use Rattle.std.specs.Prelude.{not}
+use Rattle.scop_syntax.proofs.Common.{◌≡◌, ◌⊎◌, sym, subst, refl, inl, inr, ℕ, suc, Bool, true, false, List, [], ◌∷◌}
+use Rattle.scop_syntax.proofs.Common.{Result, Ok, Err, arith, if◌then◌else◌, not, Program}
 use Rattle.std.proofs.KnownBytes.{Appends-nil}
 use Rattle.wide_math.specs.Gives.{IsTold}
 use Rattle.io_ports.specs.Writes.{SinkShows, Takes, CutsOff}
 use Rattle.iteration_domains.specs.Model.{KernelModel, model_of}
-use Rattle.scop_syntax.specs.Tree.{Program}
 use Rattle.command_line.specs.declared.command.Command.{Command}
 use Rattle.command_line.specs.declared.command.Command.TheVariants.{Check}
 use Rattle.plan_check.specs.Judged.{Stage, laying, proving, end_judged, goals_ended, goals_opened, judged, line_judged}

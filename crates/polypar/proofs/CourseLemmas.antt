@@ -1,9 +1,7 @@
 -- By which plan a run goes, and whether each instance has a copy of its own.
-use Rattle.std.proofs.Common.{◌≡◌, ◌∙◌, sym, ap, subst, refl, inl, inr, arith, ℕ, suc, ℤ, Bool, true, false, List, []}
-use Rattle.std.proofs.Common.{◌∷◌, ◌==◌, All, Option, None, Some, length}
-use Rattle.std.specs.Prelude.{MatchOption, ⊤}
-use Rattle.std.proofs.lemmas.List.Elements.{All-cons, All-nil}
-use Rattle.scop_syntax.specs.Tree.{Program}
+use Rattle.scop_syntax.proofs.Common.{◌≡◌, ◌∙◌, sym, ap, subst, refl, inl, inr, arith, ℕ, suc, ℤ, Bool, true, false}
+use Rattle.scop_syntax.proofs.Common.{List, [], ◌∷◌, ◌==◌, All, Option, None, Some, length, MatchOption, ⊤, All-cons}
+use Rattle.scop_syntax.proofs.Common.{All-nil, Program}
 use Rattle.plan_search.specs.Flow.{IsResolved}
 use Rattle.tile_runs.specs.Expansions.{AreSourcesOf}
 use Rattle.tile_runs.specs.Sources.{Sources}

@@ -1,8 +1,8 @@
 -- The lines of a text, and where an input is cut.
-use Rattle.std.proofs.Common.{◌≡◌, ◌≢◌, ◌∙◌, sym, ap, refl, ℕ, zero, suc, ◌+◌, ◌<◌, ◌==◌, ◌⊎◌, inl, inr, true, false}
-use Rattle.std.proofs.Common.{List, [], ◌∷◌, ◌++◌, length, take, drop, get_or, if◌then◌else◌, arith, ne_eqb, subst}
-use Rattle.std.proofs.Common.{append_assoc}
-use Rattle.std.proofs.lemmas.List.{drop-drop}
+use Rattle.scop_syntax.proofs.Common.{◌≡◌, ◌≢◌, ◌∙◌, sym, ap, refl, ℕ, zero, suc, ◌+◌, ◌<◌, ◌==◌, ◌⊎◌, inl, inr, true}
+use Rattle.scop_syntax.proofs.Common.{false, List, [], ◌∷◌, ◌++◌, length, take, drop, get_or, if◌then◌else◌, arith}
+use Rattle.scop_syntax.proofs.Common.{subst, append_assoc, drop-drop}
+use Rattle.std.proofs.Common.{ne_eqb}
 use Rattle.std.proofs.Math.Seq.{take-add}
 use Rattle.polypar.specs.Cut.{before_lines, whole_lines, is_cut, before_cut, joined, after_cut}
 

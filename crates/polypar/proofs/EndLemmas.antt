@@ -1,12 +1,11 @@
 -- How a command ended: of an input that was read or not, of a source that failed, of a summary, and of words.
-use Rattle.std.proofs.Common.{◌≡◌, ◌≢◌, ◌⊎◌, sym, subst, refl, inl, inr, ℕ, List, Option, None, Some, arith}
+use Rattle.scop_syntax.proofs.Common.{◌≡◌, ◌≢◌, ◌⊎◌, sym, subst, refl, inl, inr, ℕ, List, Option, None, Some, arith}
+use Rattle.scop_syntax.proofs.Common.{program_of, Program}
 use Rattle.std.specs.Prelude.{option_map}
 use Rattle.std.specs.Io.KnownBytes.{IsAtEnd}
 use Rattle.io_ports.specs.Bytes.{IsAllOf}
 use Rattle.io_ports.specs.Reads.{SourceShows, IsReadFault}
 use Rattle.io_ports.specs.Writes.{SinkShows}
-use Rattle.scop_syntax.specs.View.{program_of}
-use Rattle.scop_syntax.specs.Tree.{Program}
 use Rattle.scop_parser.specs.Spelling.{SpellsProgram}
 use Rattle.plan_search.specs.Status.{Status}
 use Rattle.plan_search.specs.Status.TheVariants.{Done, Usage, Refused, BadData, Outside, ReadFault}

@@ -1,7 +1,6 @@
 -- What is told of a program's model is what a command asks of the program.
-use Rattle.std.proofs.Common.{◌≡◌, sym, subst, ℕ, Result, Ok, Err, IfOk}
+use Rattle.scop_syntax.proofs.Common.{◌≡◌, sym, subst, ℕ, Result, Ok, Err, IfOk, Program}
 use Rattle.iteration_domains.specs.Model.{KernelModel, model_of}
-use Rattle.scop_syntax.specs.Tree.{Program}
 use Rattle.command_line.specs.declared.command.KernelCommand.{KernelCommand}
 use Rattle.command_line.specs.declared.command.KernelCommand.TheVariants.{Schedule}
 use Rattle.plan_search.specs.Planning.{IsPlanOf}

@@ -1,5 +1,5 @@
 -- `schedule`, `deps`, `certify` and `check` have no lines.
-use Rattle.std.proofs.Common.{◌≡◌, ◌∙◌, sym, subst, ap, refl, inl, inr, ℕ, List, [], ◌∷◌, ◌++◌, Option}
+use Rattle.scop_syntax.proofs.Common.{◌≡◌, ◌∙◌, sym, subst, ap, refl, inl, inr, ℕ, List, [], ◌∷◌, ◌++◌, Option}
 use Rattle.io_ports.specs.Writes.{SinkShows}
 use Rattle.plan_search.specs.Status.{Status}
 use Rattle.plan_search.specs.Status.TheVariants.{Done, Usage, Refused, BadData, Outside, ReadFault}

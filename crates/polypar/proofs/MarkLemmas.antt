@@ -1,10 +1,7 @@
 -- A run with marked arrays: what it asks of its plan and of its marks, and what is told of it.
-use Rattle.std.proofs.Common.{◌≡◌, ◌∙◌, sym, ap, subst, arith, ℕ, suc, ℤ, Bool, true, false, List, [], ◌∷◌, ◌++◌}
-use Rattle.std.proofs.Common.{◌==◌, Option, length}
-use Rattle.std.specs.Prelude.{if◌then◌else◌}
-use Rattle.scop_syntax.specs.Reductions.{AreMarked, marks}
-use Rattle.scop_syntax.specs.Tree.{Program}
-use Rattle.scop_syntax.specs.Walk.{Visit, walk_of}
+use Rattle.scop_syntax.proofs.Common.{◌≡◌, ◌∙◌, sym, ap, subst, arith, ℕ, suc, ℤ, Bool, true, false, List, [], ◌∷◌}
+use Rattle.scop_syntax.proofs.Common.{◌++◌, ◌==◌, Option, length, if◌then◌else◌, AreMarked, Program, Visit, walk_of}
+use Rattle.scop_syntax.specs.Reductions.{marks}
 use Rattle.scop_syntax.proofs.ReducedArrays.{none_marked}
 use Rattle.loop_tree.specs.Plans.{walked}
 use Rattle.loop_tree.specs.Tiling.{Tiling, kept, tiled}

@@ -1,5 +1,6 @@
 -- Over ports in memory that fail at no call and have room, no fault is counted.
-use Rattle.std.proofs.Common.{◌≡◌, ◌⊎◌, sym, subst, ap, refl, ℕ, true, List, [], Some, None, if◌then◌else◌, arith}
+use Rattle.scop_syntax.proofs.Common.{◌≡◌, ◌⊎◌, sym, subst, ap, refl, ℕ, true, List, [], Some, None, if◌then◌else◌}
+use Rattle.scop_syntax.proofs.Common.{arith}
 use Rattle.io_ports.specs.Faults.{Rose, none_to_come}
 use Rattle.io_ports.specs.Writes.{IsWithin, HasRoom}
 use Rattle.io_ports.specs.Memory.{SourceState, source_shows, SinkState, sink_shows}

@@ -1,11 +1,8 @@
 -- The names of a program that a text spells are words as emitted texts need them.
-use Rattle.std.proofs.Common.{◌≡◌, refl, Bool, true, false, List, [], ◌∷◌, ◌++◌, inl, inr}
-use Rattle.std.specs.Prelude.{◌==◌, ◌≢◌, All, Option, None, codes, if◌then◌else◌}
-use Rattle.std.proofs.lemmas.Bool.{eqb-true}
-use Rattle.std.proofs.lemmas.List.Elements.{All-head, All-tail}
+use Rattle.scop_syntax.proofs.Common.{◌≡◌, refl, Bool, true, false, List, [], ◌∷◌, ◌++◌, inl, inr, ◌==◌, ◌≢◌, All}
+use Rattle.scop_syntax.proofs.Common.{Option, None, codes, if◌then◌else◌, eqb-true, All-head, All-tail, In, Tree, loop}
+use Rattle.scop_syntax.proofs.Common.{guard, statement, Trees, none, more, Program}
 use Rattle.scop_lexer.specs.Bytes.{Text}
-use Rattle.scop_syntax.specs.Members.{In}
-use Rattle.scop_syntax.specs.Tree.{Tree, loop, guard, statement, Trees, none, more, Program}
 use Rattle.scop_parser.specs.DistinctNames.{AreDistinct}
 use Rattle.scop_parser.specs.Names.{HasFreeNames, IsFreeName, TakeFree, TakesFree}
 use Rattle.form_text.specs.Names.{AreNames, IsFresh}

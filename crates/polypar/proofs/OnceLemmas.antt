@@ -1,12 +1,6 @@
 -- Each check in the order of work has one outcome, so words and an input deserve one status.
-use Rattle.std.proofs.Common.{◌≡◌, ◌∙◌, sym, subst, ap, inl, inr, ℕ, ◌≤◌, ◌^◌, ℤ, List, length, Option, None, Some}
-use Rattle.std.proofs.Common.{arith}
-use Rattle.std.proofs.lemmas.Option.{same_Some}
-use Rattle.std.specs.Prelude.{Err, Ok, true}
-use Rattle.scop_syntax.specs.Tree.{Program}
-use Rattle.scop_syntax.specs.Walk.{Visit}
-use Rattle.scop_syntax.specs.Execution.{AreInside}
-use Rattle.scop_syntax.specs.Failures.{first_outside}
+use Rattle.scop_syntax.proofs.Common.{◌≡◌, ◌∙◌, sym, subst, ap, inl, inr, ℕ, ◌≤◌, ◌^◌, ℤ, List, length, Option, None}
+use Rattle.scop_syntax.proofs.Common.{Some, arith, same_Some, Err, Ok, true, Program, Visit, AreInside, first_outside}
 use Rattle.scop_meaning.specs.Outside.{outside_of}
 use Rattle.scop_parser.specs.Spelling.{SpellsProgram, IsFirstFault, IsRefusedAs}
 use Rattle.scop_parser.specs.declared.refusal.Refusal.{Refusal}

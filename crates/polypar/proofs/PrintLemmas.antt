@@ -1,7 +1,6 @@
 -- What is printed is held in memory; trees of a plan can be printed.
-use Rattle.std.proofs.Common.{◌≡◌, sym, subst, ℕ, ◌^◌, ◌<◌, [], length, Result, Ok, Err, IfOk, arith}
+use Rattle.scop_syntax.proofs.Common.{◌≡◌, sym, subst, ℕ, ◌^◌, ◌<◌, [], length, Result, Ok, Err, IfOk, arith, Program}
 use Rattle.io_ports.specs.Writes.{SinkShows}
-use Rattle.scop_syntax.specs.Tree.{Program}
 use Rattle.loop_tree.specs.Marks.{FlatAll}
 use Rattle.loop_tree.specs.Shape.{NestAllTo, TreesAreOf, TreesAreOver, TreesAreUpTo}
 use Rattle.loop_tree.specs.Tiling.{Tiling}

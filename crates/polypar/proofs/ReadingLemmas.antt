@@ -1,7 +1,5 @@
 -- The text of loops is read back as their trees.
-use Rattle.std.proofs.Common.{◌≡◌, ◌∙◌, ap, inl, inr, ℕ, Bool, false, List, [], Some}
-use Rattle.scop_syntax.specs.Kernel.{IsKernel}
-use Rattle.scop_syntax.specs.Tree.{Program}
+use Rattle.scop_syntax.proofs.Common.{◌≡◌, ◌∙◌, ap, inl, inr, ℕ, Bool, false, List, [], Some, IsKernel, Program}
 use Rattle.scop_parser.specs.Spelling.{SpellsProgram}
 use Rattle.scop_parser.specs.Names.{HasFreeNames}
 use Rattle.loop_tree.specs.Tiling.{Tiling}

@@ -1,7 +1,6 @@
 -- From what a status says of a kernel's data to what it says of the whole input.
-use Rattle.std.proofs.Common.{◌≡◌, subst, refl, inl, inr, ℕ, ◌^◌, ◌<◌, ℤ, List, length}
+use Rattle.scop_syntax.proofs.Common.{◌≡◌, subst, refl, inl, inr, ℕ, ◌^◌, ◌<◌, ℤ, List, length, Program}
 use Rattle.io_ports.specs.Writes.{SinkShows}
-use Rattle.scop_syntax.specs.Tree.{Program}
 use Rattle.scop_parser.specs.Spelling.{SpellsProgram, IsRefusedAs}
 use Rattle.scop_parser.specs.declared.refusal.Refusal.{Refusal}
 use Rattle.data_text.specs.Cases.{Says}

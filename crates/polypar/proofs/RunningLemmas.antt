@@ -1,11 +1,8 @@
 -- Trees that carry out a plan run the kernel.
-use Rattle.std.proofs.Common.{◌≡◌, ℕ, ℤ, false, List, [], map, refl}
-use Rattle.scop_syntax.specs.Cells.{PlacesConflict, conflict_cell}
-use Rattle.scop_syntax.specs.Execution.{IsInside, IsShaped, exec, layout, performed_all}
-use Rattle.scop_syntax.specs.Limits.{HasParameters}
-use Rattle.scop_syntax.specs.Reductions.{is_marked}
-use Rattle.scop_syntax.specs.Tree.{Program}
-use Rattle.scop_syntax.specs.Walk.{instance, Visit as Walked, walk_of}
+use Rattle.scop_syntax.proofs.Common.{◌≡◌, ℕ, ℤ, false, List, [], map, refl, PlacesConflict, conflict_cell, IsInside}
+use Rattle.scop_syntax.proofs.Common.{IsShaped, exec, layout, performed_all, HasParameters, is_marked, Program}
+use Rattle.scop_syntax.proofs.Common.{instance, walk_of}
+use Rattle.scop_syntax.specs.Walk.{Visit as Walked}
 use Rattle.scop_syntax.specs.ConflictOrders.{IsOrderOf}
 use Rattle.loop_tree.specs.Plans.{CarryOut, walked}
 use Rattle.loop_tree.specs.Runs.{MayRunAll}

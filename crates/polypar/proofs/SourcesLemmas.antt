@@ -1,16 +1,9 @@
 -- From the sources of a model's reads to the text that is printed, and to what it tells of each walked read.
-use Rattle.std.proofs.Common.{◌≡◌, ◌∙◌, sym, ap, subst, refl, inl, inr, ℕ, zero, suc, ◌+◌, ◌-◌, ◌<◌, ℤ, List, [], ◌∷◌}
-use Rattle.std.proofs.Common.{◌++◌, length, map, Some, Result, Ok, Err, IfOk, arith}
-use Rattle.std.specs.Prelude.{Vec, slice_get}
+use Rattle.scop_syntax.proofs.Common.{◌≡◌, ◌∙◌, sym, ap, subst, refl, inl, inr, ℕ, zero, suc, ◌+◌, ◌-◌, ◌<◌, ℤ, List}
+use Rattle.scop_syntax.proofs.Common.{[], ◌∷◌, ◌++◌, length, map, Some, Result, Ok, Err, IfOk, arith, Vec, slice_get}
+use Rattle.scop_syntax.proofs.Common.{length-map, Cell, accesses, cell_of, HasParameters, In, Program, Visit, walk_of}
+use Rattle.scop_syntax.proofs.Common.{last_writer, in_front, in_back, in_from_place, place_of}
 use Rattle.std.specs.Global.{Global}
-use Rattle.std.proofs.lemmas.List.{length-map}
-use Rattle.scop_syntax.specs.Cells.{Cell, accesses, cell_of}
-use Rattle.scop_syntax.specs.Limits.{HasParameters}
-use Rattle.scop_syntax.specs.Members.{In}
-use Rattle.scop_syntax.specs.Tree.{Program}
-use Rattle.scop_syntax.specs.Walk.{Visit, walk_of}
-use Rattle.scop_syntax.specs.Writers.{last_writer}
-use Rattle.scop_syntax.proofs.Members.{in_front, in_back, in_from_place, place_of}
 use Rattle.iteration_domains.specs.Instances.{IsInstanceOf}
 use Rattle.iteration_domains.specs.Model.{Modelled, KernelModel, model_of}
 use Rattle.plan_search.specs.Pairs.{TouchesAt}

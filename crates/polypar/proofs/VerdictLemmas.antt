@@ -1,13 +1,10 @@
 -- Each check in the order of work has an outcome, so words and an input deserve a status.
-use Rattle.std.proofs.Common.{◌≡◌, ◌⊎◌, ◌∙◌, sym, refl, inl, inr, ℕ, ◌^◌, ltb, Bool, true, false, ℤ, List, [], ◌∷◌}
-use Rattle.std.proofs.Common.{length, Option, None, Some, ltb-true, ltb-false}
-use Rattle.std.specs.Prelude.{Err, is_some, take}
+use Rattle.scop_syntax.proofs.Common.{◌≡◌, ◌⊎◌, ◌∙◌, sym, refl, inl, inr, ℕ, ◌^◌, ltb, Bool, true, false, ℤ, List, []}
+use Rattle.scop_syntax.proofs.Common.{◌∷◌, length, Option, None, Some, Err, is_some, take, Program, Visit, walk_of}
+use Rattle.scop_syntax.proofs.Common.{IsKernel, AreInside, layout, Failure, first_outside}
+use Rattle.std.proofs.Common.{ltb-true, ltb-false}
 use Rattle.scop_lexer.specs.Lines.{line_behind, column_behind}
-use Rattle.scop_syntax.specs.Tree.{Program}
-use Rattle.scop_syntax.specs.Walk.{Visit, walk_of}
-use Rattle.scop_syntax.specs.Kernel.{IsKernel}
-use Rattle.scop_syntax.specs.Execution.{AreInside, layout}
-use Rattle.scop_syntax.specs.Failures.{Failure, VisitsAreRanked, first_outside}
+use Rattle.scop_syntax.specs.Failures.{VisitsAreRanked}
 use Rattle.scop_meaning.specs.Outside.{outside_of}
 use Rattle.scop_parser.specs.Spelling.{SpellsProgram, IsFirstFault, IsRefusedAs}
 use Rattle.scop_parser.specs.declared.refusal.Refusal.{Refusal}

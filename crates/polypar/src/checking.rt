@@ -8,8 +8,8 @@ ghost use Rattle.polypar.specs.Promises.{AnswersCertificate};
 
 use crate::kernel::print_text;
 use io_ports::{Failed, Sink};
-use plan_search::Status;
 use plan_check::{CheckStop, check_plan};
+use plan_search::Status;
 use scop_syntax::tree::Kernel;
 use std::alloc::Global;
 

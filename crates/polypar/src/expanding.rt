@@ -17,13 +17,13 @@ ghost use Rattle.polypar.specs.steps.Courses.{HasNoCopies, IsCourse, IsExpansion
 use command_line::RunOptions;
 use data_text::Case;
 use iteration_domains::Model;
+use pip_solver::Stop;
 use plan_search::{
     Planned, ReadSource, SourceStop, UnexpandedLine, last_writes, planned, planned_by_flow,
 };
-use tile_runs::{NoSources, Sources, sources_of};
-use pip_solver::Stop;
 use scop_syntax::tree::Kernel;
 use std::alloc::{AllocError, Global};
+use tile_runs::{NoSources, Sources, sources_of};
 
 /// How a run goes: by its plan; where it has the sources of all reads, each instance has a copy of its own cell; where
 /// that was asked for and is not so, a line tells why.

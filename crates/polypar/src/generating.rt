@@ -16,8 +16,8 @@ use command_line::{GeneratedKernel, RunOptions, Sync};
 use io_ports::Sink;
 use kernel_gen::{cells_in, generated, sum_of, summary};
 use plan_search::Status;
-use tile_runs::Workers;
 use std::alloc::{AllocError, Global};
+use tile_runs::Workers;
 
 /// Runs a generated kernel by waves and without copies: what that leaves to tell, without a report, how many cells its
 /// arrays have, and their sum.

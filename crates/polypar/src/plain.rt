@@ -16,7 +16,6 @@ use command_line::{Command, CommandStop, command_of};
 use data_text::{said_once, texts_say_what_lines_describe};
 use io_ports::{Failed, Gate, Sink, Source};
 use plan_search::{Status, status_line};
-use tile_runs::{By, OneWorker, Plan, Workers, run_on_threads};
 use scop_parser::laws::{
     faults_leave_no_program, spelled_programs_are_kernels, texts_have_one_first_fault,
     texts_spell_a_program_or_have_a_fault, texts_spell_one_program,
@@ -27,6 +26,7 @@ use scop_syntax::tree::Kernel;
 use std::alloc::{AllocError, Global};
 use std::sync::Wait;
 use std::thread::Threads;
+use tile_runs::{By, OneWorker, Plan, Workers, run_on_threads};
 
 /// Does what the words ask for, and tells a status other than Done on `err` as the last act. Whatever number of workers
 /// is asked for, one does the tiles of all, on the caller's thread: it starts no thread and waits for nobody.

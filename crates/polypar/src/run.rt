@@ -26,12 +26,12 @@ use command_line::{Command, RunOptions};
 use data_text::{Case, DataStop, read_data, write_arrays};
 use io_ports::{Failed, ReadError, Sink, Source, read_to_end, write_whole};
 use plan_search::{Refusal, RefusalKind, Status};
-use tile_runs::Workers;
 use scop_parser::reader::{ReadKernelError, read_kernel};
 use scop_syntax::failure_laws::failures_are_the_first;
 use scop_syntax::limit_laws::accesses_have_the_ranks_of_arrays;
 use scop_syntax::tree::Kernel;
 use std::alloc::Global;
+use tile_runs::Workers;
 
 /// The longest input that is read, in bytes.
 pub const LONGEST_INPUT: usize = 1 << 27;

@@ -1,8 +1,7 @@
 -- The tests between two leaves, one common loop behind another.
-use Rattle.std.proofs.Common.{◌≡◌, ℕ, zero, suc, ◌+◌, ◌<◌, ◌≤◌, Bool, true, false, ℤ, List, [], ◌∷◌, length, drop}
-use Rattle.std.proofs.Common.{get_or, refl, sym, ap, ap₂, subst, ◌∙◌, arith}
-use Rattle.std.specs.Prelude.{nat_eq, if◌then◌else◌}
-use Rattle.whole_numbers.specs.Affine.{Affine}
+use Rattle.whole_numbers.proofs.Common.{◌≡◌, ℕ, zero, suc, ◌+◌, ◌<◌, ◌≤◌, Bool, true, false, ℤ, List, [], ◌∷◌, length}
+use Rattle.whole_numbers.proofs.Common.{drop, get_or, refl, sym, ap, ap₂, subst, ◌∙◌, arith, nat_eq, if◌then◌else◌}
+use Rattle.whole_numbers.proofs.Common.{Affine}
 use Rattle.quast_trees.specs.Source.{Forms}
 use Rattle.quast_trees.specs.Tree.{Tree, leaf, branch}
 use Rattle.quast_trees.specs.Postfix.{branched}

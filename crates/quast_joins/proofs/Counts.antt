@@ -1,11 +1,8 @@
 -- How many nodes a join has, by its two trees and by their nodes, and as the code counts them.
-use Rattle.std.proofs.Common.{◌≡◌, ℕ, zero, suc, ◌+◌, ◌*◌, ◌<◌, ◌≤◌, Bool, true, false, List, [], ◌∷◌, ◌++◌, length}
-use Rattle.std.proofs.Common.{map, drop, get_or, min, refl, ap, ap₂, ◌∙◌, arith, drop-cons}
-use Rattle.std.specs.Prelude.{fold, nat_eq, pos, sum_by, if◌then◌else◌}
-use Rattle.std.proofs.lemmas.Bool.{eq-eqb}
-use Rattle.std.proofs.lemmas.List.{length-map}
+use Rattle.whole_numbers.proofs.Common.{◌≡◌, ℕ, zero, suc, ◌+◌, ◌*◌, ◌<◌, ◌≤◌, Bool, true, false, List, [], ◌∷◌, ◌++◌}
+use Rattle.whole_numbers.proofs.Common.{length, map, drop, get_or, min, refl, ap, ap₂, ◌∙◌, arith, drop-cons, fold}
+use Rattle.whole_numbers.proofs.Common.{nat_eq, pos, sum_by, if◌then◌else◌, eq-eqb, length-map, Affine, form_of}
 use Rattle.std.proofs.lemmas.List.Sums.{sum_by-append, sum_by-cons}
-use Rattle.whole_numbers.specs.Affine.{Affine, form_of}
 use Rattle.quast_trees.specs.Source.{Forms}
 use Rattle.quast_trees.specs.Tree.{Tree, initial, leaf, branch, bind, count}
 use Rattle.quast_trees.specs.Postfix.{written}

@@ -1,14 +1,8 @@
 -- The forms of a join, as the code puts them together.
-use Rattle.std.proofs.Common.{◌≡◌, ℕ, zero, suc, ◌+◌, ◌-◌, ◌≤◌, ℤ, pos, negsuc, ◌+ℤ◌, ◌-ℤ◌, ◌*ℤ◌, List, [], ◌∷◌}
-use Rattle.std.proofs.Common.{◌++◌, length, take, drop, refl, sym, ap, ap₂, ◌∙◌}
-use Rattle.std.proofs.Common.{arith, append_assoc}
-use Rattle.std.specs.Prelude.{neg_ℤ}
-use Rattle.std.proofs.lemmas.Int.{ints}
-use Rattle.std.proofs.lemmas.List.{length-drop}
-use Rattle.std.proofs.Math.Seq.{take-length}
-use Rattle.whole_numbers.specs.Lists.{zeros, multiples, sums}
-use Rattle.whole_numbers.specs.Affine.{Affine, form_of, sum_of_forms, multiple_of_form}
-use Rattle.whole_numbers.proofs.Lists.{multiples-one}
+use Rattle.whole_numbers.proofs.Common.{◌≡◌, ℕ, zero, suc, ◌+◌, ◌-◌, ◌≤◌, ℤ, pos, negsuc, ◌+ℤ◌, ◌-ℤ◌, ◌*ℤ◌, List, []}
+use Rattle.whole_numbers.proofs.Common.{◌∷◌, ◌++◌, length, take, drop, refl, sym, ap, ap₂, ◌∙◌, arith, append_assoc}
+use Rattle.whole_numbers.proofs.Common.{neg_ℤ, ints, length-drop, take-length, zeros, multiples, sums, Affine, form_of}
+use Rattle.whole_numbers.proofs.Common.{sum_of_forms, multiple_of_form, multiples-one}
 use Rattle.quast_joins.specs.Shifts.{shifted, shifted_form}
 use Rattle.quast_joins.specs.Joins.{less_by_one}
 

@@ -1,10 +1,8 @@
 -- No quotient that a join binds on the way of a point is negative, where none is that its sides bind.
-use Rattle.std.proofs.Common.{◌≡◌, ℕ, suc, Bool, true, false, ℤ, pos, List}
-use Rattle.std.proofs.Common.{[], ◌∷◌, ◌++◌, length, refl, sym, ap, subst, ◌∙◌, length-append, arith}
-use Rattle.std.specs.Prelude.{nat_eq, if◌then◌else◌, ◌≤ℤ◌, ◌<ℤ◌}
+use Rattle.whole_numbers.proofs.Common.{◌≡◌, ℕ, suc, Bool, true, false, ℤ, pos, List, [], ◌∷◌, ◌++◌, length, refl, sym}
+use Rattle.whole_numbers.proofs.Common.{ap, subst, ◌∙◌, length-append, arith, nat_eq, if◌then◌else◌, ◌≤ℤ◌, ◌<ℤ◌, Affine}
+use Rattle.whole_numbers.proofs.Common.{value_of, floor}
 use Rattle.std.proofs.lemmas.List.{append_assoc, append-nil}
-use Rattle.whole_numbers.specs.Affine.{Affine, value_of}
-use Rattle.whole_numbers.specs.Floor.{floor}
 use Rattle.quast_trees.specs.Source.{Forms}
 use Rattle.quast_trees.specs.Tree.{Tree, initial, leaf, branch, bind, Speaks}
 use Rattle.quast_joins.specs.Ways.{statement_of, loops_of, text}

@@ -1,14 +1,8 @@
 -- 128 bits hold the rows by which a join is told.
-use Rattle.std.proofs.Common.{◌≡◌, ℕ, zero, suc, ◌^◌, Bool, true, false, ℤ, pos, ◌+ℤ◌, ◌-ℤ◌, ◌≤ℤ◌, List}
-use Rattle.std.proofs.Common.{[], ◌∷◌, arith}
-use Rattle.std.specs.Prelude.{nat_eq, if◌then◌else◌, ◌<ℤ◌, neg_ℤ}
-use Rattle.std.proofs.lemmas.Int.{ints}
-use Rattle.whole_numbers.specs.Affine.{Affine, complement}
-use Rattle.std.specs.Prelude.{negsuc, ◌*ℤ◌}
-use Rattle.std.proofs.lemmas.List.Elements.{All-append, All-cons, All-head, All-nil, All-tail}
-use Rattle.whole_numbers.specs.Fits.{fits}
+use Rattle.whole_numbers.proofs.Common.{◌≡◌, ℕ, zero, suc, ◌^◌, Bool, true, false, ℤ, pos, ◌+ℤ◌, ◌-ℤ◌, ◌≤ℤ◌, List, []}
+use Rattle.whole_numbers.proofs.Common.{◌∷◌, arith, nat_eq, if◌then◌else◌, ◌<ℤ◌, neg_ℤ, ints, Affine, complement}
+use Rattle.whole_numbers.proofs.Common.{negsuc, ◌*ℤ◌, All-append, All-cons, All-head, All-nil, All-tail, fits, zeros}
 use Rattle.whole_numbers.proofs.Fits.{fits_range}
-use Rattle.whole_numbers.specs.Lists.{zeros}
 use Rattle.quast_trees.specs.Source.{Forms}
 use Rattle.quast_trees.specs.Tree.{Tree, initial, leaf, branch, bind}
 use Rattle.quast_joins.specs.Ways.{statement_of, loops_of, text}

@@ -1,9 +1,6 @@
 -- The nodes of a quast with the numbers of binds round them, as the code goes over them.
-use Rattle.std.proofs.Common.{◌≡◌, ℕ, zero, suc, ◌+◌, ◌<◌, ◌≤◌, ℤ, pos, List, [], ◌∷◌, length, drop, refl}
-use Rattle.std.proofs.Common.{sym, ap, ap₂, subst, ◌∙◌, arith}
-use Rattle.std.specs.Prelude.{◌≤ℤ◌, get_or}
-use Rattle.std.proofs.lemmas.List.{drop_all, length-map}
-use Rattle.std.proofs.lemmas.Int.{ints}
+use Rattle.whole_numbers.proofs.Common.{◌≡◌, ℕ, zero, suc, ◌+◌, ◌<◌, ◌≤◌, ℤ, pos, List, [], ◌∷◌, length, drop, refl}
+use Rattle.whole_numbers.proofs.Common.{sym, ap, ap₂, subst, ◌∙◌, arith, ◌≤ℤ◌, get_or, drop_all, length-map, ints}
 use Rattle.quast_trees.specs.Source.{Forms}
 use Rattle.quast_trees.specs.Tree.{Tree, leaf, Speaks}
 use Rattle.quast_trees.specs.Postfix.{written}

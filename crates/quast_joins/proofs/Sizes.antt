@@ -1,12 +1,8 @@
 -- The numbers of a join: its leaves' are as small as those of both, and its tests fit 128 bits.
-use Rattle.std.proofs.Common.{◌≡◌, ℕ, zero, suc, ◌^◌, Bool, true, false, ℤ, pos, negsuc, ◌+ℤ◌, ◌-ℤ◌, ◌*ℤ◌, ◌≤ℤ◌, List}
-use Rattle.std.proofs.Common.{[], ◌∷◌, ◌++◌, map, Result, Ok, Err, IsTrue, refl, arith}
-use Rattle.std.specs.Prelude.{nat_eq, if◌then◌else◌}
-use Rattle.std.proofs.lemmas.Bool.{lt-ltb}
-use Rattle.std.proofs.lemmas.Int.{ints}
-use Rattle.whole_numbers.specs.Affine.{Affine, form_of}
-use Rattle.whole_numbers.specs.Fits.{fits}
-use Rattle.whole_numbers.specs.Lists.{zeros, sums, multiples}
+use Rattle.whole_numbers.proofs.Common.{◌≡◌, ℕ, zero, suc, ◌^◌, Bool, true, false, ℤ, pos, negsuc, ◌+ℤ◌, ◌-ℤ◌, ◌*ℤ◌}
+use Rattle.whole_numbers.proofs.Common.{◌≤ℤ◌, List, [], ◌∷◌, ◌++◌, map, Result, Ok, Err, refl, arith, nat_eq}
+use Rattle.whole_numbers.proofs.Common.{if◌then◌else◌, lt-ltb, ints, Affine, form_of, fits, zeros, sums, multiples}
+use Rattle.std.proofs.Common.{IsTrue}
 use Rattle.wide_math.specs.declared.Op.TheVariants.{Sub, Mul}
 use Rattle.wide_math.specs.declared.Wide.{Wide}
 use Rattle.wide_math.specs.Checked.{cross_of}

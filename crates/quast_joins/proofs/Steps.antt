@@ -1,7 +1,7 @@
 -- The join made node by node on a stack of trees is the join's tree; the numbers of binds that it goes by.
-use Rattle.std.proofs.Common.{◌≡◌, ℕ, suc, ◌+◌, ℤ, List, [], ◌∷◌, ◌++◌, map, refl, sym, ap, ap₂, subst, ◌∙◌, arith}
-use Rattle.std.proofs.lemmas.List.{append_assoc, map-append}
-use Rattle.whole_numbers.specs.Affine.{Affine}
+use Rattle.whole_numbers.proofs.Common.{◌≡◌, ℕ, suc, ◌+◌, ℤ, List, [], ◌∷◌, ◌++◌, map, refl, sym, ap, ap₂, subst, ◌∙◌}
+use Rattle.whole_numbers.proofs.Common.{arith, map-append, Affine}
+use Rattle.std.proofs.lemmas.List.{append_assoc}
 use Rattle.quast_trees.specs.Source.{Forms}
 use Rattle.quast_trees.specs.Tree.{Tree, initial, leaf, branch, bind, count, Speaks}
 use Rattle.quast_trees.specs.Postfix.{written, branched, bound}

@@ -1,14 +1,10 @@
 -- The value of a join is the wanted one of the two values.
-use Rattle.std.proofs.Common.{◌≡◌, ℕ, zero, suc, ◌+◌, Bool, true, false, ℤ, pos, negsuc, ◌+ℤ◌, ◌-ℤ◌, ◌*ℤ◌, List}
-use Rattle.std.proofs.Common.{[], ◌∷◌, ◌++◌, length, map, refl, sym, ap, ap₂, subst, ◌∙◌, length-append, arith}
-use Rattle.std.specs.Prelude.{nat_eq, if◌then◌else◌}
-use Rattle.std.proofs.lemmas.Int.{ints}
+use Rattle.whole_numbers.proofs.Common.{◌≡◌, ℕ, zero, suc, ◌+◌, Bool, true, false, ℤ, pos, negsuc, ◌+ℤ◌, ◌-ℤ◌, ◌*ℤ◌}
+use Rattle.whole_numbers.proofs.Common.{List, [], ◌∷◌, ◌++◌, length, map, refl, sym, ap, ap₂, subst, ◌∙◌, length-append}
+use Rattle.whole_numbers.proofs.Common.{arith, nat_eq, if◌then◌else◌, ints, Affine, value_of, values_of, complement}
+use Rattle.whole_numbers.proofs.Common.{floor, dot, zeros, dot-append, dot-zeros, length-zeros, value_of-sum}
+use Rattle.whole_numbers.proofs.Common.{value_of-complement}
 use Rattle.std.proofs.lemmas.List.{append_assoc, append-nil}
-use Rattle.whole_numbers.specs.Affine.{Affine, value_of, values_of, complement}
-use Rattle.whole_numbers.specs.Floor.{floor}
-use Rattle.whole_numbers.specs.Lists.{dot, zeros}
-use Rattle.whole_numbers.proofs.Dot.{dot-append, dot-zeros, length-zeros}
-use Rattle.whole_numbers.proofs.Values.{value_of-sum, value_of-complement}
 use Rattle.quast_trees.specs.Source.{Forms}
 use Rattle.quast_trees.specs.Tree.{Tree, initial, leaf, branch, bind, Speaks}
 use Rattle.quast_trees.specs.Leaf.{Leaf, found}

@@ -1,11 +1,7 @@
 -- A join speaks of the variables that stand at each place.
-use Rattle.std.proofs.Common.{◌≡◌, ℕ, zero, suc, ◌+◌, Bool, true, false, ℤ, negsuc, List, [], ◌∷◌, length, map, All}
-use Rattle.std.proofs.Common.{sym, subst, ◌∙◌, length-append, arith}
-use Rattle.std.specs.Prelude.{nat_eq, if◌then◌else◌}
-use Rattle.std.proofs.lemmas.List.Elements.{All-map}
-use Rattle.whole_numbers.specs.Affine.{Affine}
-use Rattle.whole_numbers.specs.Lists.{zeros, multiples}
-use Rattle.whole_numbers.proofs.Dot.{length-zeros, length-multiples, length-sums}
+use Rattle.whole_numbers.proofs.Common.{◌≡◌, ℕ, zero, suc, ◌+◌, Bool, true, false, ℤ, negsuc, List, [], ◌∷◌, length}
+use Rattle.whole_numbers.proofs.Common.{map, All, sym, subst, ◌∙◌, length-append, arith, nat_eq, if◌then◌else◌, All-map}
+use Rattle.whole_numbers.proofs.Common.{Affine, zeros, multiples, length-zeros, length-multiples, length-sums}
 use Rattle.quast_trees.specs.Source.{Forms}
 use Rattle.quast_trees.specs.Tree.{Tree, initial, leaf, branch, bind, Speaks}
 use Rattle.quast_joins.specs.Ways.{statement_of, loops_of, text}

@@ -1,9 +1,8 @@
 -- The names within `let`s are told apart.
-use Rattle.std.proofs.Common.{◌≡◌, ap, sym, refl, ℕ, zero, suc, ◌+◌, ◌%◌, ◌^◌, ◌<◌, true, List, [], ◌∷◌, ◌++◌}
-use Rattle.std.proofs.Common.{drop, decimal, arith, le-leb}
-use Rattle.std.specs.Prelude.{◌≢◌}
+use Rattle.whole_numbers.proofs.Common.{◌≡◌, ap, sym, refl, ℕ, zero, suc, ◌+◌, ◌%◌, ◌^◌, ◌<◌, true, List, [], ◌∷◌, ◌++◌}
+use Rattle.whole_numbers.proofs.Common.{drop, decimal, arith, ◌≢◌, decimal_by_steps_wide, decimal_injective}
+use Rattle.std.proofs.Common.{le-leb}
 use Rattle.std.proofs.lemmas.Bool.{or_left, or_right}
-use Rattle.std.proofs.lemmas.Fmt.{decimal_by_steps_wide, decimal_injective}
 use Rattle.scop_lexer.specs.Bytes.{Text, is_letter, is_digit, is_word_byte}
 use Rattle.form_text.specs.Names.{is_mark, is_name_byte, AreNameBytes, IsVariableName, IsFresh, AreNames}
 use Rattle.form_text.proofs.Names.{bytes_append}

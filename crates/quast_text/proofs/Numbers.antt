@@ -1,6 +1,5 @@
 -- Decimals in front of a text are read in one way.
-use Rattle.std.proofs.Common.{◌≡◌, ◌∙◌, ap, sym, refl, ℕ, ◌^◌, ◌<◌, false, [], ◌∷◌, ◌++◌, decimal}
-use Rattle.std.specs.Prelude.{⊤}
+use Rattle.whole_numbers.proofs.Common.{◌≡◌, ◌∙◌, ap, sym, refl, ℕ, ◌^◌, ◌<◌, false, [], ◌∷◌, ◌++◌, decimal, ⊤}
 use Rattle.scop_lexer.specs.Bytes.{Text, is_digit}
 use Rattle.form_text.specs.Reading.{number_in_front, behind_digits}
 use Rattle.form_text.proofs.Digits.{decimal_digits}

@@ -1,10 +1,8 @@
 -- What waits behind what is written of a quast: each step writes its front and leaves the rest.
-use Rattle.std.proofs.Common.{◌≡◌, ◌∙◌, ap, sym, subst, refl, ℕ, zero, suc, ◌+◌, ◌-◌, ◌<◌, List, [], ◌∷◌, ◌++◌}
-use Rattle.std.proofs.Common.{length, reverse, arith, append_assoc, append-nil, ℤ, Vec, Global, Result, Ok, Err, OnOk}
-use Rattle.std.specs.Prelude.{codes}
-use Rattle.std.specs.Fmt.{signed_decimal}
-use Rattle.std.proofs.lemmas.List.{length-append, length-map, reverse-append}
-use Rattle.whole_numbers.specs.Affine.{Affine}
+use Rattle.whole_numbers.proofs.Common.{◌≡◌, ◌∙◌, ap, sym, subst, refl, ℕ, zero, suc, ◌+◌, ◌-◌, ◌<◌, List, [], ◌∷◌}
+use Rattle.whole_numbers.proofs.Common.{◌++◌, length, reverse, arith, append_assoc, append-nil, ℤ, Vec, Global, Result}
+use Rattle.whole_numbers.proofs.Common.{Ok, Err, OnOk, codes, signed_decimal, length-map, reverse-append, Affine}
+use Rattle.std.proofs.lemmas.List.{length-append}
 use Rattle.scop_lexer.specs.Bytes.{Text}
 use Rattle.quast_trees.specs.Tree.{Tree, branch, bind, count}
 use Rattle.quast_trees.specs.Place.{Spot, subtree}

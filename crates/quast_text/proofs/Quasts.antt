@@ -1,16 +1,11 @@
 -- The text of a quast is read in one way.
-use Rattle.std.proofs.Common.{◌≡◌, ◌∙◌, ap, ap₂, sym, subst, refl, ℕ, zero, suc, ◌+◌, ◌^◌, ◌<◌, ◌≤◌, true}
-use Rattle.std.proofs.Common.{List, [], ◌∷◌, ◌++◌, drop, get_or, length, arith}
-use Rattle.std.proofs.Common.{append_assoc, append-nil, ℤ, pos, negsuc}
-use Rattle.std.proofs.Common.{◌≤ℤ◌, decimal, Option, Some, None, ltb-true}
-use Rattle.std.specs.Prelude.{All, codes, slice_get}
-use Rattle.std.specs.Fmt.{signed_decimal}
-use Rattle.std.proofs.lemmas.Int.{ints}
-use Rattle.std.proofs.lemmas.List.{append_cancel_left, length-append}
-use Rattle.std.proofs.lemmas.List.Elements.{All-head, All-tail}
-use Rattle.std.proofs.lemmas.Option.{same_Some}
-use Rattle.whole_numbers.specs.Affine.{Affine}
-use Rattle.whole_numbers.specs.Fits.{fits}
+use Rattle.whole_numbers.proofs.Common.{◌≡◌, ◌∙◌, ap, ap₂, sym, subst, refl, ℕ, zero, suc, ◌+◌, ◌^◌, ◌<◌, ◌≤◌, true}
+use Rattle.whole_numbers.proofs.Common.{List, [], ◌∷◌, ◌++◌, drop, get_or, length, arith, append_assoc, append-nil, ℤ}
+use Rattle.whole_numbers.proofs.Common.{pos, negsuc, ◌≤ℤ◌, decimal, Option, Some, None, All, codes, slice_get}
+use Rattle.whole_numbers.proofs.Common.{signed_decimal, ints, append_cancel_left, All-head, All-tail, same_Some, Affine}
+use Rattle.whole_numbers.proofs.Common.{fits}
+use Rattle.std.proofs.Common.{ltb-true}
+use Rattle.std.proofs.lemmas.List.{length-append}
 use Rattle.scop_lexer.specs.Bytes.{Text}
 use Rattle.quast_trees.specs.Source.{Source, source_of, Forms}
 use Rattle.quast_trees.specs.Tree.{Tree, initial, leaf, branch, bind}

@@ -1,8 +1,7 @@
 -- Where a walk from the root down stands: at a subtree that gives at its point what the tree gives at the first.
-use Rattle.std.proofs.Common.{◌≡◌, ℕ, ◌+◌, ◌-◌, ◌≤◌, ◌<◌, ℤ, pos, ◌≤ℤ◌, ◌<ℤ◌, List, [], ◌∷◌, length, get_or}
-use Rattle.std.proofs.Common.{All, Result, Ok, refl, sym, ap, ◌∙◌, subst, length-append, arith}
-use Rattle.whole_numbers.specs.Affine.{Affine, value_of}
-use Rattle.whole_numbers.specs.Floor.{floor}
+use Rattle.whole_numbers.proofs.Common.{◌≡◌, ℕ, ◌+◌, ◌-◌, ◌≤◌, ◌<◌, ℤ, pos, ◌≤ℤ◌, ◌<ℤ◌, List, [], ◌∷◌, length, get_or}
+use Rattle.whole_numbers.proofs.Common.{All, Result, Ok, refl, sym, ap, ◌∙◌, subst, length-append, arith, Affine}
+use Rattle.whole_numbers.proofs.Common.{value_of, floor}
 use Rattle.wide_math.specs.declared.Wide.{Wide}
 use Rattle.wide_math.specs.Checked.{◌>>=◌}
 use Rattle.affine_forms.specs.Gives.{Fails}

@@ -1,8 +1,7 @@
 -- Runs that end well give the exact values.
-use Rattle.std.proofs.Common.{◌≡◌, ℤ, List, [], ◌∷◌, ◌++◌, Result, Ok, Err, IfOk, refl, sym, ap, ◌∙◌}
+use Rattle.whole_numbers.proofs.Common.{◌≡◌, ℤ, List, [], ◌∷◌, ◌++◌, Result, Ok, Err, IfOk, refl, sym, ap, ◌∙◌, Affine}
+use Rattle.whole_numbers.proofs.Common.{value_of, values_of, floor}
 use Rattle.std.proofs.lemmas.List.Folds.{map_fixed}
-use Rattle.whole_numbers.specs.Affine.{Affine, value_of, values_of}
-use Rattle.whole_numbers.specs.Floor.{floor}
 use Rattle.affine_forms.specs.Gives.{Gives}
 use Rattle.affine_forms.specs.declared.stop.FormStop.{FormStop}
 use Rattle.affine_forms.specs.Runs.{value_run as form_run}

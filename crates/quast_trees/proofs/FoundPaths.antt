@@ -1,11 +1,9 @@
 -- The paths that are found from a tree's last node to its first are those that a point may go.
-use Rattle.std.proofs.Common.{◌≡◌, Bool, true, false, List, [], ◌∷◌, ◌++◌, map, Option, Some, None, ap, sym, ◌∙◌}
-use Rattle.std.proofs.Common.{refl, subst, ap₂}
-use Rattle.std.specs.Prelude.{◌&&◌, ◌||◌, not, ⊤, if◌then◌else◌}
-use Rattle.std.specs.List.{filter}
-use Rattle.std.proofs.lemmas.List.{append_assoc, append-nil, map-append}
+use Rattle.whole_numbers.proofs.Common.{◌≡◌, Bool, true, false, List, [], ◌∷◌, ◌++◌, map, Option, Some, None, ap, sym}
+use Rattle.whole_numbers.proofs.Common.{◌∙◌, refl, subst, ap₂, ◌&&◌, ◌||◌, not, ⊤, if◌then◌else◌, filter, map-append}
+use Rattle.whole_numbers.proofs.Common.{Affine}
+use Rattle.std.proofs.lemmas.List.{append_assoc, append-nil}
 use Rattle.std.proofs.lemmas.List.Elements.{filter-append}
-use Rattle.whole_numbers.specs.Affine.{Affine}
 use Rattle.quast_trees.specs.Source.{Forms}
 use Rattle.quast_trees.specs.Tree.{Tree, initial, leaf, branch, bind, count}
 use Rattle.quast_trees.specs.Postfix.{written}

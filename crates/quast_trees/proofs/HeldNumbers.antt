@@ -1,10 +1,7 @@
 -- Opposites of numbers that 128 bits hold, also where zeros are put in, and the numbers of a tree's rows where other
 -- leaves stand.
-use Rattle.std.proofs.Common.{◌≡◌, ℕ, zero, suc, true, ℤ, pos, negsuc, ◌*ℤ◌, List, [], ◌∷◌, refl}
-use Rattle.std.specs.Prelude.{All}
-use Rattle.std.proofs.lemmas.List.Elements.{All-cons, All-head, All-nil, All-tail}
-use Rattle.whole_numbers.specs.Fits.{fits}
-use Rattle.whole_numbers.specs.Lists.{multiples, zeros}
+use Rattle.whole_numbers.proofs.Common.{◌≡◌, ℕ, zero, suc, true, ℤ, pos, negsuc, ◌*ℤ◌, List, [], ◌∷◌, refl, All}
+use Rattle.whole_numbers.proofs.Common.{All-cons, All-head, All-nil, All-tail, fits, multiples, zeros}
 
 -- 128 bits hold the opposite of each number
 abbrev pub Opposed : List ℤ → Type 0

@@ -1,17 +1,11 @@
 -- The answer of a tree at a point is that of the leaf to which the point goes.
-use Rattle.std.proofs.Common.{◌≡◌, ℕ, suc, ◌+◌, ℤ, pos, negsuc, List, [], ◌∷◌, ◌++◌, length, map, Option}
-use Rattle.std.proofs.Common.{ap, subst, sym, ◌∙◌, refl, arith}
-use Rattle.std.specs.Prelude.{◌≤ℤ◌, ◌<ℤ◌, All}
-use Rattle.std.specs.List.{Contains}
-use Rattle.std.proofs.lemmas.Int.{ints}
-use Rattle.std.proofs.lemmas.List.{append_assoc, append-nil, get_or-map, length-map}
-use Rattle.std.proofs.lemmas.List.Elements.{All-append, All-cons, All-map, All-nil, Contains-append_left}
+use Rattle.whole_numbers.proofs.Common.{◌≡◌, ℕ, suc, ◌+◌, ℤ, pos, negsuc, List, [], ◌∷◌, ◌++◌, length, map, Option, ap}
+use Rattle.whole_numbers.proofs.Common.{subst, sym, ◌∙◌, refl, arith, ◌≤ℤ◌, ◌<ℤ◌, All, Contains, ints, get_or-map}
+use Rattle.whole_numbers.proofs.Common.{length-map, All-append, All-cons, All-map, All-nil, Affine, value_of, values_of}
+use Rattle.whole_numbers.proofs.Common.{IsFloor, floor, NotNegative, floor_is, floor_unique}
+use Rattle.std.proofs.lemmas.List.{append_assoc, append-nil}
+use Rattle.std.proofs.lemmas.List.Elements.{Contains-append_left}
 use Rattle.std.proofs.lemmas.List.Elements.{Contains-append_right}
-use Rattle.whole_numbers.specs.Affine.{Affine, value_of, values_of}
-use Rattle.whole_numbers.specs.Division.{IsFloor}
-use Rattle.whole_numbers.specs.Floor.{floor}
-use Rattle.whole_numbers.specs.Lists.{NotNegative}
-use Rattle.whole_numbers.proofs.Floors.{floor_is, floor_unique}
 use Rattle.quast_trees.specs.Leaf.{found}
 use Rattle.quast_trees.specs.Source.{Forms, Source}
 use Rattle.quast_trees.specs.Tree.{Tree, Speaks, initial, leaf, branch, bind}

@@ -1,8 +1,7 @@
 -- Runs over the elements of a list, in order.
-use Rattle.std.proofs.Common.{◌≡◌, ℕ, ◌+◌, ◌<◌, ◌≤◌, List, [], ◌∷◌, ◌++◌, length, get_or, drop, Result, Ok, Err}
-use Rattle.std.proofs.Common.{refl, sym, ap, ◌∙◌, append_assoc, append-nil, add-one, drop-cons, map, All}
-use Rattle.std.proofs.lemmas.List.{drop_all}
-use Rattle.std.proofs.lemmas.List.Elements.{All-nil, All-cons, All-head, All-tail}
+use Rattle.whole_numbers.proofs.Common.{◌≡◌, ℕ, ◌+◌, ◌<◌, ◌≤◌, List, [], ◌∷◌, ◌++◌, length, get_or, drop, Result, Ok}
+use Rattle.whole_numbers.proofs.Common.{Err, refl, sym, ap, ◌∙◌, append_assoc, append-nil, add-one, drop-cons, map, All}
+use Rattle.whole_numbers.proofs.Common.{drop_all, All-nil, All-cons, All-head, All-tail}
 use Rattle.wide_math.specs.declared.Wide.{Wide}
 use Rattle.wide_math.specs.Checked.{◌>>=◌}
 use Rattle.wide_math.proofs.Steps.{chain-ok}

@@ -1,16 +1,11 @@
 -- A path on which a test fails by itself, or is passed on both sides, no point goes.
-use Rattle.std.proofs.Common.{◌≡◌, suc, Bool, true, false, ℤ, pos, negsuc, List, [], ◌∷◌, ◌++◌, ap, ◌∙◌}
-use Rattle.std.proofs.Common.{refl, arith, ◌⊎◌, inl, inr}
-use Rattle.std.specs.Prelude.{◌≤ℤ◌, ◌<ℤ◌, ◌+ℤ◌, ◌*ℤ◌, ◌&&◌, ◌||◌, not, All}
+use Rattle.whole_numbers.proofs.Common.{◌≡◌, suc, Bool, true, false, ℤ, pos, negsuc, List, [], ◌∷◌, ◌++◌, ap, ◌∙◌, refl}
+use Rattle.whole_numbers.proofs.Common.{arith, ◌⊎◌, inl, inr, ◌≤ℤ◌, ◌<ℤ◌, ◌+ℤ◌, ◌*ℤ◌, ◌&&◌, ◌||◌, not, All, Contains}
+use Rattle.whole_numbers.proofs.Common.{filter, list_all, int_eq, Decides-int_eq, ints, All-cons, All-contains}
+use Rattle.whole_numbers.proofs.Common.{All-filter, All-nil, Affine, value_of, dot}
 use Rattle.std.specs.Cmp.Lexicographic.{pointwise}
 use Rattle.std.specs.Cmp.Rules.{signed_items}
-use Rattle.std.specs.List.{Contains, filter, list_all}
-use Rattle.std.specs.Ordering.{int_eq}
-use Rattle.std.proofs.lemmas.Bool.Decides.{Decides-int_eq}
-use Rattle.std.proofs.lemmas.Int.{ints}
-use Rattle.std.proofs.lemmas.List.Elements.{All-cons, All-contains, All-contains_itself, All-filter, All-nil}
-use Rattle.whole_numbers.specs.Affine.{Affine, value_of}
-use Rattle.whole_numbers.specs.Lists.{dot}
+use Rattle.std.proofs.lemmas.List.Elements.{All-contains_itself}
 use Rattle.quast_trees.specs.Tree.{Tree}
 use Rattle.quast_trees.specs.Paths.{Turn, up, down, bound, LeafPath, leaf_paths, live_paths, Goes}
 use Rattle.quast_trees.specs.Paths.{is_same, is_number, is_below, fails, are_opposite, is_crossed, is_blocked, has_no_point}

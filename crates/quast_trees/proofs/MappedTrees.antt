@@ -1,9 +1,7 @@
 -- Maps: the tree and the nodes that a map's run gives, and the mapped tree's leaves.
-use Rattle.std.proofs.Common.{◌≡◌, ℕ, ℤ, ◌+◌, List, [], ◌∷◌, ◌++◌, ◌<◌, ◌≤◌, length, get_or, All, Result}
-use Rattle.std.proofs.Common.{Ok, Err, refl, sym, ap, ◌∙◌, length-append}
-use Rattle.std.proofs.lemmas.List.Elements.{All-nil, All-cons, All-append}
-use Rattle.whole_numbers.specs.Affine.{Affine, value_of, values_of}
-use Rattle.whole_numbers.specs.Floor.{floor}
+use Rattle.whole_numbers.proofs.Common.{◌≡◌, ℕ, ℤ, ◌+◌, List, [], ◌∷◌, ◌++◌, ◌<◌, ◌≤◌, length, get_or, All, Result, Ok}
+use Rattle.whole_numbers.proofs.Common.{Err, refl, sym, ap, ◌∙◌, length-append, All-nil, All-cons, All-append, Affine}
+use Rattle.whole_numbers.proofs.Common.{value_of, values_of, floor}
 use Rattle.wide_math.specs.declared.Wide.{Wide}
 use Rattle.wide_math.specs.Checked.{◌>>=◌}
 use Rattle.affine_forms.specs.Parts.{variables_of}

@@ -1,8 +1,5 @@
 -- Other forms at a tree's leaves, or sources, leave its tests and binds as they are.
-use Rattle.std.proofs.Common.{◌≡◌, ℤ, List, [], ◌∷◌, ◌++◌, subst}
-use Rattle.std.specs.Prelude.{Ok, Result}
-use Rattle.whole_numbers.specs.Affine.{Affine, value_of}
-use Rattle.whole_numbers.specs.Floor.{floor}
+use Rattle.whole_numbers.proofs.Common.{◌≡◌, ℤ, List, [], ◌∷◌, ◌++◌, subst, Ok, Result, Affine, value_of, floor}
 use Rattle.wide_math.specs.declared.Wide.{Wide}
 use Rattle.wide_math.specs.Checked.{◌>>=◌}
 use Rattle.wide_math.proofs.Steps.{chain-ok}

@@ -1,7 +1,5 @@
 -- A source for each leaf of forms: the tree's nodes, and what it speaks of.
-use Rattle.std.proofs.Common.{◌≡◌, ℕ, ◌+◌, List, [], ◌∷◌, ◌++◌, map, refl}
-use Rattle.std.proofs.Common.{length}
-use Rattle.std.proofs.lemmas.List.{map-append}
+use Rattle.whole_numbers.proofs.Common.{◌≡◌, ℕ, ◌+◌, List, [], ◌∷◌, ◌++◌, map, refl, length, map-append}
 use Rattle.std.specs.List.{refill}
 use Rattle.affine_forms.proofs.Steps.{refill_same}
 use Rattle.quast_trees.specs.Source.{Source}

@@ -1,6 +1,5 @@
 -- What a place's own node says of its tree and of the places of its sides.
-use Rattle.std.proofs.Common.{◌≡◌, ℕ, ℤ, ◌+◌, ◌-◌, ◌≤◌, List, refl, sym, ap, ap₂, ◌∙◌, subst, arith}
-use Rattle.whole_numbers.specs.Affine.{Affine}
+use Rattle.whole_numbers.proofs.Common.{◌≡◌, ℕ, ℤ, ◌+◌, ◌-◌, ◌≤◌, List, refl, sym, ap, ap₂, ◌∙◌, subst, arith, Affine}
 use Rattle.quast_trees.specs.Source.{Forms}
 use Rattle.quast_trees.specs.Tree.{Tree, initial, leaf, branch, bind, count}
 use Rattle.quast_trees.specs.Place.{IsAt, subtree, place_in, IsPlace}

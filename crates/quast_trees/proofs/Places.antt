@@ -1,8 +1,7 @@
 -- Where a subtree's nodes stand among a tree's, and where its own node is.
-use Rattle.std.proofs.Common.{◌≡◌, ℕ, ℤ, ◌+◌, ◌-◌, ◌<◌, ◌≤◌, List, [], ◌∷◌, ◌++◌, length, append-nil, get_or}
-use Rattle.std.proofs.Common.{take, refl, sym, ap, ◌∙◌, append_assoc, length-append, arith}
-use Rattle.std.proofs.Math.Seq.{get_or-append_seam, take-append_seam}
-use Rattle.whole_numbers.specs.Affine.{Affine}
+use Rattle.whole_numbers.proofs.Common.{◌≡◌, ℕ, ℤ, ◌+◌, ◌-◌, ◌<◌, ◌≤◌, List, [], ◌∷◌, ◌++◌, length, append-nil, get_or}
+use Rattle.whole_numbers.proofs.Common.{take, refl, sym, ap, ◌∙◌, append_assoc, length-append, arith}
+use Rattle.whole_numbers.proofs.Common.{get_or-append_seam, take-append_seam, Affine}
 use Rattle.quast_trees.specs.Tree.{Tree, initial, leaf, branch, bind, count}
 use Rattle.quast_trees.specs.Postfix.{written, top, standing}
 use Rattle.quast_trees.specs.Place.{IsAt, subtree, place_in}

@@ -1,6 +1,5 @@
 -- Nodes that make a quast.
-use Rattle.std.proofs.Common.{◌≡◌, ℕ, List, [], ◌∷◌, ◌++◌, length, refl, sym, ap, ◌∙◌, subst}
-use Rattle.whole_numbers.specs.Affine.{Affine}
+use Rattle.whole_numbers.proofs.Common.{◌≡◌, ℕ, List, [], ◌∷◌, ◌++◌, length, refl, sym, ap, ◌∙◌, subst, Affine}
 use Rattle.quast_trees.specs.Tree.{Tree, branch, count, Speaks}
 use Rattle.quast_trees.specs.Postfix.{held, written, tree_of, IsQuast}
 use Rattle.quast_trees.specs.declared.node.Node.{Node}

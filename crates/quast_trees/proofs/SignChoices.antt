@@ -1,7 +1,5 @@
 -- The choice by a number's sign.
-use Rattle.std.proofs.Common.{◌≡◌, ℤ, List, pos, negsuc, ◌≤ℤ◌, ◌<ℤ◌, Result, Ok, refl, arith}
-use Rattle.std.proofs.lemmas.Int.{ints}
-use Rattle.whole_numbers.specs.Affine.{Affine}
+use Rattle.whole_numbers.proofs.Common.{◌≡◌, ℤ, List, pos, negsuc, ◌≤ℤ◌, ◌<ℤ◌, Result, Ok, refl, arith, ints, Affine}
 use Rattle.wide_math.specs.declared.Wide.{Wide}
 use Rattle.quast_trees.specs.Leaf.{Leaf, mapped_leaf}
 use Rattle.quast_trees.specs.Value.{by_sign}

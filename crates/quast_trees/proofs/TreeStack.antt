@@ -1,8 +1,7 @@
 -- The stack of trees that nodes in postfix order leave, as nodes are added.
-use Rattle.std.proofs.Common.{◌≡◌, ℕ, ◌+◌, ◌-◌, ◌≤◌, List, [], ◌∷◌, ◌++◌, length, get_or, take, refl}
-use Rattle.std.proofs.Common.{sym, ap, ap₂, ◌∙◌, append_assoc, length-append, arith}
-use Rattle.std.proofs.Math.Seq.{get_or-append_seam, take-append_seam}
-use Rattle.whole_numbers.specs.Affine.{Affine}
+use Rattle.whole_numbers.proofs.Common.{◌≡◌, ℕ, ◌+◌, ◌-◌, ◌≤◌, List, [], ◌∷◌, ◌++◌, length, get_or, take, refl, sym, ap}
+use Rattle.whole_numbers.proofs.Common.{ap₂, ◌∙◌, append_assoc, length-append, arith, get_or-append_seam}
+use Rattle.whole_numbers.proofs.Common.{take-append_seam, Affine}
 use Rattle.quast_trees.specs.Tree.{Tree, initial, leaf, branch, count}
 use Rattle.quast_trees.specs.Postfix.{written, built, standing, laid, starts}
 use Rattle.quast_trees.specs.Postfix.{IsLeaf, IsStack}

@@ -1,5 +1,5 @@
 -- The stack machine reads a tree's nodes as the tree.
-use Rattle.std.proofs.Common.{◌≡◌, List, [], ◌∷◌, ◌++◌, fold, length, refl, ap, length-append, arith}
+use Rattle.whole_numbers.proofs.Common.{◌≡◌, List, [], ◌∷◌, ◌++◌, fold, length, refl, ap, length-append, arith}
 use Rattle.quast_trees.specs.Tree.{Tree, initial, leaf, branch, bind, count}
 use Rattle.quast_trees.specs.Postfix.{written, built, top, read}
 use Rattle.quast_trees.specs.declared.node.Node.{Node}

@@ -1,5 +1,5 @@
 -- Texts that are appended one after another.
-use Rattle.std.proofs.Common.{◌≡◌, ◌∙◌, ap, sym, List, [], ◌++◌, append_assoc, append-nil}
+use Rattle.scop_syntax.proofs.Common.{◌≡◌, ◌∙◌, ap, sym, List, [], ◌++◌, append_assoc, append-nil}
 
 -- one text more of a whole
 pub next_appended : {A : Type 0} (before now t rest whole : List A) → now ≡ before ++ t → before ++ (t ++ rest) ≡ whole

@@ -1,10 +1,8 @@
 -- The lines of a statement's reads one by one, and those of statements one behind another.
-use Rattle.std.proofs.Common.{◌≡◌, ◌∙◌, ap, ap₂, sym, refl, ℕ, zero, suc, ◌+◌, ◌-◌, ◌<◌, ◌≤◌, List, [], ◌∷◌, ◌++◌}
-use Rattle.std.proofs.Common.{drop, get_or, length, arith, append_assoc, drop-cons, add-one, Some}
-use Rattle.std.proofs.Common.{drop_of_length-le, subst, Vec, Global}
-use Rattle.std.specs.Prelude.{slice_get}
+use Rattle.scop_syntax.proofs.Common.{◌≡◌, ◌∙◌, ap, ap₂, sym, refl, ℕ, zero, suc, ◌+◌, ◌-◌, ◌<◌, ◌≤◌, List, [], ◌∷◌}
+use Rattle.scop_syntax.proofs.Common.{◌++◌, drop, get_or, length, arith, append_assoc, drop-cons, add-one, Some}
+use Rattle.scop_syntax.proofs.Common.{drop_of_length-le, subst, Vec, Global, slice_get, Program}
 use Rattle.scop_lexer.specs.Bytes.{Text}
-use Rattle.scop_syntax.specs.Tree.{Program}
 use Rattle.iteration_domains.specs.Model.{Modelled, model_of}
 use Rattle.dataflow.specs.ReadSources.{reads_from, reads_of_statement, reads_in}
 use Rattle.quast_text.specs.Waiting.{texts_of}

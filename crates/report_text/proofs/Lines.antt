@@ -1,7 +1,6 @@
 -- The parts of a line, one by one, and the texts that lines are made of.
-use Rattle.std.proofs.Common.{◌≡◌, ℕ, ◌+◌, ◌<◌, List, [], ◌++◌, length, drop, get_or, ap, refl, add-one}
-use Rattle.std.proofs.Common.{drop-cons, append_assoc, append-nil, subst, Result}
-use Rattle.std.specs.Prelude.{decimal}
+use Rattle.scop_syntax.proofs.Common.{◌≡◌, ℕ, ◌+◌, ◌<◌, List, [], ◌++◌, length, drop, get_or, ap, refl, add-one}
+use Rattle.scop_syntax.proofs.Common.{drop-cons, append_assoc, append-nil, subst, Result, decimal}
 use Rattle.io_ports.specs.Writes.{SinkShows, Puts}
 use Rattle.report_text.specs.declared.parts.Part.{Part}
 use Rattle.report_text.specs.declared.pieces.Piece.{Piece}

@@ -1,10 +1,8 @@
 -- The lines of a schedule, item by item, and block by block.
-use Rattle.std.proofs.Common.{◌≡◌, ◌∙◌, sym, ap, refl, ℕ, zero, suc, ◌+◌, ◌<◌, ◌≤◌, Bool, true, false}
-use Rattle.std.proofs.Common.{List, [], ◌∷◌, ◌++◌, map, length, drop, get_or, add-one, drop-cons, append_assoc}
-use Rattle.std.proofs.Common.{append-nil, arith, if◌then◌else◌, drop_of_length-le}
-use Rattle.std.specs.Prelude.{ℤ, Some, slice_get, codes}
-use Rattle.std.specs.Fmt.{signed_decimal}
-use Rattle.std.proofs.lemmas.Bool.{ne_eqb, eq-eqb}
+use Rattle.scop_syntax.proofs.Common.{◌≡◌, ◌∙◌, sym, ap, refl, ℕ, zero, suc, ◌+◌, ◌<◌, ◌≤◌, Bool, true, false, List, []}
+use Rattle.scop_syntax.proofs.Common.{◌∷◌, ◌++◌, map, length, drop, get_or, add-one, drop-cons, append_assoc}
+use Rattle.scop_syntax.proofs.Common.{append-nil, arith, if◌then◌else◌, drop_of_length-le, ℤ, Some, slice_get, codes}
+use Rattle.scop_syntax.proofs.Common.{signed_decimal, ne_eqb, eq-eqb}
 use Rattle.schedule_rows.specs.Items.{Marked, Block, scalar, band}
 use Rattle.schedule_rows.specs.Schedule as plain
 use Rattle.schedule_rows.specs.Schedule.{Item, items_of, bands_from, marks_of}

@@ -1,16 +1,12 @@
 -- The text of the sources of a kernel's reads is read in one way.
-use Rattle.std.proofs.Common.{◌≡◌, ◌∙◌, ap, sym, subst, refl, ℕ, zero, suc, ◌+◌, ◌^◌, ◌<◌, ◌≤◌, List, [], ◌∷◌, ◌++◌}
-use Rattle.std.proofs.Common.{drop, get_or, length, arith, append_assoc, append-nil, decimal, Option, Some, None}
-use Rattle.std.specs.Prelude.{◌≢◌, All, codes, slice_get}
-use Rattle.std.proofs.lemmas.List.{append_cancel_left, length-append, length-map}
+use Rattle.scop_syntax.proofs.Common.{◌≡◌, ◌∙◌, ap, sym, subst, refl, ℕ, zero, suc, ◌+◌, ◌^◌, ◌<◌, ◌≤◌, List, [], ◌∷◌}
+use Rattle.scop_syntax.proofs.Common.{◌++◌, drop, get_or, length, arith, append_assoc, append-nil, decimal, Option}
+use Rattle.scop_syntax.proofs.Common.{Some, None, ◌≢◌, All, codes, slice_get, append_cancel_left, length-map, IsKernel}
+use Rattle.scop_syntax.proofs.Common.{IsPlaced, ranks_of, In, Placed, placed_all, in_guard_of, loops_in, statements_of}
+use Rattle.scop_syntax.proofs.Common.{Program, guard, in_from_place, in_map_from, length-placed}
+use Rattle.std.proofs.lemmas.List.{length-append}
 use Rattle.scop_lexer.specs.Bytes.{Text}
 use Rattle.scop_lexer.specs.Words.{IsName}
-use Rattle.scop_syntax.specs.Kernel.{IsKernel, IsPlaced, ranks_of}
-use Rattle.scop_syntax.specs.Members.{In}
-use Rattle.scop_syntax.specs.Statements.{Placed, placed_all, in_guard_of, loops_in, statements_of}
-use Rattle.scop_syntax.specs.Tree.{Program, guard}
-use Rattle.scop_syntax.proofs.Members.{in_from_place, in_map_from}
-use Rattle.scop_syntax.proofs.Statements.{length-placed}
 use Rattle.scop_parser.specs.DistinctNames.{HasDistinctNames, header_names}
 use Rattle.iteration_domains.specs.Model.{Modelled, KernelModel, modelled, model_of}
 use Rattle.quast_trees.specs.Postfix.{tree_of}

@@ -1,10 +1,7 @@
 -- A quast of a kernel's read is one that its text tells.
-use Rattle.std.proofs.Common.{◌≡◌, ◌∙◌, ap, sym, ℕ, suc, ◌+◌, ◌^◌, ◌≤◌, true, ℤ, List, [], ◌∷◌, length, map}
-use Rattle.std.proofs.Common.{All, Option, Some, None, arith}
-use Rattle.std.proofs.lemmas.List.Elements.{All-nil, All-cons, All-head, All-tail}
-use Rattle.whole_numbers.specs.Affine.{Affine}
-use Rattle.whole_numbers.specs.Fits.{fits}
-use Rattle.whole_numbers.proofs.Entries.{get_map}
+use Rattle.scop_syntax.proofs.Common.{◌≡◌, ◌∙◌, ap, sym, ℕ, suc, ◌+◌, ◌^◌, ◌≤◌, true, ℤ, List, [], ◌∷◌, length, map}
+use Rattle.scop_syntax.proofs.Common.{All, Option, Some, None, arith, All-nil, All-cons, All-head, All-tail, Affine}
+use Rattle.scop_syntax.proofs.Common.{fits, get_map}
 use Rattle.form_text.specs.Names.{AllFit, IsFormOver}
 use Rattle.iteration_domains.specs.Model.{Modelled, KernelModel}
 use Rattle.quast_trees.specs.Source.{Source}

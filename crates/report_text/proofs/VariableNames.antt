@@ -1,17 +1,10 @@
 -- The names that forms of sources speak of are told apart.
-use Rattle.std.proofs.Common.{◌≡◌, ◌∙◌, ap, sym, subst, refl, ℕ, zero, suc, ◌^◌, ◌<◌, false}
-use Rattle.std.proofs.Common.{List, [], ◌∷◌, ◌++◌, drop, get_or, map, decimal}
-use Rattle.std.proofs.Common.{arith, append-nil, append_assoc, inr, inl}
-use Rattle.std.specs.Prelude.{◌≢◌, All}
-use Rattle.std.proofs.lemmas.Bool.{false≢true}
-use Rattle.std.proofs.lemmas.List.Elements.{All-head, All-tail}
-use Rattle.std.proofs.lemmas.Fmt.{decimal_injective}
+use Rattle.scop_syntax.proofs.Common.{◌≡◌, ◌∙◌, ap, sym, subst, refl, ℕ, zero, suc, ◌^◌, ◌<◌, false, List, [], ◌∷◌}
+use Rattle.scop_syntax.proofs.Common.{◌++◌, drop, get_or, map, decimal, arith, append-nil, append_assoc, inr, inl, ◌≢◌}
+use Rattle.scop_syntax.proofs.Common.{All, false≢true, All-head, All-tail, decimal_injective, all_front, In, Sorted}
+use Rattle.scop_syntax.proofs.Common.{Declaration, Program, in_front}
 use Rattle.scop_lexer.specs.Bytes.{Text, is_letter}
-use Rattle.whole_numbers.proofs.Entries.{all_front}
 use Rattle.scop_lexer.specs.Words.{IsName}
-use Rattle.scop_syntax.specs.Members.{In, Sorted}
-use Rattle.scop_syntax.specs.Tree.{Declaration, Program}
-use Rattle.scop_syntax.proofs.Members.{in_front}
 use Rattle.scop_parser.specs.DistinctNames.{HasDistinctNames, header_names}
 use Rattle.form_text.specs.Names.{IsFresh, AreNames}
 use Rattle.form_text.proofs.Names.{fresh_append, variable_name}

@@ -1,10 +1,6 @@
 -- Which place is the last done one that writes a cell: none before the first claim, the walk's last where it is done.
-use Rattle.std.proofs.Common.{◌≡◌, ℕ, suc, Bool, true, false, ◌&&◌, List, length, Some, arith}
-use Rattle.std.specs.Prelude.{nat_lt, slice_get}
-use Rattle.std.proofs.lemmas.Bool.{le-ltb}
-use Rattle.std.proofs.lemmas.Option.{slice_get_within}
-use Rattle.scop_syntax.specs.Cells.{Cell, written}
-use Rattle.scop_syntax.specs.Walk.{Visit}
+use Rattle.scop_syntax.proofs.Common.{◌≡◌, ℕ, suc, Bool, true, false, ◌&&◌, List, length, Some, arith, nat_lt}
+use Rattle.scop_syntax.proofs.Common.{slice_get, le-ltb, slice_get_within, Cell, written, Visit}
 use Rattle.tile_events.specs.Core.{State}
 use Rattle.tile_events.specs.DonePlaces.{HasNoWriter, IsLastWriter}
 use Rattle.tile_events.specs.Plan.{Plan}

@@ -1,8 +1,6 @@
 -- Plans of which each place is a tile and a wave of its own, and the states at which both workers are idle.
-use Rattle.std.proofs.Common.{◌≡◌, ℕ, zero, suc, ◌<◌, inl, inr, [], ◌∷◌, get_or, refl, sym, arith}
-use mathlib.Core.Option.{some, some-injective}
-use lib.ListN.{get_elem?}
-use Rattle.scop_syntax.specs.Members.{In}
+use Rattle.scop_syntax.proofs.Common.{◌≡◌, ℕ, zero, suc, ◌<◌, inl, inr, [], ◌∷◌, get_or, refl, sym, arith, some}
+use Rattle.scop_syntax.proofs.Common.{some-injective, get_elem?, In}
 use Rattle.tile_events.specs.Core.{Worker, idle}
 use Rattle.tile_events.specs.Example.{adding, adding_first, first, two}
 use Rattle.tile_events.specs.Opening.{IsOpening}

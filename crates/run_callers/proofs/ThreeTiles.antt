@@ -1,11 +1,7 @@
 -- The plan of three tiles, of which the last waits for both others.
-use Rattle.std.proofs.Common.{◌≡◌, ℕ, zero, suc, ◌<◌, ◌≤◌, inl, inr, Bool, true, false, [], ◌∷◌, get_or, refl, sym}
-use Rattle.std.proofs.Common.{subst, arith}
-use Rattle.std.specs.Prelude.{nat_lt, take, if◌then◌else◌}
-use mathlib.Core.Option.{some, some-injective}
-use lib.ListN.{get_elem?}
-use Rattle.std.proofs.lemmas.Bool.{ltb-false}
-use Rattle.scop_syntax.specs.Members.{In}
+use Rattle.scop_syntax.proofs.Common.{◌≡◌, ℕ, zero, suc, ◌<◌, ◌≤◌, inl, inr, Bool, true, false, [], ◌∷◌, get_or, refl}
+use Rattle.scop_syntax.proofs.Common.{sym, subst, arith, nat_lt, take, if◌then◌else◌, some, some-injective, get_elem?}
+use Rattle.scop_syntax.proofs.Common.{ltb-false, In}
 use Rattle.tile_events.specs.Covers.{ArePairsOf, Covers, Meet}
 use Rattle.tile_events.specs.Core.{State, Worker, holding, idle, replay, working}
 use Rattle.tile_events.specs.Deal.{tile_at}

@@ -21,7 +21,6 @@ ghost use Rattle.tile_core.specs.Plans.{program_in, shape_of, walk_in};
 use array_words::Closed;
 use data_text::Case;
 use io_ports::{Gate, OpenGate};
-use tile_runs::{Counts, Sources, Workers, run_case};
 use loop_tree::{Tiling, Tree};
 use scop_syntax::tree::Kernel;
 use std::alloc::{AllocError, Global};
@@ -29,6 +28,7 @@ use std::sync::Wait;
 use std::thread::Threads;
 use tile_core::plan::Plan;
 use tile_runner::run_plan;
+use tile_runs::{Counts, Sources, Workers, run_case};
 
 /// A run of one worker, by the clauses of `run_plan` of these names.
 pub fn run_by_one_worker<'a, R: Threads + Wait + Sync>(

@@ -1,7 +1,7 @@
 -- Printed lines are read back.
 use Rattle.std.proofs.Common.{◌≡◌, ◌∙◌, ap, sym, subst, refl, ℕ, zero, suc, ◌<◌, ◌≤◌, Bool, true, false, List, [], ◌∷◌}
-use Rattle.std.proofs.Common.{◌++◌, map, length, get_or, ne_eqb, append-nil, length-append, arith}
-use Rattle.std.specs.Prelude.{◌==◌, if◌then◌else◌, Some, None, codes}
+use Rattle.std.proofs.Common.{◌++◌, map, length, get_or, ne_eqb, append-nil, length-append, arith, ◌==◌, if◌then◌else◌}
+use Rattle.std.proofs.Common.{Some, None, codes}
 use Rattle.std.specs.Int.Digits.{digits_of}
 use Rattle.std.proofs.lemmas.Int.Digits.{first_digits_of}
 use Rattle.std.proofs.lemmas.Bool.{eq-eqb}

@@ -1,7 +1,6 @@
 -- Lines that are read are printed ones.
 use Rattle.std.proofs.Common.{◌≡◌, ◌∙◌, ap, ap₂, sym, subst, refl, ℕ, zero, suc, Bool, true, false, List, [], ◌∷◌, ◌++◌}
-use Rattle.std.proofs.Common.{map, length}
-use Rattle.std.specs.Prelude.{◌==◌, if◌then◌else◌, Option, Some, None, codes}
+use Rattle.std.proofs.Common.{map, length, ◌==◌, if◌then◌else◌, Option, Some, None, codes}
 use Rattle.std.proofs.lemmas.Bool.{eqb-true}
 use Rattle.std.proofs.lemmas.List.{append_assoc, length-map}
 use Rattle.std.proofs.lemmas.Option.{none-some, same_Some}

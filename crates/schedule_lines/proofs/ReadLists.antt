@@ -1,7 +1,6 @@
 -- Lists that are read entry by entry: what was read so far, in front of what is still read, is the whole.
 use Rattle.std.proofs.Common.{◌≡◌, ◌∙◌, ap, sym, refl, ℕ, suc, ◌+◌, ◌-◌, ◌<◌, ◌≤◌, List, [], ◌∷◌, ◌++◌, length, drop}
-use Rattle.std.proofs.Common.{append-nil, arith, get_or, drop-cons, add-one}
-use Rattle.std.specs.Prelude.{Option, Some, None, codes}
+use Rattle.std.proofs.Common.{append-nil, arith, get_or, drop-cons, add-one, Option, Some, None, codes}
 use Rattle.std.proofs.lemmas.List.{append_assoc, drop_all}
 use Rattle.scop_lexer.specs.Bytes.{Text}
 use Rattle.form_text.specs.Reading.{strip, when}

@@ -1,6 +1,6 @@
 -- What is read is whole: a row has the parts of its statements.
-use Rattle.std.proofs.Common.{◌≡◌, ◌∙◌, ap, ap₂, sym, refl, ℕ, suc, Bool, true, false, List, [], ◌∷◌, length, map}
-use Rattle.std.specs.Prelude.{◌==◌, if◌then◌else◌, Option, Some, None, codes}
+use Rattle.std.proofs.Common.{◌≡◌, ◌∙◌, ap, ap₂, sym, refl, ℕ, suc, Bool, true, false, List, [], ◌∷◌, length, map, ◌==◌}
+use Rattle.std.proofs.Common.{if◌then◌else◌, Option, Some, None, codes}
 use Rattle.std.proofs.lemmas.Bool.{eqb-true}
 use Rattle.std.proofs.lemmas.Option.{none-some, same_Some}
 use Rattle.scop_lexer.specs.Bytes.{Text}

@@ -1,10 +1,8 @@
 -- Where the bands of a schedule began, what their marks say, and what bounds their rows.
-use Rattle.std.proofs.Common.{◌≡◌, ℕ, zero, suc, ◌+◌, List, [], ◌∷◌, ◌++◌, refl, sym, ◌∙◌, ap, ap₂, subst, ◌⊎◌, inl}
-use Rattle.std.proofs.Common.{inr, arith, length, All, append_assoc, Some}
-use Rattle.std.specs.Prelude.{Bool, true, ⊤, ◌↔◌, slice_get, Option}
-use Rattle.std.proofs.lemmas.List.{append-nil, length-append, length-map}
-use Rattle.std.proofs.lemmas.List.Elements.{All-nil, All-cons, All-head, All-tail, All-append}
-use Rattle.scop_syntax.specs.Members.{In}
+use Rattle.scop_syntax.proofs.Common.{◌≡◌, ℕ, zero, suc, ◌+◌, List, [], ◌∷◌, ◌++◌, refl, sym, ◌∙◌, ap, ap₂, subst, ◌⊎◌}
+use Rattle.scop_syntax.proofs.Common.{inl, inr, arith, length, All, append_assoc, Some, Bool, true, ⊤, ◌↔◌, slice_get}
+use Rattle.scop_syntax.proofs.Common.{Option, length-map, All-nil, All-cons, All-head, All-tail, All-append, In}
+use Rattle.std.proofs.lemmas.List.{append-nil, length-append}
 use Rattle.iteration_domains.specs.Dependence.{Dependence}
 use Rattle.schedule_rows.specs.Items.{Row, Marked, Block, scalar, band, part_of, closed_by}
 use Rattle.schedule_rows.specs.Dependences.{IsEqualAt}

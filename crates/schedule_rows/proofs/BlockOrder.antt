@@ -1,11 +1,6 @@
 -- What holds along blocks, one behind another.
-use Rattle.std.proofs.Common.{◌≡◌, ℤ, pos, List, [], ◌∷◌, ◌++◌, refl, ap, ap₂, subst, ◌⊎◌, inl, inr, arith}
-use Rattle.std.specs.Prelude.{◌≤ℤ◌, ◌<ℤ◌, ⊤}
-use Rattle.std.proofs.lemmas.Int.{ints}
-use Rattle.whole_numbers.proofs.Order.{le_or_lt}
-use Rattle.whole_numbers.proofs.Lexicographic.{LexLess-rest}
-use Rattle.whole_numbers.specs.Lexicographic.{LexLess}
-use Rattle.scop_syntax.specs.Walk.{Instance}
+use Rattle.scop_syntax.proofs.Common.{◌≡◌, ℤ, pos, List, [], ◌∷◌, ◌++◌, refl, ap, ap₂, subst, ◌⊎◌, inl, inr, arith}
+use Rattle.scop_syntax.proofs.Common.{◌≤ℤ◌, ◌<ℤ◌, ⊤, ints, le_or_lt, LexLess-rest, LexLess, Instance}
 use Rattle.schedule_rows.specs.Items.{Marked, Block, scalar, band, phi, values, band_values, closed_by}
 use Rattle.schedule_rows.specs.Bands.{AreKept, AreEqual, Rises, Along}
 

@@ -1,7 +1,5 @@
 -- Pairs that are joined by a third instance: what dependences that cover the others need.
-use Rattle.std.proofs.Common.{List, [], ◌∷◌, ◌∙◌, inl, inr, arith}
-use Rattle.std.proofs.lemmas.Int.{ints}
-use Rattle.scop_syntax.specs.Walk.{Instance}
+use Rattle.scop_syntax.proofs.Common.{List, [], ◌∷◌, ◌∙◌, inl, inr, arith, ints, Instance}
 use Rattle.schedule_rows.specs.Items.{Marked, Block, scalar, band}
 use Rattle.schedule_rows.specs.Bands.{AreKept, AreEqual, Rises, Along}
 

@@ -1,12 +1,7 @@
 -- Along a schedule of dependences that hold the covers of a walk each conflict goes as its covers do.
-use Rattle.std.proofs.Common.{◌≡◌, ℕ, ℤ, List, length, Some, ◌∙◌, false}
-use Rattle.std.specs.Prelude.{slice_get}
-use Rattle.scop_syntax.specs.Cells.{PlacesConflict, conflict_cell}
+use Rattle.scop_syntax.proofs.Common.{◌≡◌, ℕ, ℤ, List, length, Some, ◌∙◌, false, slice_get, PlacesConflict}
+use Rattle.scop_syntax.proofs.Common.{conflict_cell, In, is_marked, Program, Visit, instance, walk_of}
 use Rattle.scop_syntax.specs.Covers.{Chain}
-use Rattle.scop_syntax.specs.Members.{In}
-use Rattle.scop_syntax.specs.Reductions.{is_marked}
-use Rattle.scop_syntax.specs.Tree.{Program}
-use Rattle.scop_syntax.specs.Walk.{Visit, instance, walk_of}
 use Rattle.scop_syntax.proofs.Covers.{along_covers}
 use Rattle.iteration_domains.specs.Dependence.{Dependence}
 use Rattle.iteration_domains.specs.Held.{HoldCovers}

@@ -1,10 +1,8 @@
 -- What comes next is determined; heads and tails of equal lists.
-use Rattle.std.proofs.Common.{◌≡◌, ℕ, suc, Bool, true, false, ℤ, pos, List, [], ◌∷◌, ◌++◌, refl, sym, ◌∙◌, ap}
-use Rattle.std.proofs.Common.{ap₂, inl, inr, arith, length}
-use Rattle.std.specs.Prelude.{◌↔◌, reverse, slice_index_or}
-use Rattle.std.specs.List.{flat_map}
-use Rattle.std.proofs.lemmas.List.{length-append, length-reverse, reverse-reverse}
-use Rattle.std.proofs.lemmas.Bool.{false≢true}
+use Rattle.scop_syntax.proofs.Common.{◌≡◌, ℕ, suc, Bool, true, false, ℤ, pos, List, [], ◌∷◌, ◌++◌, refl, sym, ◌∙◌, ap}
+use Rattle.scop_syntax.proofs.Common.{ap₂, inl, inr, arith, length, ◌↔◌, reverse, slice_index_or, flat_map}
+use Rattle.scop_syntax.proofs.Common.{length-reverse, reverse-reverse, false≢true}
+use Rattle.std.proofs.lemmas.List.{length-append}
 use Rattle.whole_numbers.proofs.Lexicographic.{lex_total}
 use Rattle.farkas.specs.Unknowns.{Part, part_numbers}
 use Rattle.schedule_rows.specs.Items.{Row, Marked, numbers_of}

@@ -1,11 +1,7 @@
 -- The items of a schedule have a number for each statement, and small ones.
-use Rattle.std.proofs.Common.{◌≡◌, ℕ, zero, suc, ℤ, pos, List, [], ◌∷◌, ◌++◌, sym, subst, inl, inr, arith}
-use Rattle.std.specs.Prelude.{◌≤ℤ◌, All, reverse, slice_index_or}
-use Rattle.std.specs.List.{flat_map}
-use Rattle.std.proofs.lemmas.Int.{ints}
-use Rattle.std.proofs.lemmas.List.{reverse-append}
-use Rattle.std.proofs.lemmas.List.Elements.{All-nil, All-cons, All-head, All-tail}
-use Rattle.whole_numbers.proofs.Entries.{all_front, all_back}
+use Rattle.scop_syntax.proofs.Common.{◌≡◌, ℕ, zero, suc, ℤ, pos, List, [], ◌∷◌, ◌++◌, sym, subst, inl, inr, arith, ◌≤ℤ◌}
+use Rattle.scop_syntax.proofs.Common.{All, reverse, slice_index_or, flat_map, ints, reverse-append, All-nil, All-cons}
+use Rattle.scop_syntax.proofs.Common.{All-head, All-tail, all_front, all_back}
 use Rattle.fractions.specs.Farkas.{AreNotNegative}
 use Rattle.farkas.specs.Unknowns.{Part, part_numbers}
 use Rattle.iteration_domains.specs.Dependence.{Dependence}

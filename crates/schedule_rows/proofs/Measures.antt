@@ -1,9 +1,6 @@
 -- Each step makes the measure less, so a run ends.
-use Rattle.std.proofs.Common.{◌≡◌, ℕ, zero, suc, ◌<◌, ℤ, pos, List, [], ◌∷◌, ◌++◌, refl, sym, ◌∙◌, ap, ap₂}
-use Rattle.std.proofs.Common.{subst, ◌⊎◌, inl, inr, arith, length}
-use Rattle.std.specs.Prelude.{◌≤◌}
-use Rattle.std.proofs.lemmas.Int.{ints}
-use Rattle.whole_numbers.proofs.Order.{le_or_lt}
+use Rattle.scop_syntax.proofs.Common.{◌≡◌, ℕ, zero, suc, ◌<◌, ℤ, pos, List, [], ◌∷◌, ◌++◌, refl, sym, ◌∙◌, ap, ap₂}
+use Rattle.scop_syntax.proofs.Common.{subst, ◌⊎◌, inl, inr, arith, length, ◌≤◌, ints, le_or_lt}
 use Rattle.schedule_rows.specs.Items.{Row, Marked, Block, scalar, band, band_rows, rows_in, part_of}
 use Rattle.schedule_rows.specs.Items.{closed_by}
 use Rattle.iteration_domains.specs.Dependence.{Dependence}

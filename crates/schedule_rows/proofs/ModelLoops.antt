@@ -1,6 +1,6 @@
 -- A statement of a model has its number of loops in the list of them.
-use Rattle.std.proofs.Common.{◌≡◌, ℕ, zero, suc, ◌<◌, List, [], ◌∷◌, ap, arith, length, map, Some}
-use Rattle.std.specs.Prelude.{Option, slice_get, slice_index_or}
+use Rattle.scop_syntax.proofs.Common.{◌≡◌, ℕ, zero, suc, ◌<◌, List, [], ◌∷◌, ap, arith, length, map, Some, Option}
+use Rattle.scop_syntax.proofs.Common.{slice_get, slice_index_or}
 use Rattle.iteration_domains.specs.Model.{Modelled}
 
 abbrev dimensions_in : Option Modelled → ℕ

@@ -1,5 +1,5 @@
 -- What goes on and what ends in the determined run, read from the one outcome.
-use Rattle.std.proofs.Common.{ℕ, ◌<◌, List, sym, ap, subst, inl, inr, length}
+use Rattle.scop_syntax.proofs.Common.{ℕ, ◌<◌, List, sym, ap, subst, inl, inr, length}
 use Rattle.schedule_rows.specs.Items.{Block}
 use Rattle.iteration_domains.specs.Dependence.{Dependence}
 use Rattle.schedule_rows.specs.Next.{State, Restricts, Goes, Ends, Uncuts}

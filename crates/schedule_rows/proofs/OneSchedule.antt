@@ -1,5 +1,5 @@
 -- Dependences have one schedule.
-use Rattle.std.proofs.Common.{◌≡◌, subst, ℕ, List, [], ◌∷◌}
+use Rattle.scop_syntax.proofs.Common.{◌≡◌, subst, ℕ, List, [], ◌∷◌}
 use Rattle.iteration_domains.specs.Dependence.{Dependence}
 use Rattle.schedule_rows.specs.Items.{Block}
 use Rattle.schedule_rows.specs.Next.{State}

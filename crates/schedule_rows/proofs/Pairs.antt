@@ -1,22 +1,15 @@
 -- Pairs of a dependence, and of what it is restricted to: what Farkas's identity of a row says of them.
-use Rattle.std.proofs.Common.{◌≡◌, ℕ, ℤ, pos, negsuc, ◌≤ℤ◌, List, [], ◌∷◌, ◌++◌, sym, ◌∙◌, ap, subst, All}
-use Rattle.std.proofs.Common.{arith, length, inl, inr}
-use Rattle.std.specs.Prelude.{◌+ℤ◌, ◌-ℤ◌, ◌<ℤ◌, ◌↔◌}
-use Rattle.std.proofs.lemmas.List.Elements.{All-cons, All-nil, All-push, All-head, All-tail}
-use Rattle.std.proofs.lemmas.Int.{ints}
-use Rattle.whole_numbers.specs.Lists.{dot, multiples, zeros}
-use Rattle.whole_numbers.specs.Affine.{Affine, value_of}
-use Rattle.whole_numbers.proofs.Dot.{dot-append, dot-multiples, dot-zeros, length-multiples, length-zeros}
-use Rattle.whole_numbers.specs.Affine.{form_of}
+use Rattle.scop_syntax.proofs.Common.{◌≡◌, ℕ, ℤ, pos, negsuc, ◌≤ℤ◌, List, [], ◌∷◌, ◌++◌, sym, ◌∙◌, ap, subst, All}
+use Rattle.scop_syntax.proofs.Common.{arith, length, inl, inr, ◌+ℤ◌, ◌-ℤ◌, ◌<ℤ◌, ◌↔◌, All-cons, All-nil, All-push}
+use Rattle.scop_syntax.proofs.Common.{All-head, All-tail, ints, dot, multiples, zeros, Affine, value_of, dot-append}
+use Rattle.scop_syntax.proofs.Common.{dot-multiples, dot-zeros, length-multiples, length-zeros, form_of, mul_one_right}
+use Rattle.scop_syntax.proofs.Common.{all_front, all_back, Instance}
 use Rattle.fractions.specs.Fractions.{value_over}
 use Rattle.fractions.specs.Farkas.{HasFarkas, two_rows}
 use Rattle.fractions.proofs.Combination.{farkas_of_system}
-use Rattle.whole_numbers.proofs.Ring.{mul_one_right}
-use Rattle.whole_numbers.proofs.Entries.{all_front, all_back}
 use Rattle.farkas.specs.Claims.{distance, slack}
 use Rattle.schedule_rows.specs.Posed.{IsLegal, IsBounded}
 use Rattle.schedule_rows.proofs.BlockOrder.{le_apart}
-use Rattle.scop_syntax.specs.Walk.{Instance}
 use Rattle.schedule_rows.specs.Items.{Row, part_of, phi}
 use Rattle.iteration_domains.specs.Dependence.{Dependence, binds_in}
 use Rattle.schedule_rows.specs.Dependences.{Relates, IsEmptyDep, unknowns_of, Suits, equal_at, above_at}

@@ -1,13 +1,7 @@
 -- The rows of a schedule bound the distances of what is left where their band begins.
-use Rattle.std.proofs.Common.{◌≡◌, ℕ, ℤ, List, [], ◌∷◌, ◌++◌, sym, subst, inl, inr, length, append_assoc}
-use Rattle.std.specs.Prelude.{◌+ℤ◌, ◌-ℤ◌, ◌≤ℤ◌}
+use Rattle.scop_syntax.proofs.Common.{◌≡◌, ℕ, ℤ, List, [], ◌∷◌, ◌++◌, sym, subst, inl, inr, length, append_assoc, ◌+ℤ◌}
+use Rattle.scop_syntax.proofs.Common.{◌-ℤ◌, ◌≤ℤ◌, dot, LexLess, LexLess-irrefl, In, Instance, all_in}
 use Rattle.std.proofs.lemmas.List.{append-nil}
-use Rattle.whole_numbers.specs.Lists.{dot}
-use Rattle.whole_numbers.specs.Lexicographic.{LexLess}
-use Rattle.whole_numbers.proofs.Lexicographic.{LexLess-irrefl}
-use Rattle.scop_syntax.specs.Members.{In}
-use Rattle.scop_syntax.specs.Walk.{Instance}
-use Rattle.scop_syntax.proofs.Members.{all_in}
 use Rattle.iteration_domains.specs.Dependence.{Dependence}
 use Rattle.schedule_rows.specs.Items.{Marked, Block, scalar, band, phi, values}
 use Rattle.schedule_rows.specs.Dependences.{Relates}

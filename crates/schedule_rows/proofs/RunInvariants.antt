@@ -1,9 +1,6 @@
 -- What the states of a run keep, and what its end says.
-use Rattle.std.proofs.Common.{◌≡◌, ℕ, ◌<◌, ℤ, List, [], ◌∷◌, ◌++◌, refl, sym, ◌∙◌, ap, subst, ◌⊎◌, inl}
-use Rattle.std.proofs.Common.{inr, length}
-use Rattle.std.specs.Prelude.{⊤}
-use Rattle.scop_syntax.specs.Members.{In}
-use Rattle.scop_syntax.specs.Walk.{Instance}
+use Rattle.scop_syntax.proofs.Common.{◌≡◌, ℕ, ◌<◌, ℤ, List, [], ◌∷◌, ◌++◌, refl, sym, ◌∙◌, ap, subst, ◌⊎◌, inl, inr}
+use Rattle.scop_syntax.proofs.Common.{length, ⊤, In, Instance, in_map}
 use Rattle.stmt_graph.specs.Graph.{number_in}
 use Rattle.schedule_rows.specs.Items.{Row, Marked, Block, scalar, part_of, closed_by}
 use Rattle.schedule_rows.specs.Bands.{AreKept, AreEqual, Rises, Along}
@@ -11,7 +8,6 @@ use Rattle.iteration_domains.specs.Dependence.{Dependence}
 use Rattle.schedule_rows.specs.Dependences.{Relates, Suits, equal_at, edge_of, edges_of}
 use Rattle.stmt_graph.specs.Graph.{IsNumbering}
 use Rattle.stmt_graph.proofs.Counts.{lt_or_eq}
-use Rattle.scop_syntax.proofs.Members.{in_map}
 use Rattle.schedule_rows.specs.Posed.{loops_of}
 use Rattle.schedule_rows.specs.Next.{State, restricted, Restricts, Uncuts, Appends, Goes, Ends, IsSizedDep}
 use Rattle.schedule_rows.proofs.NextSteps.{next_goes, next_ends}

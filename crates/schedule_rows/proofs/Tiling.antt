@@ -1,16 +1,8 @@
 -- Tiles and waves of pairs that are kept.
-use Rattle.std.proofs.Common.{◌≡◌, ℕ, suc, Bool, true, false, ℤ, pos, List, [], ◌∷◌, ◌++◌, refl, sym, ◌∙◌, ap}
-use Rattle.std.proofs.Common.{ap₂, ◌⊎◌, inl, inr, arith, length}
-use Rattle.std.specs.Prelude.{◌≤ℤ◌, ◌<ℤ◌, ◌+ℤ◌, ◌-◌, if◌then◌else◌}
-use Rattle.std.proofs.lemmas.Int.{ints}
+use Rattle.scop_syntax.proofs.Common.{◌≡◌, ℕ, suc, Bool, true, false, ℤ, pos, List, [], ◌∷◌, ◌++◌, refl, sym, ◌∙◌, ap}
+use Rattle.scop_syntax.proofs.Common.{ap₂, ◌⊎◌, inl, inr, arith, length, ◌≤ℤ◌, ◌<ℤ◌, ◌+ℤ◌, ◌-◌, if◌then◌else◌, ints}
+use Rattle.scop_syntax.proofs.Common.{floor, zeros, LexLess, floor_is, floor_at_least, LexLess-front, In, Instance}
 use Rattle.std.proofs.lemmas.List.{length-append}
-use Rattle.whole_numbers.specs.Floor.{floor}
-use Rattle.whole_numbers.specs.Lists.{zeros}
-use Rattle.whole_numbers.specs.Lexicographic.{LexLess}
-use Rattle.whole_numbers.proofs.Floors.{floor_is, floor_at_least}
-use Rattle.whole_numbers.proofs.Lexicographic.{LexLess-front}
-use Rattle.scop_syntax.specs.Members.{In}
-use Rattle.scop_syntax.specs.Walk.{Instance}
 use Rattle.schedule_rows.specs.Items.{Marked, Block, scalar, band, phi, values, band_values}
 use Rattle.schedule_rows.specs.Bands.{AreKept, Along}
 use Rattle.iteration_domains.specs.Dependence.{Dependence}

@@ -1,18 +1,10 @@
 -- At full rank the item values of one statement's instances differ: item values, then the statement's number,
 -- are in order.
-use Rattle.std.proofs.Common.{◌≡◌, ℕ, ◌<◌, ℤ, pos, negsuc, List, [], ◌∷◌, ◌++◌, sym, ◌∙◌, ap}
-use Rattle.std.proofs.Common.{subst, inl, inr, arith, length, All}
-use Rattle.std.specs.Prelude.{◌+ℤ◌, ◌-ℤ◌}
-use Rattle.std.proofs.lemmas.Int.{ints}
-use Rattle.std.proofs.lemmas.List.Elements.{All-nil, All-cons, All-append, All-head, All-tail}
-use Rattle.whole_numbers.specs.Lists.{dot, sums, multiples}
-use Rattle.whole_numbers.specs.Lexicographic.{LexLess}
-use Rattle.whole_numbers.proofs.Lexicographic.{LexLess-irrefl, LexLess-front}
-use Rattle.whole_numbers.proofs.Dot.{dot-sums, dot-multiples, dot_comm, length-sums}
-use Rattle.whole_numbers.proofs.Dot.{length-multiples}
+use Rattle.scop_syntax.proofs.Common.{◌≡◌, ℕ, ◌<◌, ℤ, pos, negsuc, List, [], ◌∷◌, ◌++◌, sym, ◌∙◌, ap, subst, inl, inr}
+use Rattle.scop_syntax.proofs.Common.{arith, length, All, ◌+ℤ◌, ◌-ℤ◌, ints, All-nil, All-cons, All-append, All-head}
+use Rattle.scop_syntax.proofs.Common.{All-tail, dot, sums, multiples, LexLess, LexLess-irrefl, LexLess-front, dot-sums}
+use Rattle.scop_syntax.proofs.Common.{dot-multiples, dot_comm, length-sums, length-multiples, In, Instance}
 use Rattle.whole_numbers.proofs.Lists.{same_products}
-use Rattle.scop_syntax.specs.Members.{In}
-use Rattle.scop_syntax.specs.Walk.{Instance}
 use Rattle.stmt_graph.specs.Graph.{number_in}
 use Rattle.schedule_rows.specs.Items.{Row, Marked, Block, scalar, band, part_of, phi, values, band_values}
 use Rattle.schedule_rows.specs.Items.{band_rows, rows_in, closed_by}

@@ -1,13 +1,7 @@
 -- Of two places of a walk at one statement the turns rise from the earlier to the later.
-use Rattle.std.proofs.Common.{◌≡◌, ℕ, ◌<◌, ℤ, List, sym, ◌∙◌, ap, length, Some}
-use Rattle.std.specs.Prelude.{◌↔◌, slice_get}
-use Rattle.whole_numbers.specs.Lexicographic.{LexLess}
-use Rattle.scop_syntax.specs.Members.{In}
-use Rattle.scop_syntax.specs.Order.{Before}
-use Rattle.scop_syntax.specs.Statements.{Placed, statements_of, Runs, loops_in, Scope, visit_of}
-use Rattle.scop_syntax.specs.Tree.{Program}
-use Rattle.scop_syntax.specs.Walk.{Visit, walk_of}
-use Rattle.scop_syntax.proofs.Members.{in_from_place}
+use Rattle.scop_syntax.proofs.Common.{◌≡◌, ℕ, ◌<◌, ℤ, List, sym, ◌∙◌, ap, length, Some, ◌↔◌, slice_get, LexLess, In}
+use Rattle.scop_syntax.proofs.Common.{Before, Placed, statements_of, Runs, loops_in, Scope, visit_of, Program, Visit}
+use Rattle.scop_syntax.proofs.Common.{walk_of, in_from_place}
 use Rattle.scop_syntax.proofs.Order.{own_order}
 
 -- what the laws of the walk say that is wanted here: its instances are those of statements at turns that run, and they

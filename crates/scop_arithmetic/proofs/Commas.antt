@@ -1,5 +1,5 @@
 -- Expressions of the grammar have commas in calls alone.
-use Rattle.std.proofs.Common.{ℕ, ◌+◌, ◌≤◌, arith}
+use Rattle.scop_syntax.proofs.Common.{ℕ, ◌+◌, ◌≤◌, arith}
 use Rattle.scop_expressions.specs.Op.TheVariants as op
 use Rattle.scop_expressions.specs.Tree.{Tree, rank, IsPlace, WellBracketed, size}
 use Rattle.scop_expressions.specs.Tree as tree

@@ -1,14 +1,10 @@
 -- The comparisons of a condition hold at a point exactly where the condition does.
-use Rattle.std.proofs.Common.{◌≡◌, ℕ, true, false, ◌&&◌, ℤ, pos, negsuc, ◌+ℤ◌, ◌-ℤ◌, ◌≤ℤ◌, ◌<ℤ◌, ◌↔◌, List, []}
-use Rattle.std.proofs.Common.{◌∷◌, ◌++◌, length, ◌∙◌, refl, arith}
-use Rattle.std.specs.Prelude.{Some, None, ⊤}
-use Rattle.std.proofs.lemmas.Int.{ints}
-use Rattle.whole_numbers.specs.Affine.{Affine, value_of, form_of, sum_of_forms, multiple_of_form}
-use Rattle.whole_numbers.proofs.Values.{value_of-sum, value_of-multiple}
+use Rattle.scop_syntax.proofs.Common.{◌≡◌, ℕ, true, false, ◌&&◌, ℤ, pos, negsuc, ◌+ℤ◌, ◌-ℤ◌, ◌≤ℤ◌, ◌<ℤ◌, ◌↔◌, List, []}
+use Rattle.scop_syntax.proofs.Common.{◌∷◌, ◌++◌, length, ◌∙◌, refl, arith, Some, None, ⊤, ints, Affine, value_of}
+use Rattle.scop_syntax.proofs.Common.{form_of, sum_of_forms, multiple_of_form, value_of-sum, value_of-multiple, Test}
+use Rattle.scop_syntax.proofs.Common.{AllHold}
 use Rattle.scop_expressions.specs.Op.{Op}
 use Rattle.scop_expressions.specs.Op.TheVariants as op
-use Rattle.scop_syntax.specs.Tree.{Test}
-use Rattle.scop_syntax.specs.Statements.{AllHold}
 use Rattle.scop_syntax.specs.Statements as tests
 use Rattle.scop_roles.specs.declared.fault.Kind.TheVariants as kind
 use Rattle.scop_roles.specs.declared.formula.Role.TheVariants as role

@@ -1,11 +1,8 @@
 -- Contents within the types of a text's arrays hold numbers of their types wherever an expression reads them.
-use Rattle.std.proofs.Common.{◌≡◌, refl, ℕ, ◌+◌, Bool, true, false, ℤ, List, map, get_or}
-use Rattle.std.proofs.lemmas.Option.{get_or_from_slice_get}
-use Rattle.whole_numbers.proofs.Entries.{get_map}
+use Rattle.scop_syntax.proofs.Common.{◌≡◌, refl, ℕ, ◌+◌, Bool, true, false, ℤ, List, map, get_or, get_or_from_slice_get}
+use Rattle.scop_syntax.proofs.Common.{get_map, held, HoldWidths}
 use Rattle.scop_expressions.specs.Tree.{Tree, size}
 use Rattle.scop_expressions.specs.Tree as tree
-use Rattle.scop_syntax.specs.Execution.{held}
-use Rattle.scop_syntax.specs.Widths.{HoldWidths}
 use Rattle.scop_roles.specs.declared.formula.Meaning.{Meaning}
 use Rattle.scop_roles.specs.declared.formula.Meaning.TheVariants as meaning
 use Rattle.scop_roles.specs.Formula.{formula, name}

@@ -1,10 +1,9 @@
 -- What an expression without faults has of what the definitions ask: counts, and sides that may stand together.
-use Rattle.std.proofs.Common.{◌≡◌, ℕ, ◌-◌, ◌≤◌, ◌==◌, ◌^◌, Bool, true, false, ◌&&◌, ◌||◌, List, [], All}
-use Rattle.std.proofs.Common.{ap, sym, ◌∙◌, refl, arith, nat_le}
-use Rattle.std.specs.Prelude.{Some, None}
-use Rattle.std.proofs.lemmas.Bool.{and_parts, or_parts, leb-true, eqb-true, not-true}
+use Rattle.scop_syntax.proofs.Common.{◌≡◌, ℕ, ◌-◌, ◌≤◌, ◌==◌, ◌^◌, Bool, true, false, ◌&&◌, ◌||◌, List, [], All, ap}
+use Rattle.scop_syntax.proofs.Common.{sym, ◌∙◌, refl, arith, nat_le, Some, None, and_parts, leb-true, eqb-true}
+use Rattle.scop_syntax.proofs.Common.{not-true, All-get_or}
+use Rattle.std.proofs.lemmas.Bool.{or_parts}
 use Rattle.std.proofs.Math.Bool.{and_comm}
-use Rattle.std.proofs.lemmas.List.Elements.{All-get_or}
 use Rattle.scop_expressions.specs.Assign.{Assign}
 use Rattle.scop_expressions.specs.Assign.TheVariants as assigns
 use Rattle.scop_expressions.specs.Base.{Base}

@@ -1,12 +1,8 @@
 -- The extents of an array are worth what their text is over the parameters in front of it.
-use Rattle.std.proofs.Common.{◌≡◌, ℕ, ◌-◌, ◌≤◌, ℤ, ◌+ℤ◌, List, [], ◌∷◌, ◌++◌, length, map, ap, ap₂, ◌∙◌, refl}
-use Rattle.std.proofs.Common.{All, arith}
-use Rattle.std.specs.Prelude.{nat_le, nat_lt}
-use Rattle.std.proofs.lemmas.List.Elements.{All-nil, All-cons}
-use Rattle.whole_numbers.specs.Affine.{Affine, value_of}
-use Rattle.whole_numbers.proofs.Dot.{dot-padded, dot-past}
+use Rattle.scop_syntax.proofs.Common.{◌≡◌, ℕ, ◌-◌, ◌≤◌, ℤ, ◌+ℤ◌, List, [], ◌∷◌, ◌++◌, length, map, ap, ap₂, ◌∙◌, refl}
+use Rattle.scop_syntax.proofs.Common.{All, arith, nat_le, nat_lt, All-nil, All-cons, Affine, value_of, dot-padded}
+use Rattle.scop_syntax.proofs.Common.{dot-past, values}
 use Rattle.scop_expressions.specs.Width.{Width}
-use Rattle.scop_syntax.specs.Cells.{values}
 use Rattle.scop_roles.specs.declared.fault.Kind.TheVariants as kind
 use Rattle.scop_roles.specs.declared.formula.Role.TheVariants as role
 use Rattle.scop_roles.specs.Faults.{first, told, faults, only_where}

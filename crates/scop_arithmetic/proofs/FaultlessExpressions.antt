@@ -1,17 +1,11 @@
 -- What has no fault where it stands means something within the limits.
-use Rattle.std.proofs.Common.{◌≡◌, ◌∙◌, ap, sym, subst, refl, ℕ, ◌≤◌, ◌==◌, ◌^◌, Bool, true, false}
-use Rattle.std.proofs.Common.{◌&&◌, List, [], ◌∷◌, ◌++◌, pos, ◌-ℤ◌, get_or, All, inl, inr, set}
-use Rattle.std.specs.Prelude.{Option, Some, None}
-use Rattle.std.proofs.lemmas.Bool.{eqb-true}
-use Rattle.std.proofs.lemmas.List.{length-set}
-use Rattle.std.proofs.lemmas.List.Elements.{All-nil, All-cons}
-use Rattle.whole_numbers.specs.Lists.{zeros}
-use Rattle.whole_numbers.proofs.Dot.{length-zeros}
+use Rattle.scop_syntax.proofs.Common.{◌≡◌, ◌∙◌, ap, sym, subst, refl, ℕ, ◌≤◌, ◌==◌, ◌^◌, Bool, true, false, ◌&&◌, List}
+use Rattle.scop_syntax.proofs.Common.{[], ◌∷◌, ◌++◌, pos, ◌-ℤ◌, get_or, All, inl, inr, set, Option, Some, None}
+use Rattle.scop_syntax.proofs.Common.{eqb-true, length-set, All-nil, All-cons, zeros, length-zeros, at_most_at}
 use Rattle.scop_expressions.specs.Op.{Op}
 use Rattle.scop_expressions.specs.Op.TheVariants as op
 use Rattle.scop_expressions.specs.declared.token.Sign.TheVariants as sign
 use Rattle.scop_expressions.specs.Suffix.TheVariants as suffix
-use Rattle.scop_syntax.proofs.Limits.{at_most_at}
 use Rattle.scop_roles.specs.declared.fault.Kind.{Kind}
 use Rattle.scop_roles.specs.declared.fault.Kind.TheVariants as kind
 use Rattle.scop_roles.specs.declared.formula.Meaning.{Meaning}

@@ -1,13 +1,11 @@
 -- The arrays of a header without faults mean what their extents say, and the program what its kernel does.
-use Rattle.std.proofs.Common.{◌≡◌, ◌∙◌, ◌↔◌, ap, subst, sym, refl, ℕ, ◌+◌, ◌≤◌, Bool, true, false, List, [], ◌∷◌}
-use Rattle.std.proofs.Common.{◌++◌, length, map, All, arith, append-nil, append_assoc}
-use Rattle.std.proofs.lemmas.List.{map-append}
+use Rattle.scop_syntax.proofs.Common.{◌≡◌, ◌∙◌, ◌↔◌, ap, subst, sym, refl, ℕ, ◌+◌, ◌≤◌, Bool, true, false, List, []}
+use Rattle.scop_syntax.proofs.Common.{◌∷◌, ◌++◌, length, map, All, arith, append-nil, append_assoc, map-append, All-nil}
+use Rattle.scop_syntax.proofs.Common.{All-cons, All-append, Declaration}
 use Rattle.std.proofs.lemmas.Simd.{map-map}
-use Rattle.std.proofs.lemmas.List.Elements.{All-nil, All-cons, All-append}
 use Rattle.scop_expressions.specs.Width.{Width}
 use Rattle.scop_expressions.specs.Width.TheVariants.{Narrow, Full}
 use Rattle.scop_grammar.specs.Kernel.{Parameter, number, array, Kernel, KernelFits, parameter_elements}
-use Rattle.scop_syntax.specs.Tree.{Declaration}
 use Rattle.scop_roles.specs.Forms.{is_narrow_width}
 use Rattle.scop_units.specs.Words.{Words, HasWorth}
 use Rattle.scop_units.specs.Scopes.{Scope, Ranked, no_scope, entries}

@@ -1,8 +1,7 @@
 -- Inside a loop its iterator means the entry behind those outside, and no other name does.
-use Rattle.std.proofs.Common.{◌≡◌, ◌≢◌, ℕ, ◌+◌, ◌<◌, Bool, true, false, ◌||◌, ◌↔◌, List, [], ◌∷◌, length, ap, sym}
-use Rattle.std.proofs.Common.{◌∙◌, refl, arith, bytes_eq}
-use Rattle.std.specs.Prelude.{Option, Some, None, if◌then◌else◌}
-use Rattle.std.proofs.lemmas.Slice.Eq.{bytes_eq-Decides}
+use Rattle.scop_syntax.proofs.Common.{◌≡◌, ◌≢◌, ℕ, ◌+◌, ◌<◌, Bool, true, false, ◌||◌, ◌↔◌, List, [], ◌∷◌, length, ap}
+use Rattle.scop_syntax.proofs.Common.{sym, ◌∙◌, refl, arith, Option, Some, None, if◌then◌else◌, bytes_eq-Decides}
+use Rattle.std.proofs.Common.{bytes_eq}
 use Rattle.scop_lexer.specs.Bytes.{Text}
 use Rattle.scop_roles.specs.declared.fault.Kind.TheVariants as kind
 use Rattle.scop_roles.specs.declared.formula.Meaning.{Meaning}

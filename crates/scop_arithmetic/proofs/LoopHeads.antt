@@ -1,11 +1,8 @@
 -- The head of a loop has no fault exactly where it counts within the limits; such extents have none.
-use Rattle.std.proofs.Common.{◌≡◌, ◌∙◌, ap, sym, subst, refl, ℕ, ◌+◌, ◌<◌, Bool, true, false, ◌&&◌}
-use Rattle.std.proofs.Common.{nat_le}
-use Rattle.std.proofs.Common.{List, [], ◌∷◌, ◌++◌, length, inl, inr, ◌⊎◌, arith, All, ℤ, pos, negsuc, ◌-◌}
-use Rattle.std.specs.Prelude.{Some, None, not, if◌then◌else◌}
-use Rattle.std.proofs.lemmas.Bool.{and_parts, not-true, le-leb, and_from}
-use Rattle.std.proofs.lemmas.Bool.Decides.{nat_tests}
-use Rattle.std.proofs.lemmas.List.Elements.{All-head, All-tail}
+use Rattle.scop_syntax.proofs.Common.{◌≡◌, ◌∙◌, ap, sym, subst, refl, ℕ, ◌+◌, ◌<◌, Bool, true, false, ◌&&◌, nat_le}
+use Rattle.scop_syntax.proofs.Common.{List, [], ◌∷◌, ◌++◌, length, inl, inr, ◌⊎◌, arith, All, ℤ, pos, negsuc, ◌-◌, Some}
+use Rattle.scop_syntax.proofs.Common.{None, not, if◌then◌else◌, and_parts, not-true, le-leb, and_from, nat_tests}
+use Rattle.scop_syntax.proofs.Common.{All-head, All-tail}
 use Rattle.scop_expressions.specs.Assign.TheVariants as assign
 use Rattle.scop_expressions.specs.Count.TheVariants as count
 use Rattle.scop_expressions.specs.Op.TheVariants as op

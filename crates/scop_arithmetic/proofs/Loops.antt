@@ -1,17 +1,13 @@
 -- A loop takes the turns of its head: the first value, the condition, and the step.
-use Rattle.std.proofs.Common.{◌≡◌, ℕ, ◌+◌, ◌-◌, Bool, true, false, ℤ, pos, negsuc, ◌+ℤ◌, ◌-ℤ◌, ◌*ℤ◌}
-use Rattle.std.proofs.Common.{◌≤ℤ◌, ◌↔◌, List, [], ◌∷◌, ◌++◌, length, get_or, ap, sym, ◌∙◌, refl, arith, length-append}
-use Rattle.std.specs.Prelude.{Option, Some, None, if◌then◌else◌, not}
-use Rattle.std.proofs.lemmas.Int.{ints}
-use Rattle.std.proofs.lemmas.Bool.{eqb-true}
-use Rattle.std.proofs.Math.Seq.{get_or-append_seam}
-use Rattle.whole_numbers.specs.Affine.{value_of}
-use Rattle.whole_numbers.proofs.Ring.{mul_distrib_left, mul_one_right, mul_zero_right}
+use Rattle.scop_syntax.proofs.Common.{◌≡◌, ℕ, ◌+◌, ◌-◌, Bool, true, false, ℤ, pos, negsuc, ◌+ℤ◌, ◌-ℤ◌, ◌*ℤ◌, ◌≤ℤ◌, ◌↔◌}
+use Rattle.scop_syntax.proofs.Common.{List, [], ◌∷◌, ◌++◌, length, get_or, ap, sym, ◌∙◌, refl, arith, length-append}
+use Rattle.scop_syntax.proofs.Common.{Option, Some, None, if◌then◌else◌, not, ints, eqb-true, get_or-append_seam}
+use Rattle.scop_syntax.proofs.Common.{value_of, mul_distrib_left, mul_one_right, mul_zero_right, turn_point}
+use Rattle.scop_syntax.proofs.Common.{condition_at}
 use Rattle.scop_expressions.specs.Assign.TheVariants as assigns
 use Rattle.scop_expressions.specs.Count.TheVariants as counts
 use Rattle.scop_expressions.specs.Op.TheVariants as op
 use Rattle.scop_expressions.specs.Suffix.TheVariants as suffix
-use Rattle.scop_syntax.specs.Walk.{turn_point, condition_at}
 use Rattle.scop_roles.specs.declared.fault.Kind.TheVariants as kind
 use Rattle.scop_roles.specs.declared.fault.Fault.{Fault}
 use Rattle.scop_roles.specs.declared.formula.Meaning.TheVariants as meaning

@@ -1,17 +1,10 @@
 -- Expressions that mean something within the limits have no fault where they stand.
-use Rattle.std.proofs.Common.{◌≡◌, ◌∙◌, ap, ap₂, sym, subst, refl, ℕ, suc, ◌-◌, ◌^◌, ◌<◌, ◌≤◌, ◌==◌, Bool, true, false}
-use Rattle.std.proofs.Common.{◌&&◌, nat_le, nat_lt, List, [], ◌∷◌, ◌++◌, length, ℤ, pos, ◌-ℤ◌, get_or, arith}
-use Rattle.std.proofs.Common.{unsigned_abs, inl, inr, set}
-use Rattle.std.specs.Prelude.{Option, None, not, if◌then◌else◌}
-use Rattle.std.specs.List.{list_all}
-use Rattle.std.proofs.lemmas.Int.{ints}
-use Rattle.std.proofs.lemmas.Bool.Decides.{nat_tests}
-use Rattle.std.proofs.lemmas.List.{length-set}
-use Rattle.std.proofs.lemmas.Bool.{le-leb, and_from}
+use Rattle.scop_syntax.proofs.Common.{◌≡◌, ◌∙◌, ap, ap₂, sym, subst, refl, ℕ, suc, ◌-◌, ◌^◌, ◌<◌, ◌≤◌, ◌==◌, Bool, true}
+use Rattle.scop_syntax.proofs.Common.{false, ◌&&◌, nat_le, nat_lt, List, [], ◌∷◌, ◌++◌, length, ℤ, pos, ◌-ℤ◌, get_or}
+use Rattle.scop_syntax.proofs.Common.{arith, unsigned_abs, inl, inr, set, Option, None, not, if◌then◌else◌, list_all}
+use Rattle.scop_syntax.proofs.Common.{ints, nat_tests, length-set, le-leb, and_from, Affine, value_of, zeros, dot_comm}
+use Rattle.scop_syntax.proofs.Common.{dot-zeros, dot-unit, length-zeros}
 use Rattle.std.proofs.Math.Bool.{and_comm}
-use Rattle.whole_numbers.specs.Affine.{Affine, value_of}
-use Rattle.whole_numbers.specs.Lists.{zeros}
-use Rattle.whole_numbers.proofs.Dot.{dot_comm, dot-zeros, dot-unit, length-zeros}
 use Rattle.scop_expressions.specs.Assign.{Assign}
 use Rattle.scop_expressions.specs.Assign.TheVariants as assigns
 use Rattle.scop_expressions.specs.Base.{Base}

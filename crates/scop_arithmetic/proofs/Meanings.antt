@@ -1,6 +1,5 @@
 -- The trees of items without faults mean what the items say.
-use Rattle.std.proofs.Common.{◌≡◌, ap, refl, ℕ, ◌+◌, ◌≤◌, List, []}
-use Rattle.std.proofs.Common.{All}
+use Rattle.scop_syntax.proofs.Common.{◌≡◌, ap, refl, ℕ, ◌+◌, ◌≤◌, List, [], All}
 use Rattle.scop_expressions.specs.Tree.{Tree, size}
 use Rattle.scop_grammar.specs.Kernel.{branch, loop, Item, block, empty, assign, headed, Items, none, more}
 use Rattle.scop_grammar.specs.Kernel.{ItemFits, ItemsFit, item_elements, head_elements}

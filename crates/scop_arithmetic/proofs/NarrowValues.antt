@@ -1,13 +1,10 @@
 -- A value of uint32_t is below 2^32.
-use Rattle.std.proofs.Common.{◌≡◌, ℕ, ◌-◌, ◌*◌, ◌%◌, ◌^◌, ◌<◌, ℤ, List, arith}
-use Rattle.std.proofs.lemmas.Nat.{mod_below}
-use Rattle.std.proofs.Math.Nat.{div-le_self}
+use Rattle.scop_syntax.proofs.Common.{◌≡◌, ℕ, ◌-◌, ◌*◌, ◌%◌, ◌^◌, ◌<◌, ℤ, List, arith, mod_below, div-le_self, Operator}
+use Rattle.scop_syntax.proofs.Common.{plus, minus, times, bits_and, bits_or, bits_xor, Cell}
 use Rattle.scop_expressions.specs.Op.TheVariants as op
 use Rattle.scop_expressions.specs.declared.token.Sign.TheVariants as sign
 use Rattle.scop_expressions.specs.Suffix.TheVariants as suffix
 use Rattle.scop_expressions.specs.Width.TheVariants as width
-use Rattle.scop_syntax.specs.Tree.{Operator, plus, minus, times, bits_and, bits_or, bits_xor}
-use Rattle.scop_syntax.specs.Cells.{Cell}
 use Rattle.scop_roles.specs.declared.formula.Meaning.{Meaning}
 use Rattle.scop_roles.specs.declared.formula.Meaning.TheVariants as meaning
 use Rattle.scop_roles.specs.Formula.{Formula, constant, name, index, unary, cast, binary}

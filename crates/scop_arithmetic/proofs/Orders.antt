@@ -1,11 +1,8 @@
 -- Names mean by the order of their declarations: each unit that is declared without a fault adds its own name.
-use Rattle.std.proofs.Common.{◌≡◌, ◌≢◌, ◌∙◌, ◌↔◌, ◌⊎◌, inl, inr, ap, subst, sym, refl, ℕ, zero, suc, ◌+◌, Bool}
-use Rattle.std.proofs.Common.{true, false}
-use Rattle.std.proofs.Common.{◌||◌, if◌then◌else◌, List, [], ◌∷◌, ◌++◌, length, slice_get, arith, bytes_eq}
-use Rattle.std.proofs.Common.{append_assoc}
-use Rattle.std.proofs.Common.{append-nil, length-append}
-use Rattle.std.specs.Prelude.{Option, Some, None, ⊤}
-use Rattle.std.proofs.lemmas.Slice.Eq.{bytes_eq-Decides}
+use Rattle.scop_syntax.proofs.Common.{◌≡◌, ◌≢◌, ◌∙◌, ◌↔◌, ◌⊎◌, inl, inr, ap, subst, sym, refl, ℕ, zero, suc, ◌+◌, Bool}
+use Rattle.scop_syntax.proofs.Common.{true, false, ◌||◌, if◌then◌else◌, List, [], ◌∷◌, ◌++◌, length, slice_get, arith}
+use Rattle.scop_syntax.proofs.Common.{append_assoc, append-nil, length-append, Option, Some, None, ⊤, bytes_eq-Decides}
+use Rattle.std.proofs.Common.{bytes_eq}
 use Rattle.scop_grammar.specs.Kernel.{Parameter, number, array}
 use Rattle.scop_lexer.specs.Bytes.{Text}
 use Rattle.scop_roles.specs.declared.fault.Kind.TheVariants as kind

@@ -1,13 +1,10 @@
 -- The cell that a place names is the one that it is, and a value reads the cells of its places.
-use Rattle.std.proofs.Common.{◌≡◌, ℕ, Bool, true, false, ℤ, List, [], ◌∷◌, ◌++◌, length, map, ap, ap₂, sym}
-use Rattle.std.proofs.Common.{◌∙◌, refl}
-use Rattle.std.specs.Prelude.{None, if◌then◌else◌}
-use Rattle.std.proofs.lemmas.List.{map-append, append-nil}
-use Rattle.whole_numbers.specs.Affine.{value_of}
+use Rattle.scop_syntax.proofs.Common.{◌≡◌, ℕ, Bool, true, false, ℤ, List, [], ◌∷◌, ◌++◌, length, map, ap, ap₂, sym, ◌∙◌}
+use Rattle.scop_syntax.proofs.Common.{refl, None, if◌then◌else◌, map-append, value_of, Access, Expression, affine}
+use Rattle.scop_syntax.proofs.Common.{implied, Cell, cell_of, reads_of, values}
+use Rattle.std.proofs.lemmas.List.{append-nil}
 use Rattle.scop_expressions.specs.Op.{Op}
 use Rattle.scop_expressions.specs.declared.token.Sign.TheVariants as sign
-use Rattle.scop_syntax.specs.Tree.{Access, Expression, affine, implied}
-use Rattle.scop_syntax.specs.Cells.{Cell, cell_of, reads_of, values}
 use Rattle.scop_roles.specs.declared.formula.Meaning.TheVariants as meaning
 use Rattle.scop_roles.specs.declared.formula.Role.TheVariants as role
 use Rattle.scop_roles.specs.Faults.{first, faults, place_faults, is_count}

@@ -1,14 +1,11 @@
 -- What a statement without faults stores, and where.
-use Rattle.std.proofs.Common.{◌≡◌, ℕ, ◌*◌, ◌/◌, ◌%◌, ◌^◌, ◌≤◌, ◌<◌, Bool, true, false, ℤ, List, [], ◌∷◌, ◌++◌, length}
-use Rattle.std.proofs.Common.{map, ap, ap₂, sym, ◌∙◌, refl, arith}
-use Rattle.std.specs.Prelude.{None, not}
-use Rattle.std.proofs.Math.Nat.{mod-mod, mod-eq_of_lt}
+use Rattle.scop_syntax.proofs.Common.{◌≡◌, ℕ, ◌*◌, ◌/◌, ◌%◌, ◌^◌, ◌≤◌, ◌<◌, Bool, true, false, ℤ, List, [], ◌∷◌, ◌++◌}
+use Rattle.scop_syntax.proofs.Common.{length, map, ap, ap₂, sym, ◌∙◌, refl, arith, None, not, mod-mod, mod-eq_of_lt}
+use Rattle.scop_syntax.proofs.Common.{Operator, plus, minus, times, bits_and, bits_or, bits_xor, Expression, implied}
+use Rattle.scop_syntax.proofs.Common.{converted, assigned, Cell, cell_of, reads_with, applied, applied_narrow, value_on}
+use Rattle.scop_syntax.proofs.Common.{stored_by, applied_kept}
 use Rattle.scop_expressions.specs.Assign.{Assign}
 use Rattle.scop_expressions.specs.Assign.TheVariants as assigns
-use Rattle.scop_syntax.specs.Tree.{Operator, plus, minus, times, bits_and, bits_or, bits_xor, Expression, implied}
-use Rattle.scop_syntax.specs.Tree.{converted, assigned}
-use Rattle.scop_syntax.specs.Cells.{Cell, cell_of, reads_with}
-use Rattle.scop_syntax.specs.Values.{applied, applied_narrow, value_on, stored_by}
 use Rattle.scop_roles.specs.declared.fault.Kind.TheVariants as kind
 use Rattle.scop_roles.specs.declared.formula.Role.TheVariants as role
 use Rattle.scop_roles.specs.Faults.{first, told, faults, place_faults, is_count, last_count, only_where}
@@ -25,7 +22,6 @@ use Rattle.scop_arithmetic.specs.Arithmetic.{narrow, common, cell_class, class, 
 use Rattle.scop_arithmetic.specs.Arithmetic.{cell, word, HoldTypes, cells_in, cells_read, HasNoComma}
 use Rattle.scop_arithmetic.specs.Arithmetic.{stored}
 use Rattle.scop_arithmetic.proofs.Classes.{type_by, IsTyped, cell_type, class_same}
-use Rattle.scop_syntax.proofs.NarrowValues.{applied_kept}
 use Rattle.scop_arithmetic.proofs.NarrowValues.{joined_below, word_below}
 use Rattle.scop_arithmetic.proofs.Words.{count_word, word_read}
 use Rattle.scop_arithmetic.proofs.Places.{cells_of, cell_same, count_reads, reads_same}

@@ -1,9 +1,8 @@
 -- The parts of a kernel stand at the tokens that spell them.
-use Rattle.std.proofs.Common.{◌≡◌, ◌∙◌, inl, inr, ap, subst, refl, ℕ, zero, suc, ◌+◌, ◌≤◌, Bool, true, false}
-use Rattle.std.proofs.Common.{List, [], ◌∷◌, ◌++◌, length, slice_get, arith, length-append}
-use Rattle.std.specs.Prelude.{All, Some}
-use Rattle.std.proofs.lemmas.List.Elements.{All-nil, All-cons, All-append}
-use Rattle.whole_numbers.proofs.Entries.{found_front, get_behind}
+use Rattle.scop_syntax.proofs.Common.{◌≡◌, ◌∙◌, inl, inr, ap, subst, refl, ℕ, zero, suc, ◌+◌, ◌≤◌, Bool, true, false}
+use Rattle.scop_syntax.proofs.Common.{List, [], ◌∷◌, ◌++◌, length, slice_get, arith, length-append, All, Some, All-nil}
+use Rattle.scop_syntax.proofs.Common.{All-cons, All-append, get_behind}
+use Rattle.whole_numbers.proofs.Entries.{found_front}
 use Rattle.scop_expressions.specs.declared.node.Node.{Node}
 use Rattle.scop_expressions.specs.declared.node.Node.TheVariants as node
 use Rattle.scop_expressions.specs.Token.{Token}

@@ -1,17 +1,11 @@
 -- The form of an affine expression is worth at each point what the expression is there.
-use Rattle.std.proofs.Common.{◌≡◌, [], ℕ, Bool, true, false, ◌&&◌, ℤ, pos, negsuc}
-use Rattle.std.proofs.Common.{◌*ℤ◌, List, ◌++◌, length, ap, sym, subst, ◌∙◌, refl}
-use Rattle.std.proofs.Common.{inl, inr, arith, ◌≤◌, ◌^◌, unsigned_abs}
-use Rattle.std.specs.Prelude.{Some, None, if◌then◌else◌, not}
-use Rattle.std.proofs.lemmas.Int.{ints}
-use Rattle.std.proofs.lemmas.Bool.{cases_lt}
-use Rattle.std.proofs.lemmas.List.{get_or_past, set_past}
-use Rattle.whole_numbers.specs.Affine.{Affine, value_of, multiple_of_form}
-use Rattle.whole_numbers.specs.Lists.{dot, zeros, multiples}
-use Rattle.whole_numbers.proofs.Dot.{length-zeros, dot-zeros, dot-multiples, dot-sums, dot-unit}
-use Rattle.whole_numbers.proofs.Values.{value_of-sum, value_of-multiple}
-use Rattle.whole_numbers.proofs.Ring.{mul_comm_int, mul_zero_right}
-use Rattle.scop_syntax.specs.Kernel.{IsAffine}
+use Rattle.scop_syntax.proofs.Common.{◌≡◌, [], ℕ, Bool, true, false, ◌&&◌, ℤ, pos, negsuc, ◌*ℤ◌, List, ◌++◌, length, ap}
+use Rattle.scop_syntax.proofs.Common.{sym, subst, ◌∙◌, refl, inl, inr, arith, ◌≤◌, ◌^◌, unsigned_abs, Some, None}
+use Rattle.scop_syntax.proofs.Common.{if◌then◌else◌, not, ints, cases_lt, get_or_past, Affine, value_of}
+use Rattle.scop_syntax.proofs.Common.{multiple_of_form, dot, zeros, multiples, length-zeros, dot-zeros, dot-multiples}
+use Rattle.scop_syntax.proofs.Common.{dot-sums, dot-unit, value_of-sum, value_of-multiple, mul_comm_int, mul_zero_right}
+use Rattle.scop_syntax.proofs.Common.{IsAffine}
+use Rattle.std.proofs.lemmas.List.{set_past}
 use Rattle.scop_expressions.specs.Op.{Op}
 use Rattle.scop_expressions.specs.Op.TheVariants as op
 use Rattle.scop_expressions.specs.declared.token.Sign.TheVariants as sign

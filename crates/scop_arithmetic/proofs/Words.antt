@@ -1,17 +1,13 @@
 -- The value of a formula is its word.
-use Rattle.std.proofs.Common.{◌≡◌, ℕ, ◌≤◌, Bool, true, false, ◌&&◌, ℤ, List, [], ◌++◌}
-use Rattle.std.proofs.Common.{length, ap, sym, ◌∙◌, refl, arith, append-nil, map}
-use Rattle.std.specs.Prelude.{Some, None, if◌then◌else◌}
-use Rattle.whole_numbers.specs.Affine.{value_of}
+use Rattle.scop_syntax.proofs.Common.{◌≡◌, ℕ, ◌≤◌, Bool, true, false, ◌&&◌, ℤ, List, [], ◌++◌, length, ap, sym, ◌∙◌}
+use Rattle.scop_syntax.proofs.Common.{refl, arith, append-nil, map, Some, None, if◌then◌else◌, value_of, Operator, plus}
+use Rattle.scop_syntax.proofs.Common.{minus, times, bits_and, bits_or, bits_xor, Expression, affine, negated, implied}
+use Rattle.scop_syntax.proofs.Common.{converted, Cell, reads_of, wrapped, value_on}
 use Rattle.scop_expressions.specs.Op.{Op}
 use Rattle.scop_expressions.specs.Op.TheVariants as op
 use Rattle.scop_expressions.specs.declared.token.Sign.TheVariants as sign
 use Rattle.scop_expressions.specs.Suffix.TheVariants as suffix
-use Rattle.scop_syntax.specs.Tree.{Operator, plus, minus, times, bits_and, bits_or, bits_xor, Expression, affine}
-use Rattle.scop_syntax.specs.Tree.{negated, implied, converted}
 use Rattle.scop_syntax.specs.Tree as scop
-use Rattle.scop_syntax.specs.Cells.{Cell, reads_of}
-use Rattle.scop_syntax.specs.Values.{wrapped, value_on}
 use Rattle.scop_roles.specs.declared.fault.Kind.TheVariants as kind
 use Rattle.scop_roles.specs.declared.formula.Meaning.{Meaning}
 use Rattle.scop_roles.specs.declared.formula.Meaning.TheVariants as meaning

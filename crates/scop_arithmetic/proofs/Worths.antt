@@ -1,21 +1,18 @@
 -- What expressions are worth over the numbers that they read, and what operators make of these in each unsigned type.
-use Rattle.std.proofs.Common.{◌≡◌, ℕ, ◌-◌, ◌*◌, ◌/◌, ◌%◌, ◌^◌, ◌<◌, Bool, true, false, ◌&&◌, ℤ, List, ◌++◌, length}
-use Rattle.std.proofs.Common.{drop, map, ap, ap₂, sym, ◌∙◌, refl, arith, append_assoc}
-use Rattle.std.proofs.lemmas.List.{map-append, length-map}
-use Rattle.std.proofs.Math.Nat.{div-le_self, mod-mod, mod-eq_of_lt}
-use Rattle.std.proofs.Math.Seq.{drop-append_seam}
+use Rattle.scop_syntax.proofs.Common.{◌≡◌, ℕ, ◌-◌, ◌*◌, ◌/◌, ◌%◌, ◌^◌, ◌<◌, Bool, true, false, ◌&&◌, ℤ, List, ◌++◌}
+use Rattle.scop_syntax.proofs.Common.{length, drop, map, ap, ap₂, sym, ◌∙◌, refl, arith, append_assoc, map-append}
+use Rattle.scop_syntax.proofs.Common.{length-map, div-le_self, mod-mod, mod-eq_of_lt, drop-append_seam, Access}
+use Rattle.scop_syntax.proofs.Common.{Operator, Expression, negated, complemented, shifted_left, shifted_right, implied}
+use Rattle.scop_syntax.proofs.Common.{converted, Cell, cell_of, reads_of, applied, applied_narrow, value_on}
+use Rattle.scop_syntax.proofs.Common.{applied_kept}
 use Rattle.scop_expressions.specs.Width.{Width}
 use Rattle.scop_expressions.specs.Width.TheVariants as width
-use Rattle.scop_syntax.specs.Tree.{Access, Operator, Expression, negated, complemented, shifted_left, shifted_right}
-use Rattle.scop_syntax.specs.Tree.{implied, converted}
 use Rattle.scop_syntax.specs.Tree as scop
-use Rattle.scop_syntax.specs.Cells.{Cell, cell_of, reads_of}
-use Rattle.scop_syntax.specs.Values.{applied, applied_narrow, value_on}
 use Rattle.scop_roles.specs.Values.{narrowed_where, cast_to}
 use Rattle.scop_arithmetic.specs.Arithmetic.{named_class, bits, kept, joined}
 use Rattle.scop_arithmetic.proofs.Places.{cells_of}
 use Rattle.scop_arithmetic.proofs.Classes.{type_by}
-use Rattle.scop_syntax.proofs.NarrowValues.{applied_kept, negated_kept, complemented_kept, moved_kept}
+use Rattle.scop_syntax.proofs.NarrowValues.{negated_kept, complemented_kept, moved_kept}
 
 -- what the cells of these accesses hold, in order
 abbrev pub contents : (Cell → ℕ) → List ℤ → List Access → List ℕ

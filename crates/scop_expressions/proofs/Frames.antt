@@ -1,6 +1,7 @@
 -- What a state stands for: trees that wait in frames, and the tree in hand. Any such state can be completed.
 use Rattle.std.proofs.Common.{◌≡◌, ℕ, ◌+◌, ◌≤◌, List, [], ◌∷◌, ◌++◌, length, sym, ◌∙◌, append_assoc, append-nil, arith}
-use Rattle.std.specs.Prelude.{max, ⊤}
+use Rattle.std.proofs.Common.{max}
+use Rattle.std.specs.Prelude.{⊤}
 use Rattle.scop_tokens.specs.declared.Op.{Op}
 use Rattle.scop_expressions.specs.declared.token.Sign.{Sign}
 use Rattle.scop_tokens.specs.declared.Token.{Token}

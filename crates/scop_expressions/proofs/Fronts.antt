@@ -1,7 +1,6 @@
 -- What the run says of the grammar: states that stand for trees are fronts, and trees are accepted.
 use Rattle.std.proofs.Common.{◌≡◌, ℕ, ◌+◌, ◌≤◌, List, [], ◌∷◌, ◌++◌, refl, sym, ap, ◌∙◌, append_assoc, append-nil}
-use Rattle.std.proofs.Common.{arith}
-use Rattle.std.specs.Prelude.{max, Some}
+use Rattle.std.proofs.Common.{arith, max, Some}
 use Rattle.std.proofs.lemmas.Option.{same_Some}
 use Rattle.scop_tokens.specs.declared.Suffix.TheVariants as suffix
 use Rattle.scop_tokens.specs.declared.Token.{Token}

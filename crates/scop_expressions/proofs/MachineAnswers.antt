@@ -1,7 +1,6 @@
 -- The machine's answer says what it ought to of the grammar.
 use Rattle.std.proofs.Common.{◌≡◌, ℕ, ◌+◌, ◌≤◌, false, List, [], ◌∷◌, ◌++◌, length, refl, sym, ap, ◌∙◌, append_assoc}
-use Rattle.std.proofs.Common.{append-nil, length-append, arith}
-use Rattle.std.specs.Prelude.{max, Option, Some, None, Ok, Err}
+use Rattle.std.proofs.Common.{append-nil, length-append, arith, max, Option, Some, None, Ok, Err}
 use Rattle.scop_tokens.specs.declared.Token.{Token}
 use Rattle.scop_expressions.specs.declared.node.Node.{Node}
 use Rattle.scop_expressions.specs.Tree.{Tree, size, written}

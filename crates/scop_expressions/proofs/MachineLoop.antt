@@ -1,7 +1,6 @@
 -- The loop of the code is the machine's run.
 use Rattle.std.proofs.Common.{◌≡◌, ℕ, ◌+◌, ◌<◌, ◌≤◌, true, false, List, [], ◌∷◌, ◌++◌, length, take, drop, get_or}
-use Rattle.std.proofs.Common.{add-one, refl, sym, ap, ◌∙◌, length-append, arith}
-use Rattle.std.specs.Prelude.{max, Err, if◌then◌else◌}
+use Rattle.std.proofs.Common.{add-one, refl, sym, ap, ◌∙◌, length-append, arith, max, Err, if◌then◌else◌}
 use Rattle.std.proofs.Math.Seq.{drop-cons, take-suc}
 use Rattle.scop_tokens.specs.declared.Token.{Token}
 use Rattle.scop_expressions.specs.Machine.{State, Move, start, go, stops, step, fits, goes, run, deep, answer, read}

@@ -1,6 +1,5 @@
 -- What the code gives, told in terms of the grammar.
-use Rattle.std.proofs.Common.{ℕ, List}
-use Rattle.std.specs.Prelude.{Result, Ok, Err, IfOk, IfErr}
+use Rattle.std.proofs.Common.{ℕ, List, Result, Ok, Err, IfOk, IfErr}
 use Rattle.scop_tokens.specs.declared.Token.{Token}
 use Rattle.scop_expressions.specs.declared.reader.Expression.{Expression}
 use Rattle.scop_expressions.specs.declared.reader.Stop.{Stop}

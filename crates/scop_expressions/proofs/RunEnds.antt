@@ -1,7 +1,6 @@
 -- Where a run ends, and what the state there stands for.
 use Rattle.std.proofs.Common.{◌≡◌, ℕ, ◌≤◌, ◌&&◌, Bool, true, false, List, [], ◌∷◌, ◌++◌, refl, ap, ◌∙◌, append_assoc}
-use Rattle.std.proofs.Common.{append-nil, arith}
-use Rattle.std.specs.Prelude.{max, nat_le}
+use Rattle.std.proofs.Common.{append-nil, arith, max, nat_le}
 use Rattle.std.proofs.lemmas.Bool.Decides.{nat_tests}
 use Rattle.scop_tokens.specs.declared.Token.{Token}
 use Rattle.scop_expressions.specs.Machine.{State, Move, go, stops, step, fits, goes, run, Outcome, alive, stopped}

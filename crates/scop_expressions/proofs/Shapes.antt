@@ -1,7 +1,7 @@
 -- The states that a run reaches, each as the trees that it stands for, and that a step keeps them so.
 use Rattle.std.proofs.Common.{◌≡◌, ℕ, ◌+◌, ◌-◌, ◌≤◌, Bool, true, false, List, [], ◌∷◌, ◌++◌, length, refl, sym, ap}
-use Rattle.std.proofs.Common.{append_assoc, length-append, arith}
-use Rattle.std.specs.Prelude.{max, ⊤, nat_le}
+use Rattle.std.proofs.Common.{append_assoc, length-append, arith, max, nat_le}
+use Rattle.std.specs.Prelude.{⊤}
 use Rattle.std.proofs.lemmas.Bool.Decides.{nat_tests}
 use Rattle.scop_tokens.specs.declared.Op.{Op}
 use Rattle.scop_tokens.specs.declared.Op.TheVariants as op

@@ -1,7 +1,6 @@
 -- The elements of each tree within the limits lead to the end.
 use Rattle.std.proofs.Common.{◌≡◌, ℕ, zero, suc, ◌+◌, ◌-◌, true, false, List, [], ◌∷◌, ◌++◌, refl, append_assoc, arith}
-use Rattle.std.proofs.Common.{rules}
-use Rattle.std.specs.Prelude.{nat_eq}
+use Rattle.std.proofs.Common.{rules, nat_eq}
 use Rattle.scop_expressions.specs.Assign.TheVariants as set
 use Rattle.scop_expressions.specs.Token.TheVariants as token
 use Rattle.scop_expressions.specs.Tree.{Tree, name, index, IsPlace, operators}

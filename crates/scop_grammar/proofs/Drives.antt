@@ -1,7 +1,6 @@
 -- Elements that lead to the end drive the machine over their tokens.
 use Rattle.std.proofs.Common.{◌≡◌, ℕ, ◌+◌, Bool, true, false, List, [], ◌∷◌, ◌++◌, length, refl, sym, ap, ◌∙◌}
-use Rattle.std.proofs.Common.{append_assoc, append-nil, arith}
-use Rattle.std.specs.Prelude.{Option, Some, None}
+use Rattle.std.proofs.Common.{append_assoc, append-nil, arith, Option, Some, None}
 use Rattle.scop_expressions.specs.Outside.TheVariants as outside
 use Rattle.scop_expressions.specs.Token.{Token}
 use Rattle.scop_expressions.specs.Token.TheVariants as token

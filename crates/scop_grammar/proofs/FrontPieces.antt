@@ -1,7 +1,6 @@
 -- Pieces in front of a spot's own stay in front, as where they are taken out while the machine goes on.
 use Rattle.std.proofs.Common.{◌≡◌, ℕ, ◌+◌, Bool, true, false, if◌then◌else◌, List, [], ◌∷◌, ◌++◌, refl, sym, ap, ◌∙◌}
-use Rattle.std.proofs.Common.{append_assoc, append-nil}
-use Rattle.std.specs.Prelude.{Option, Some, None, Result, Ok, Err}
+use Rattle.std.proofs.Common.{append_assoc, append-nil, Option, Some, None, Result, Ok, Err}
 use Rattle.scop_expressions.specs.declared.node.Node.{Node}
 use Rattle.scop_expressions.specs.declared.reader.Stop.{Stop}
 use Rattle.scop_expressions.specs.declared.reader.Stop.TheVariants as fault

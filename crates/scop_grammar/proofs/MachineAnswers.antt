@@ -1,7 +1,6 @@
 -- The machine's answer says what it ought to of the grammar.
 use Rattle.std.proofs.Common.{◌≡◌, ℕ, ◌≤◌, subst, List, [], ◌∷◌, ◌++◌, refl, sym, ap, ◌∙◌, append_assoc, append-nil}
-use Rattle.std.proofs.Common.{arith}
-use Rattle.std.specs.Prelude.{Ok, Err}
+use Rattle.std.proofs.Common.{arith, Ok, Err}
 use Rattle.scop_expressions.specs.Token.{Token}
 use Rattle.scop_expressions.specs.Grammar.{told_at}
 use Rattle.scop_grammar.specs.declared.table.Want.{Want}

@@ -1,7 +1,6 @@
 -- The loop of the code is the machine's run.
 use Rattle.std.proofs.Common.{◌≡◌, ℕ, ◌+◌, ◌<◌, ◌≤◌, List, [], ◌∷◌, ◌++◌, length, take, drop, get_or, add-one, refl}
-use Rattle.std.proofs.Common.{sym, ap, ◌∙◌, subst, length-append, arith}
-use Rattle.std.specs.Prelude.{Result, Ok, Err, IfOk, IfErr}
+use Rattle.std.proofs.Common.{sym, ap, ◌∙◌, subst, length-append, arith, Result, Ok, Err, IfOk, IfErr}
 use Rattle.std.proofs.Math.Seq.{drop-cons, take-suc}
 use Rattle.scop_expressions.specs.Token.{Token}
 use Rattle.scop_expressions.specs.declared.reader.Stop.{Stop}

@@ -1,7 +1,7 @@
 -- Elements that lead to the end are those of a tree, read off from the left.
 use Rattle.std.proofs.Common.{◌≡◌, ℕ, zero, suc, ◌+◌, ◌-◌, ◌≤◌, Bool, true, false, List, [], ◌∷◌, ◌++◌, length, refl}
-use Rattle.std.proofs.Common.{ap, ◌∙◌, append_assoc, arith, rules}
-use Rattle.std.specs.Prelude.{⊤, nat_eq, if◌then◌else◌}
+use Rattle.std.proofs.Common.{ap, ◌∙◌, append_assoc, arith, rules, nat_eq, if◌then◌else◌}
+use Rattle.std.specs.Prelude.{⊤}
 use Rattle.scop_expressions.specs.Assign.{Assign}
 use Rattle.scop_expressions.specs.Assign.TheVariants as set
 use Rattle.scop_expressions.specs.Count.{Count}

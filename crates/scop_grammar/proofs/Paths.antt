@@ -1,6 +1,6 @@
 -- Lists of elements that lead through the table to its end.
-use Rattle.std.proofs.Common.{◌≡◌, ℕ, ◌+◌, List, [], ◌∷◌, refl}
-use Rattle.std.specs.Prelude.{⊤, Option, Some, None}
+use Rattle.std.proofs.Common.{◌≡◌, ℕ, ◌+◌, List, [], ◌∷◌, refl, Option, Some, None}
+use Rattle.std.specs.Prelude.{⊤}
 use Rattle.scop_expressions.specs.Tree.{operators}
 use Rattle.scop_grammar.specs.declared.table.Role.{Role}
 use Rattle.scop_grammar.specs.declared.table.Want.{Want}

@@ -1,7 +1,7 @@
 -- What a spot stands for: elements that lead to its want, and the tokens of an expression in hand. A turn keeps it.
 use Rattle.std.proofs.Common.{◌≡◌, ℕ, ◌+◌, ◌≤◌, Bool, true, false, List, [], ◌∷◌, ◌++◌, length, refl, sym, ◌∙◌}
-use Rattle.std.proofs.Common.{append_assoc, append-nil, length-append, arith}
-use Rattle.std.specs.Prelude.{⊤, max, Option, Some, None}
+use Rattle.std.proofs.Common.{append_assoc, append-nil, length-append, arith, max, Option, Some, None}
+use Rattle.std.specs.Prelude.{⊤}
 use Rattle.scop_expressions.specs.Outside.TheVariants as outside
 use Rattle.scop_expressions.specs.Token.{Token}
 use Rattle.scop_expressions.specs.Token.TheVariants as token

@@ -1,6 +1,5 @@
 -- From each want some elements lead to the end.
-use Rattle.std.proofs.Common.{◌≡◌, ℕ, zero, suc, ◌+◌, ◌-◌, false, List, [], ◌∷◌, refl, arith, rules}
-use Rattle.std.specs.Prelude.{nat_eq, Some}
+use Rattle.std.proofs.Common.{◌≡◌, ℕ, zero, suc, ◌+◌, ◌-◌, false, List, [], ◌∷◌, refl, arith, rules, nat_eq, Some}
 use Rattle.scop_expressions.specs.Assign.TheVariants as set
 use Rattle.scop_expressions.specs.Count.TheVariants as count
 use Rattle.scop_expressions.specs.Outside.TheVariants as outside

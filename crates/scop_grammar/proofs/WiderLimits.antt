@@ -1,6 +1,7 @@
 -- A text that stops at a token within limits stops there within wider ones too: the token is misplaced.
-use Rattle.std.proofs.Common.{◌≡◌, ℕ, ◌+◌, ◌≤◌, Bool, true, false, List, [], ◌∷◌, refl, ap, subst, arith}
-use Rattle.std.specs.Prelude.{if◌then◌else◌, Err, ⊤}
+use Rattle.std.proofs.Common.{◌≡◌, ℕ, ◌+◌, ◌≤◌, Bool, true, false, List, [], ◌∷◌, refl, ap, subst, arith, if◌then◌else◌}
+use Rattle.std.proofs.Common.{Err}
+use Rattle.std.specs.Prelude.{⊤}
 use Rattle.scop_expressions.specs.Token.{Token}
 use Rattle.scop_expressions.specs.Machine.{Move, go, stops, step, fits, unfit}
 use Rattle.scop_expressions.proofs.RunEnds.{fits_wider}

@@ -1,7 +1,6 @@
 -- What stands in the last line of a text, one byte further; a line that begins with `#`.
-use Rattle.std.proofs.Common.{◌≡◌, ◌∙◌, sym, ap, refl, ℕ, ◌+◌, ◌-◌, ◌<◌, ◌≤◌, Bool, true, ◌&&◌, ◌||◌, [], ◌∷◌}
-use Rattle.std.proofs.Common.{◌++◌, length, take, get_or, arith}
-use Rattle.std.specs.Prelude.{◌==◌}
+use Rattle.std.proofs.Common.{◌≡◌, ◌∙◌, sym, ap, refl, ℕ, ◌+◌, ◌-◌, ◌<◌, ◌≤◌, Bool, true, ◌&&◌, ◌||◌, [], ◌∷◌, ◌++◌}
+use Rattle.std.proofs.Common.{length, take, get_or, arith, ◌==◌}
 use Rattle.std.specs.List.{prefix_len}
 use Rattle.std.proofs.lemmas.List.{take_more}
 use Rattle.scop_lexer.specs.Bytes.{Text, is_blank, is_in_line, is_fresh, is_fresh_behind}

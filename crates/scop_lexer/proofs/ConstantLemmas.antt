@@ -1,6 +1,6 @@
 -- A number grows with each digit.
-use Rattle.std.proofs.Common.{◌≡◌, refl, ℕ, ◌+◌, ◌*◌, ◌^◌, ◌<◌, ◌≤◌, [], ◌∷◌, length, drop, get_or, add-one}
-use Rattle.std.proofs.Common.{drop-cons, mul_comm, le-mul_of_pos_right, arith}
+use Rattle.std.proofs.Common.{◌≡◌, refl, ℕ, ◌+◌, ◌*◌, ◌^◌, ◌<◌, ◌≤◌, [], ◌∷◌, length, drop, get_or, add-one, drop-cons}
+use Rattle.std.proofs.Common.{mul_comm, le-mul_of_pos_right, arith}
 use Rattle.scop_lexer.specs.Bytes.{Text}
 use Rattle.scop_lexer.specs.Constants.{number_behind, digit_value}
 

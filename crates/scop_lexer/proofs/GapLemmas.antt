@@ -1,8 +1,7 @@
 -- Where a comment ends, and whether the comments of a line do: one byte further.
-use Rattle.std.proofs.Common.{◌≡◌, ◌∙◌, ap, refl, ℕ, suc, ◌+◌, ◌<◌, ◌≤◌, Bool, true, false, not, if◌then◌else◌}
-use Rattle.std.proofs.Common.{[], ◌∷◌, length, drop, get_or, add-one, drop-cons, drop-drop, get_or-drop, arith}
-use Rattle.std.proofs.Common.{length-drop}
-use Rattle.std.specs.Prelude.{Option, Some, None, option_map}
+use Rattle.std.proofs.Common.{◌≡◌, ◌∙◌, ap, refl, ℕ, suc, ◌+◌, ◌<◌, ◌≤◌, Bool, true, false, not, if◌then◌else◌, [], ◌∷◌}
+use Rattle.std.proofs.Common.{length, drop, get_or, add-one, drop-cons, drop-drop, get_or-drop, arith, length-drop}
+use Rattle.std.proofs.Common.{Option, Some, None, option_map}
 use Rattle.scop_lexer.specs.Bytes.{Text}
 use Rattle.scop_lexer.specs.Gaps.{close, are_closed, turns}
 

@@ -1,7 +1,7 @@
 -- What stands as a name is a name by itself: no constant, no sign and no gap is told as one.
 use Rattle.std.proofs.Common.{◌≡◌, ◌∙◌, sym, ap, subst, refl, ℕ, ◌==◌, Bool, true, false, ◌&&◌, ◌||◌, if◌then◌else◌}
-use Rattle.std.proofs.Common.{List, [], ◌∷◌, length, take, drop, get_or, nat_le}
-use Rattle.std.specs.Prelude.{Option, Some, None, cond, ⊤}
+use Rattle.std.proofs.Common.{List, [], ◌∷◌, length, take, drop, get_or, nat_le, Option, Some, None, cond}
+use Rattle.std.specs.Prelude.{⊤}
 use Rattle.std.specs.List.{list_all, prefix_len, take_while}
 use Rattle.std.proofs.lemmas.Bool.{and_parts}
 use Rattle.std.proofs.lemmas.List.{length-take-le}

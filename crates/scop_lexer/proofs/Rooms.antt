@@ -1,7 +1,8 @@
 -- What stands in front of a text has bytes, and no more than the text.
 use Rattle.std.proofs.Common.{◌≡◌, subst, refl, ℕ, zero, suc, ◌+◌, ◌-◌, ◌<◌, ◌≤◌, Bool, true, false, ◌&&◌}
-use Rattle.std.proofs.Common.{if◌then◌else◌, [], ◌∷◌, length, take, drop, get_or, inl, inr, arith, length-drop}
-use Rattle.std.specs.Prelude.{Option, Some, None, option_map, nat_le, ◌==◌, ⊤}
+use Rattle.std.proofs.Common.{if◌then◌else◌, [], ◌∷◌, length, take, drop, get_or, inl, inr, arith, length-drop, Option}
+use Rattle.std.proofs.Common.{Some, None, option_map, nat_le, ◌==◌}
+use Rattle.std.specs.Prelude.{⊤}
 use Rattle.std.specs.List.{prefix_len}
 use Rattle.std.proofs.lemmas.Bool.{cases_Bool}
 use Rattle.std.proofs.lemmas.Bool.Decides.{nat_tests}

@@ -1,7 +1,7 @@
 -- A text splits into gaps and tokens in one way only (`tokens-agree`), up to its end or its first fault, found by fuel
 -- (`outcome`).
-use Rattle.std.proofs.Common.{◌≡◌, ◌∙◌, sym, ap, subst, refl, ℕ, zero, suc, ◌+◌, ◌-◌, ◌<◌, ◌≤◌, ◌⊎◌, List, []}
-use Rattle.std.proofs.Common.{◌∷◌, ◌++◌, length, take, inl, inr, arith}
+use Rattle.std.proofs.Common.{◌≡◌, ◌∙◌, sym, ap, subst, refl, ℕ, zero, suc, ◌+◌, ◌-◌, ◌<◌, ◌≤◌, ◌⊎◌, List, [], ◌∷◌}
+use Rattle.std.proofs.Common.{◌++◌, length, take, inl, inr, arith}
 use Rattle.std.proofs.lemmas.List.{drop_all, map-append}
 use Rattle.scop_lexer.specs.Bytes.{Text, is_fresh}
 use Rattle.scop_lexer.specs.Stands.{stands, stands_at, HasRoom}

@@ -1,18 +1,14 @@
 -- The value of an expression of two parts, whose reads stand one behind the other in a list.
-use Rattle.std.proofs.Common.{◌≡◌, ℕ, ◌+◌, List, length, drop, ap, ap₂, sym, ◌∙◌, arith, length-append}
-use Rattle.std.specs.Prelude.{ℤ}
-use Rattle.std.specs.Global.{Box}
-use Rattle.std.proofs.lemmas.List.{drop-drop}
-use Rattle.scop_syntax.specs.Tree.{Access, Expression, Operator, binary, constant, read}
-use Rattle.scop_syntax.specs.Cells.{reads_of}
-use Rattle.scop_syntax.specs.Values.{applied, value_on}
-use Rattle.scop_syntax.specs.View.{expression_of, expression_step, operator_of}
+use Rattle.scop_syntax.proofs.Common.{◌≡◌, ℕ, ◌+◌, List, length, drop, ap, ap₂, sym, ◌∙◌, arith, length-append, ℤ, Box}
+use Rattle.scop_syntax.proofs.Common.{drop-drop, Access, Expression, Operator, binary, read, reads_of, applied}
+use Rattle.scop_syntax.proofs.Common.{value_on, expression_of, operator_of, expression_binary}
+use Rattle.scop_syntax.specs.Tree.{constant}
+use Rattle.scop_syntax.specs.View.{expression_step}
 use Rattle.scop_syntax.specs.declared.tree.Expr.{Expr}
 use Rattle.scop_syntax.specs.declared.tree.Operator.{Operator as Code}
 use Rattle.scop_syntax.specs.declared.tree.Expr.TheVariants.{Binary, Constant, Read, rolls-Constant, rolls-Read}
 use Rattle.scop_syntax.specs.declared.tree.Expr.TheFolds.{fold-roll-Expr}
 use Rattle.scop_syntax.specs.declared.tree.Expr.TheOpen.{Expr-F}
-use Rattle.scop_syntax.proofs.Views.{expression_binary}
 
 -- the code's node, its parts read through references
 pub chained : (whole : Expr) (op : Code) (left right : Box Expr) (l r : Expr) → whole ≡ Binary op left right

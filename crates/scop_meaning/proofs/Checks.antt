@@ -1,20 +1,14 @@
 -- What stays true along the items of a row and along the turns of a loop, as they are checked.
-use Rattle.std.proofs.Common.{◌≡◌, ℕ, suc, ◌+◌, ◌-◌, ◌<◌, Bool, true, false, List, [], ◌∷◌, ◌++◌, length, drop, map}
-use Rattle.std.proofs.Common.{get_or, Option, Some, None, ap, ap₂, subst, sym, ◌∙◌, refl, arith, append_assoc, add-one}
-use Rattle.std.proofs.Common.{drop-cons}
-use Rattle.std.specs.Prelude.{ℤ, pos, slice_get, if◌then◌else◌}
-use Rattle.std.specs.List.{flat_map, range_with_len}
+use Rattle.scop_syntax.proofs.Common.{◌≡◌, ℕ, suc, ◌+◌, ◌-◌, ◌<◌, Bool, true, false, List, [], ◌∷◌, ◌++◌, length, drop}
+use Rattle.scop_syntax.proofs.Common.{map, get_or, Option, Some, None, ap, ap₂, subst, sym, ◌∙◌, refl, arith}
+use Rattle.scop_syntax.proofs.Common.{append_assoc, add-one, drop-cons, ℤ, pos, slice_get, if◌then◌else◌, flat_map}
+use Rattle.scop_syntax.proofs.Common.{range_with_len, map-append, Access, Head, Tree, loop, Trees, none, more, items_of}
+use Rattle.scop_syntax.proofs.Common.{condition_at, turn_point, RunsFor, Visit, statements_in, accesses, values}
+use Rattle.scop_syntax.proofs.Common.{Failure, IsHead, condition_falls, loop_turns}
 use Rattle.std.proofs.lemmas.Grind.{flat_map-append}
-use Rattle.std.proofs.lemmas.List.{map-append}
-use Rattle.scop_syntax.specs.Tree.{Access, Head, Tree, loop, Trees, none, more}
 use Rattle.scop_syntax.specs.declared.tree.Item.{Item}
-use Rattle.scop_syntax.specs.View.{items_of}
-use Rattle.scop_syntax.specs.Walk.{condition_at, turn_point, RunsFor, Visit, within, walk, walk_all, statements_in}
-use Rattle.scop_syntax.specs.Cells.{accesses, values}
-use Rattle.scop_syntax.specs.Failures.{Failure, is_within, outside_dimensions, outside_accesses, failures}
-use Rattle.scop_syntax.specs.Kernel.{IsHead}
-use Rattle.scop_syntax.proofs.Falls.{condition_falls}
-use Rattle.scop_syntax.proofs.Loops.{loop_turns}
+use Rattle.scop_syntax.specs.Walk.{within, walk, walk_all}
+use Rattle.scop_syntax.specs.Failures.{is_within, outside_dimensions, outside_accesses, failures}
 use Rattle.scop_meaning.specs.declared.index.Outside.{Outside}
 use Rattle.scop_meaning.specs.Conditions.{CanCheck}
 use Rattle.scop_meaning.specs.Outside.{outside_of, first_of, FindsFirst}

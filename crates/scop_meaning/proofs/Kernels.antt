@@ -22,20 +22,12 @@ use Rattle.std.proofs.Common.{
   refl,
   arith,
 }
-use Rattle.std.specs.Prelude.{ℤ, All}
-use Rattle.std.proofs.lemmas.List.{length-map}
-use Rattle.whole_numbers.specs.Affine.{value_of}
+use Rattle.scop_syntax.proofs.Common.{ℤ, All, length-map, value_of, Declaration, Program, In, walk_of, Act, act_of}
+use Rattle.scop_syntax.proofs.Common.{acts_all, accesses, values, IsInside, IsShaped, cell_count, exec, layout, size_of}
+use Rattle.scop_syntax.proofs.Common.{AreTrees, ranks_of, WithinLimits, in_map_from}
 use Rattle.std.proofs.lemmas.List.Folds.{fold-map}
-use Rattle.scop_syntax.specs.Tree.{Declaration, Program}
-use Rattle.scop_syntax.specs.Members.{In}
-use Rattle.scop_syntax.specs.Walk.{walk_of}
-use Rattle.scop_syntax.specs.Acts.{Act, act_of, acts_all}
-use Rattle.scop_syntax.specs.Cells.{accesses, values}
-use Rattle.scop_syntax.specs.Execution.{IsInside, IsShaped, cell_count, exec, layout, performed_by, size_of}
+use Rattle.scop_syntax.specs.Execution.{performed_by}
 use Rattle.scop_syntax.specs.Fits.{FitsAll}
-use Rattle.scop_syntax.specs.Kernel.{AreTrees, ranks_of}
-use Rattle.scop_syntax.specs.Limits.{WithinLimits}
-use Rattle.scop_syntax.proofs.Members.{in_map_from}
 use Rattle.scop_syntax.proofs.Acts.{whole_walk_acts}
 use Rattle.scop_meaning.specs.Conditions.{ActsAreInside, AreCells, CanCheck, CanRun, CanWalk, ran}
 

@@ -1,8 +1,7 @@
 -- The code's nodes of one part, which is read through a reference.
-use Rattle.std.proofs.Common.{◌≡◌, ℕ, ap, sym, ◌∙◌}
-use Rattle.std.specs.Global.{Box}
-use Rattle.scop_syntax.specs.Tree.{Expression, negated, complemented, cast, shifted_left, shifted_right, narrowed}
-use Rattle.scop_syntax.specs.View.{expression_of, expression_step, narrowing_of}
+use Rattle.scop_syntax.proofs.Common.{◌≡◌, ℕ, ap, sym, ◌∙◌, Box, Expression, negated, complemented, cast, shifted_left}
+use Rattle.scop_syntax.proofs.Common.{shifted_right, narrowed, expression_of}
+use Rattle.scop_syntax.specs.View.{expression_step, narrowing_of}
 use Rattle.scop_syntax.specs.declared.tree.Narrowing.{Narrowing}
 use Rattle.scop_syntax.specs.declared.tree.Expr.{Expr}
 use Rattle.scop_syntax.specs.declared.tree.Expr.TheVariants.{Negated, Complemented, Cast, ShiftedLeft, ShiftedRight}

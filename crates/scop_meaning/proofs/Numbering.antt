@@ -1,11 +1,8 @@
 -- How many values are read; the numbers of accesses, and of cells among those of all arrays.
-use Rattle.std.proofs.Common.{◌≡◌, ℕ, zero, suc, ◌+◌, ◌-◌, ◌<◌, ◌≤◌, List, [], ◌∷◌, ◌++◌, length, take, get_or, ap, ◌∙◌}
-use Rattle.std.proofs.Common.{arith, refl}
-use Rattle.std.specs.Prelude.{slice_get}
-use Rattle.scop_syntax.specs.Tree.{Access, Right, assigned, combined, moved_left, moved_right, combined_narrow}
-use Rattle.scop_syntax.specs.Tree.{moved_left_narrow}
-use Rattle.scop_syntax.specs.Cells.{reads_with}
-use Rattle.scop_syntax.specs.Execution.{cell_count, total_cells}
+use Rattle.scop_syntax.proofs.Common.{◌≡◌, ℕ, zero, suc, ◌+◌, ◌-◌, ◌<◌, ◌≤◌, List, [], ◌∷◌, ◌++◌, length, take, get_or}
+use Rattle.scop_syntax.proofs.Common.{ap, ◌∙◌, arith, refl, slice_get, Access, Right, assigned, combined, moved_left}
+use Rattle.scop_syntax.proofs.Common.{moved_right, combined_narrow, moved_left_narrow, reads_with, cell_count}
+use Rattle.scop_syntax.proofs.Common.{total_cells}
 use Rattle.scop_meaning.specs.Instances.{AreExtents, AreLayout, values_wanted}
 
 -- a statement reads as many values as its right side wants

@@ -1,13 +1,9 @@
 -- The row-major offset of a cell, one dimension after another.
-use Rattle.std.proofs.Common.{◌≡◌, ℕ, zero, suc, ◌+◌, ◌*◌, ◌<◌, ◌≤◌, List, [], ◌∷◌, length, drop, get_or, ap, subst}
-use Rattle.std.proofs.Common.{sym, ◌∙◌, arith, drop-cons, refl, mul-le-mul, mul-le-mul_right, mul_assoc, add-mul}
-use Rattle.std.proofs.Common.{one-mul, mul-one, mul-le-mul_left, add-one, drop_of_length-le}
-use Rattle.std.specs.Prelude.{ℤ, pos, ◌<ℤ◌, ◌≤ℤ◌}
-use Rattle.std.proofs.lemmas.Int.{ints}
-use Rattle.std.proofs.lemmas.List.{get_or-map}
-use Rattle.whole_numbers.specs.Affine.{Affine, value_of}
-use Rattle.scop_syntax.specs.Cells.{values}
-use Rattle.scop_syntax.specs.Execution.{size_of, AreWithin, offset_from, cell_count}
+use Rattle.scop_syntax.proofs.Common.{◌≡◌, ℕ, zero, suc, ◌+◌, ◌*◌, ◌<◌, ◌≤◌, List, [], ◌∷◌, length, drop, get_or, ap}
+use Rattle.scop_syntax.proofs.Common.{subst, sym, ◌∙◌, arith, drop-cons, refl, mul-le-mul, mul-le-mul_right, mul_assoc}
+use Rattle.scop_syntax.proofs.Common.{add-mul, one-mul, mul-one, mul-le-mul_left, add-one, drop_of_length-le, ℤ, pos}
+use Rattle.scop_syntax.proofs.Common.{◌<ℤ◌, ◌≤ℤ◌, ints, get_or-map, Affine, value_of, values, size_of, AreWithin}
+use Rattle.scop_syntax.proofs.Common.{offset_from, cell_count}
 use Rattle.scop_syntax.proofs.Memory.{size_below}
 
 -- dimension i of a cell within its array, and the dimensions behind it

@@ -1,7 +1,5 @@
 -- What an answer without a failure tells.
-use Rattle.std.proofs.Common.{◌≡◌, Option, Some, None, refl}
-use Rattle.std.specs.Option.{option_map}
-use Rattle.scop_syntax.specs.Failures.{Failure}
+use Rattle.scop_syntax.proofs.Common.{◌≡◌, Option, Some, None, refl, option_map, Failure}
 use Rattle.scop_meaning.specs.Outside.{outside_of}
 
 -- no failure is found where none is told

@@ -1,22 +1,13 @@
 -- What stays true along the items of a row and along the turns of a loop, as they run.
-use Rattle.std.proofs.Common.{◌≡◌, ℕ, suc, ◌+◌, ◌-◌, ◌<◌, List, [], ◌++◌, length, drop, ap, subst, sym}
-use Rattle.std.proofs.Common.{◌∙◌, refl}
-use Rattle.std.proofs.Common.{arith, append-nil}
-use Rattle.std.specs.Prelude.{ℤ, pos}
-use Rattle.std.specs.List.{flat_map, range_with_len}
+use Rattle.scop_syntax.proofs.Common.{◌≡◌, ℕ, suc, ◌+◌, ◌-◌, ◌<◌, List, [], ◌++◌, length, drop, ap, subst, sym, ◌∙◌}
+use Rattle.scop_syntax.proofs.Common.{refl, arith, append-nil, ℤ, pos, flat_map, range_with_len, Statement, Head, Tree}
+use Rattle.scop_syntax.proofs.Common.{loop, statement, Trees, none, more, items_of, condition_at, turn_point, RunsFor}
+use Rattle.scop_syntax.proofs.Common.{Act, acts_all, accesses, IsHead, in_front, in_back, condition_falls, loop_turns}
+use Rattle.scop_syntax.proofs.Common.{inl}
 use Rattle.std.proofs.lemmas.List.Sums.{fold-append}
-use Rattle.scop_syntax.specs.Tree.{Statement, Head, Tree, loop, statement, Trees, none, more}
 use Rattle.scop_syntax.specs.declared.tree.Item.{Item}
-use Rattle.scop_syntax.specs.View.{items_of}
-use Rattle.scop_syntax.specs.Walk.{condition_at, turn_point, RunsFor}
-use Rattle.scop_syntax.specs.Acts.{Act, acts, acts_all}
-use Rattle.scop_syntax.specs.Cells.{accesses}
+use Rattle.scop_syntax.specs.Acts.{acts}
 use Rattle.scop_syntax.specs.Execution.{performed_by}
-use Rattle.scop_syntax.specs.Kernel.{IsHead}
-use Rattle.scop_syntax.proofs.Members.{in_front, in_back}
-use Rattle.scop_syntax.proofs.Falls.{condition_falls}
-use Rattle.scop_syntax.proofs.Loops.{loop_turns}
-use Rattle.std.proofs.Common.{inl}
 use Rattle.scop_meaning.specs.Conditions.{ActsAreInside, AreCells, CanRun, IsReady, ran}
 use Rattle.scop_meaning.proofs.WalkSteps.{walk_first, walk_rest, walk_turn}
 

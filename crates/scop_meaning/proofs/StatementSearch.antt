@@ -31,17 +31,12 @@ use Rattle.std.proofs.Common.{
   arith,
   length-append,
 }
-use Rattle.std.specs.Prelude.{ℤ, pos, negsuc, ◌+ℤ◌, ◌*ℤ◌, FitsSigned, unsigned_abs, nat_lt, if◌then◌else◌}
-use Rattle.std.specs.Int.{w64}
-use Rattle.std.proofs.lemmas.Bool.Decides.{nat_tests}
-use Rattle.std.proofs.lemmas.Int.{ints}
-use Rattle.std.proofs.lemmas.List.{append_assoc, append-nil, take_all}
-use Rattle.whole_numbers.specs.Affine.{value_of}
-use Rattle.scop_syntax.specs.Tree.{Head, Tree, loop, guard, statement, Trees, none, more, Program}
-use Rattle.scop_syntax.specs.Acts.{Act, act_of}
-use Rattle.scop_syntax.specs.Kernel.{AreAtMost, IsPlaced, ranks_of}
-use Rattle.scop_syntax.specs.Limits.{WithinLimits}
-use Rattle.scop_syntax.specs.Members.{In}
+use Rattle.scop_syntax.proofs.Common.{ℤ, pos, negsuc, ◌+ℤ◌, ◌*ℤ◌, FitsSigned, unsigned_abs, nat_lt, if◌then◌else◌, w64}
+use Rattle.scop_syntax.proofs.Common.{nat_tests, ints, take_all, value_of, Head, Tree, loop, guard, statement, Trees}
+use Rattle.scop_syntax.proofs.Common.{none, more, Program, Act, act_of, AreAtMost, IsPlaced, ranks_of, WithinLimits, In}
+use Rattle.scop_syntax.proofs.Common.{turn_point, statements_in, statements_in_all, Visit, Instance, instance}
+use Rattle.scop_syntax.proofs.Common.{in_append, in_map_from}
+use Rattle.std.proofs.lemmas.List.{append_assoc, append-nil}
 use Rattle.scop_syntax.specs.Statements.{
   Scope,
   round,
@@ -57,8 +52,6 @@ use Rattle.scop_syntax.specs.Statements.{
   Runs,
   visit_of,
 }
-use Rattle.scop_syntax.specs.Walk.{turn_point, statements_in, statements_in_all, Visit, Instance, instance}
-use Rattle.scop_syntax.proofs.Members.{in_append, in_map_from}
 use Rattle.scop_meaning.specs.Instances.{act_at, act_at_all, CanFind}
 
 -- a choice of two

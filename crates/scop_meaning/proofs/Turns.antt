@@ -1,15 +1,9 @@
 -- A condition that falls by the stride a turn, and how many turns that makes.
-use Rattle.std.proofs.Common.{◌≡◌, ℕ, ◌+◌, ◌*◌, ◌/◌, ◌<◌, ◌≤◌, inl, inr, ◌⊎◌, ap, sym, arith, mul-le-mul_left}
-use Rattle.std.specs.Prelude.{ℤ, pos, negsuc, ◌+ℤ◌, ◌-ℤ◌, ◌*ℤ◌, ◌≤ℤ◌, List, length, unsigned_abs, FitsSigned}
-use Rattle.std.specs.Int.{w64}
-use Rattle.std.proofs.lemmas.Int.{ints}
+use Rattle.scop_syntax.proofs.Common.{◌≡◌, ℕ, ◌+◌, ◌*◌, ◌/◌, ◌<◌, ◌≤◌, inl, inr, ◌⊎◌, ap, sym, arith, mul-le-mul_left}
+use Rattle.scop_syntax.proofs.Common.{ℤ, pos, negsuc, ◌+ℤ◌, ◌-ℤ◌, ◌*ℤ◌, ◌≤ℤ◌, List, length, unsigned_abs, FitsSigned}
+use Rattle.scop_syntax.proofs.Common.{w64, ints, value_of, mul_neg_left, mul_one_left, mul_zero_right, Head, IsHead}
+use Rattle.scop_syntax.proofs.Common.{own, RunsFor, condition_at, dot_last}
 use Rattle.std.proofs.Math.Nat.{lt-mul-div-succ, div-mul-le_self}
-use Rattle.whole_numbers.specs.Affine.{value_of}
-use Rattle.whole_numbers.proofs.Ring.{mul_neg_left, mul_one_left, mul_zero_right}
-use Rattle.scop_syntax.specs.Tree.{Head}
-use Rattle.scop_syntax.specs.Kernel.{IsHead, own}
-use Rattle.scop_syntax.specs.Walk.{RunsFor, condition_at}
-use Rattle.scop_syntax.proofs.Falls.{dot_last}
 
 -- the stride goes against the iterator's sign in the condition
 goes_down : (c s : ℤ) (k : ℕ) → ((c ≡ negsuc 0) × (pos 1 ≤ℤ s)) ⊎ ((c ≡ pos 1) × (s ≤ℤ negsuc 0))

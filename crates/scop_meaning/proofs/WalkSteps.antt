@@ -1,10 +1,7 @@
 -- Going over the items of a tree and over the turns of a loop.
-use Rattle.std.proofs.Common.{◌≡◌, ℕ, ◌-◌, ◌<◌, ◌≤◌, ◌^◌, List, [], ◌∷◌, length, subst, sym, arith, length-append}
-use Rattle.std.specs.Prelude.{ℤ, pos, ◌+ℤ◌, ◌*ℤ◌}
-use Rattle.whole_numbers.specs.Affine.{value_of}
-use Rattle.scop_syntax.specs.Tree.{Head, Tree, loop, Trees, none, more}
-use Rattle.scop_syntax.specs.Walk.{condition_at, turn_point, RunsFor}
-use Rattle.scop_syntax.specs.Kernel.{IsHead, AreTrees}
+use Rattle.scop_syntax.proofs.Common.{◌≡◌, ℕ, ◌-◌, ◌<◌, ◌≤◌, ◌^◌, List, [], ◌∷◌, length, subst, sym, arith}
+use Rattle.scop_syntax.proofs.Common.{length-append, ℤ, pos, ◌+ℤ◌, ◌*ℤ◌, value_of, Head, Tree, loop, Trees, none, more}
+use Rattle.scop_syntax.proofs.Common.{condition_at, turn_point, RunsFor, IsHead, AreTrees}
 use Rattle.scop_syntax.specs.Fits.{TurnFits}
 use Rattle.scop_meaning.specs.Conditions.{CanWalk, CanTurn}
 

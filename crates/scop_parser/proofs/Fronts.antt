@@ -1,5 +1,5 @@
 -- The first token with which no text goes on is one.
-use Rattle.std.proofs.Common.{◌≡◌, ℕ, ◌≤◌, List, [], ◌∷◌, ◌++◌, length, refl, sym, subst, append_assoc, arith}
+use Rattle.scop_syntax.proofs.Common.{◌≡◌, ℕ, ◌≤◌, List, [], ◌∷◌, ◌++◌, length, refl, sym, subst, append_assoc, arith}
 use Rattle.scop_expressions.specs.Token.{Token}
 use Rattle.scop_expressions.specs.Tree.{Tree}
 use Rattle.scop_grammar.specs.Kernel.{Step, counted, counts, assigned, Head, branch, loop, Item, block, empty, assign}

@@ -1,8 +1,8 @@
 -- The iterators of a kernel without faults are free names that its tokens spell.
-use Rattle.std.proofs.Common.{◌≡◌, ◌∙◌, ap, subst, refl, ℕ, zero, suc, ◌+◌, Bool, true, false, List, [], ◌∷◌, ◌++◌}
-use Rattle.std.proofs.Common.{length, map, slice_get, inl, inr, arith}
-use Rattle.std.specs.Prelude.{All, Some}
-use Rattle.std.proofs.lemmas.List.Elements.{All-nil, All-cons, All-head, All-map, All-tail}
+use Rattle.scop_syntax.proofs.Common.{◌≡◌, ◌∙◌, ap, subst, refl, ℕ, zero, suc, ◌+◌, Bool, true, false, List, [], ◌∷◌}
+use Rattle.scop_syntax.proofs.Common.{◌++◌, length, map, slice_get, inl, inr, arith, All, Some, All-nil, All-cons}
+use Rattle.scop_syntax.proofs.Common.{All-head, All-map, All-tail, In, Declaration, trees_of, in_append, in_back}
+use Rattle.scop_syntax.proofs.Common.{in_front}
 use Rattle.scop_expressions.specs.Tree as expression
 use Rattle.scop_expressions.specs.Token.{Token}
 use Rattle.scop_expressions.specs.Token.TheVariants as token
@@ -13,11 +13,7 @@ use Rattle.scop_grammar.proofs.Parses.{spelled_append}
 use Rattle.scop_lexer.specs.Bytes.{Text}
 use Rattle.scop_lexer.specs.Words.{IsName}
 use Rattle.scop_roles.specs.Faults.{told, judged}
-use Rattle.scop_syntax.specs.Members.{In}
-use Rattle.scop_syntax.specs.Tree.{Declaration}
 use Rattle.scop_syntax.specs.Tree as scop
-use Rattle.scop_syntax.specs.View.{trees_of}
-use Rattle.scop_syntax.proofs.Members.{in_append, in_back, in_front}
 use Rattle.scop_units.specs.Words.{Words}
 use Rattle.scop_units.specs.Scopes.{Scope, iterator_fault}
 use Rattle.scop_units.specs.Loops.{part_faults}

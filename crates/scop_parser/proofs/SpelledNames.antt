@@ -1,7 +1,6 @@
 -- Where the tokens of a text have a name, the text spells one.
-use Rattle.std.proofs.Common.{◌≡◌, ◌∙◌, sym, ap, subst, ℕ, zero, suc, ◌-◌, List, [], ◌∷◌}
-use Rattle.std.proofs.Common.{take, drop, slice_get, arith}
-use Rattle.std.specs.Prelude.{All, Some}
+use Rattle.scop_syntax.proofs.Common.{◌≡◌, ◌∙◌, sym, ap, subst, ℕ, zero, suc, ◌-◌, List, [], ◌∷◌, take, drop, slice_get}
+use Rattle.scop_syntax.proofs.Common.{arith, All, Some, Program}
 use Rattle.scop_lexer.specs.Bytes.{Text}
 use Rattle.scop_lexer.specs.Words.{IsName}
 use Rattle.scop_lexer.specs.Stands.{stands_at}
@@ -10,7 +9,6 @@ use Rattle.scop_lexer.specs.declared.stand.Stand.TheVariants.{Lexeme}
 use Rattle.scop_lexer.specs.declared.token.Token.{Token}
 use Rattle.scop_expressions.specs.Token.TheVariants as token
 use Rattle.scop_grammar.specs.Kernel.{Kernel, kernel_elements, spelled}
-use Rattle.scop_syntax.specs.Tree.{Program}
 use Rattle.scop_units.specs.Words.{Words, grammar_tokens, spelling_of, words_of}
 use Rattle.scop_units.specs.Names.{SpellNames, header_names}
 use Rattle.scop_units.specs.Programs.{program_spelled}

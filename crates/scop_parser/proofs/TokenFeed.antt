@@ -1,9 +1,8 @@
 -- The grammar's reader fed token by token, its pieces taken out as they come, and the pass that takes them.
-use Rattle.std.proofs.Common.{◌≡◌, ℕ, ◌+◌, ◌<◌, ◌≤◌, ◌^◌, List, [], ◌∷◌, ◌++◌, length, get_or, drop, refl, sym, ap, ◌∙◌}
-use Rattle.std.proofs.Common.{subst, append_assoc, append-nil, arith}
-use Rattle.std.specs.Prelude.{Result, Ok, Err}
+use Rattle.scop_syntax.proofs.Common.{◌≡◌, ℕ, ◌+◌, ◌<◌, ◌≤◌, ◌^◌, List, [], ◌∷◌, ◌++◌, length, get_or, drop, refl, sym}
+use Rattle.scop_syntax.proofs.Common.{ap, ◌∙◌, subst, append_assoc, append-nil, arith, Result, Ok, Err, drop_all}
+use Rattle.scop_syntax.proofs.Common.{length-map}
 use Rattle.std.proofs.Math.ListN.{get_or-map}
-use Rattle.std.proofs.lemmas.List.{drop_all, length-map}
 use Rattle.scop_expressions.specs.declared.reader.Stop.{Stop}
 use Rattle.scop_expressions.specs.declared.reader.Stop.TheVariants as fault
 use Rattle.scop_expressions.specs.Token.{Token}

@@ -1,8 +1,6 @@
 -- A text spells one program at most, and none where it has a fault.
-use Rattle.std.proofs.Common.{◌≡◌, ℕ, List, [], ◌∷◌, ◌++◌, Bool, true, false, refl, sym, ap, subst, ◌∙◌, append_assoc}
-use Rattle.std.proofs.Common.{arith}
-use Rattle.std.specs.Prelude.{◌⊎◌, if◌then◌else◌, Option, Some, None}
-use Rattle.std.proofs.Common.{inl, inr}
+use Rattle.scop_syntax.proofs.Common.{◌≡◌, ℕ, List, [], ◌∷◌, ◌++◌, Bool, true, false, refl, sym, ap, subst, ◌∙◌}
+use Rattle.scop_syntax.proofs.Common.{append_assoc, arith, ◌⊎◌, if◌then◌else◌, Option, Some, None, inl, inr, Program}
 use Rattle.scop_lexer.specs.Bytes.{Text}
 use Rattle.scop_lexer.specs.declared.token.Token.{Token}
 use Rattle.scop_lexer.specs.declared.token.Fault.{Fault as TokenFault}
@@ -22,7 +20,6 @@ use Rattle.scop_grammar.specs.Machine.{whole as whole_answer, answer as machine_
 use Rattle.scop_grammar.specs.Claims.{IsAnswer}
 use Rattle.scop_grammar.proofs.MachineAnswers.{one_reading, read_answers}
 use Rattle.scop_grammar.proofs.WiderLimits.{stop-misplaced}
-use Rattle.scop_syntax.specs.Tree.{Program}
 use Rattle.scop_roles.specs.declared.fault.Fault.{Fault}
 use Rattle.scop_roles.specs.Faults.{first, first_of, precedes}
 use Rattle.scop_units.specs.Words.{start_of, words_of, grammar_tokens}

@@ -1,13 +1,11 @@
 -- No name that is declared without a fault begins with `pp_`, nor a kernel's own, and a loop takes none that does.
-use Rattle.std.proofs.Common.{◌≡◌, ◌∙◌, sym, ap, subst, refl, ℕ, zero, suc, ◌+◌, Bool, true, false, ◌||◌, if◌then◌else◌}
-use Rattle.std.proofs.Common.{List, [], ◌∷◌, length, inl, inr, ◌⊎◌, bytes_eq}
-use Rattle.std.specs.Prelude.{All, Option, Some, None}
-use Rattle.std.proofs.lemmas.Bool.{false≢true}
-use Rattle.std.proofs.lemmas.List.Elements.{All-append, All-cons, All-nil, All-push}
-use Rattle.std.proofs.lemmas.Slice.Eq.{bytes_eq-Decides}
+use Rattle.scop_syntax.proofs.Common.{◌≡◌, ◌∙◌, sym, ap, subst, refl, ℕ, zero, suc, ◌+◌, Bool, true, false, ◌||◌}
+use Rattle.scop_syntax.proofs.Common.{if◌then◌else◌, List, [], ◌∷◌, length, inl, inr, ◌⊎◌, All, Option, Some, None}
+use Rattle.scop_syntax.proofs.Common.{false≢true, All-append, All-cons, All-nil, All-push, bytes_eq-Decides}
+use Rattle.scop_syntax.proofs.Common.{Declaration}
+use Rattle.std.proofs.Common.{bytes_eq}
 use Rattle.scop_grammar.specs.Kernel.{Parameter, number, array, Kernel, parameter_elements}
 use Rattle.scop_lexer.specs.Bytes.{Text}
-use Rattle.scop_syntax.specs.Tree.{Declaration}
 use Rattle.scop_roles.specs.declared.fault.Kind.TheVariants as kind
 use Rattle.scop_roles.specs.declared.formula.Meaning.{Meaning}
 use Rattle.scop_roles.specs.declared.formula.Meaning.TheVariants as meaning

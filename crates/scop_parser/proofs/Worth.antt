@@ -1,10 +1,8 @@
 -- The constants of a text have 64 bits.
-use Rattle.std.proofs.Common.{◌≡◌, ℕ, zero, suc, ◌^◌, ◌<◌, ◌≤◌, Bool, true, false, ◌&&◌, if◌then◌else◌, ◌==◌, List}
-use Rattle.std.proofs.Common.{[], ◌∷◌, length, take, drop, get_or, refl, subst, arith, nat_le, nat_lt, slice_get}
-use Rattle.std.specs.Prelude.{Option, Some, None, ⊤}
-use Rattle.std.specs.List.{prefix_len, take_while}
-use Rattle.std.proofs.lemmas.Bool.{and_parts, leb-true}
-use Rattle.std.proofs.lemmas.Bool.Decides.{nat_tests}
+use Rattle.scop_syntax.proofs.Common.{◌≡◌, ℕ, zero, suc, ◌^◌, ◌<◌, ◌≤◌, Bool, true, false, ◌&&◌, if◌then◌else◌, ◌==◌}
+use Rattle.scop_syntax.proofs.Common.{List, [], ◌∷◌, length, take, drop, get_or, refl, subst, arith, nat_le, nat_lt}
+use Rattle.scop_syntax.proofs.Common.{slice_get, Option, Some, None, ⊤, prefix_len, and_parts, leb-true, nat_tests}
+use Rattle.std.specs.List.{take_while}
 use Rattle.scop_lexer.specs.Bytes.{Text, is_blank, is_letter, is_digit, is_fresh}
 use Rattle.scop_lexer.specs.Words.{kind_of_word, word_stands}
 use Rattle.scop_lexer.specs.Constants.{number_behind, radix, is_digit_in, greatest, is_suffix, with_suffix, constant_in}

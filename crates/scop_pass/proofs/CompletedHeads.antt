@@ -1,8 +1,7 @@
 -- Heads that are completed one by one: the machine's completion from that of the innermost.
-use Rattle.std.proofs.Common.{◌≡◌, ℕ, ◌-◌, List, [], ◌∷◌, ◌++◌, length, take, None, Result, Ok, Err, inl, refl}
-use Rattle.std.proofs.Common.{sym, ap, ◌∙◌, arith}
+use Rattle.scop_syntax.proofs.Common.{◌≡◌, ℕ, ◌-◌, List, [], ◌∷◌, ◌++◌, length, take, None, Result, Ok, Err, inl, refl}
+use Rattle.scop_syntax.proofs.Common.{sym, ap, ◌∙◌, arith, Test, Head, Tree, nat_le, nat_lt, slice_get}
 use Rattle.scop_units.specs.Bytes.{Text}
-use Rattle.scop_syntax.specs.Tree.{Test, Head, Tree}
 use Rattle.scop_syntax.specs.Tree as scop
 use Rattle.scop_roles.specs.declared.fault.Fault.{Fault}
 use Rattle.scop_pass.specs.Machine.{Frame, block, guarded, looped, idle, State, unwound, completed, complete, expects}
@@ -12,7 +11,6 @@ use Rattle.scop_units.specs.Words.{Words}
 use Rattle.scop_grammar.specs.Kernel.{Piece}
 use Rattle.scop_pass.specs.declared.frames.Frame.{Frame as CodeFrame}
 use Rattle.scop_pass.specs.declared.pass.Stop.{Stop}
-use Rattle.std.specs.Prelude.{nat_le, nat_lt, slice_get}
 use Rattle.scop_roles.specs.declared.fault.Kind.TheVariants as kind
 use Rattle.scop_roles.specs.Formula.{place}
 use Rattle.scop_roles.specs.Faults.{first, told, only_where}

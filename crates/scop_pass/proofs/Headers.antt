@@ -1,5 +1,6 @@
 -- The pass over the pieces of a kernel finds the kernel's faults and its program.
-use Rattle.std.proofs.Common.{◌≡◌, ℕ, zero, suc, ◌+◌, List, [], ◌∷◌, ◌++◌, refl, sym, ap, ◌∙◌, append_assoc}
+use Rattle.scop_syntax.proofs.Common.{◌≡◌, ℕ, zero, suc, ◌+◌, List, [], ◌∷◌, ◌++◌, refl, sym, ap, ◌∙◌, append_assoc}
+use Rattle.scop_syntax.proofs.Common.{Declaration}
 use Rattle.std.proofs.lemmas.List.{append-nil}
 use Rattle.scop_expressions.specs.Tree.{Tree, size}
 use Rattle.scop_expressions.specs.Width.{Width}
@@ -7,7 +8,6 @@ use Rattle.scop_grammar.specs.declared.part.Mark.{Mark}
 use Rattle.scop_grammar.specs.declared.part.Mark.TheVariants as kept
 use Rattle.scop_grammar.specs.Kernel.{Element, Piece, mark_at, pieces, Parameter, number, array, extents}
 use Rattle.scop_grammar.specs.Kernel.{parameter_elements, other_parameters, other_names, declarations}
-use Rattle.scop_syntax.specs.Tree.{Declaration}
 use Rattle.scop_roles.specs.declared.fault.Fault.{Fault}
 use Rattle.scop_roles.specs.Formula.{Formula}
 use Rattle.scop_roles.specs.Forms.{is_narrow_width}

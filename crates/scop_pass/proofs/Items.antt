@@ -1,14 +1,12 @@
 -- The pass over the pieces of an item finds the item's faults and its trees of the program.
-use Rattle.std.proofs.Common.{◌≡◌, ℕ, ◌+◌, ◌-◌, List, [], ◌∷◌, ◌++◌, length, refl, ap, ◌∙◌, append_assoc, length-append}
-use Rattle.std.proofs.Common.{arith}
+use Rattle.scop_syntax.proofs.Common.{◌≡◌, ℕ, ◌+◌, ◌-◌, List, [], ◌∷◌, ◌++◌, length, refl, ap, ◌∙◌, append_assoc}
+use Rattle.scop_syntax.proofs.Common.{length-append, arith, take-append_seam, Tree}
 use Rattle.std.proofs.lemmas.List.{append-nil}
-use Rattle.std.proofs.Math.Seq.{take-append_seam}
 use Rattle.scop_expressions.specs.Tree.{size}
 use Rattle.scop_grammar.specs.Kernel.{expression, pieces, Head, branch, loop, Item, block, empty, assign, headed}
 use Rattle.scop_grammar.specs.Kernel.{Items, none, more, head_elements, place_elements, item_elements, all_elements}
 use Rattle.scop_grammar.specs.Kernel.{assign_sign, ends, semicolon, ItemFits, ItemsFit}
 use Rattle.scop_units.specs.Bytes.{Text}
-use Rattle.scop_syntax.specs.Tree.{Tree}
 use Rattle.scop_syntax.specs.Tree as scop
 use Rattle.scop_roles.specs.declared.fault.Fault.{Fault}
 use Rattle.scop_roles.specs.Formula.{Formula}

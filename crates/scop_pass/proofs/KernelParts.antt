@@ -1,8 +1,7 @@
 -- The pass over a kernel's parts one by one.
-use Rattle.std.proofs.Common.{◌≡◌, ℕ, ◌+◌, ◌<◌, ◌≤◌, ◌^◌, List, [], ◌∷◌, ◌++◌, length, map, get_or, take, drop, Some}
-use Rattle.std.proofs.Common.{None, inl, inr, sym, ap, ◌∙◌, append_assoc, length-append, arith}
-use Rattle.std.specs.Prelude.{◌⊎◌}
-use Rattle.std.proofs.lemmas.List.{map-append, take_more}
+use Rattle.scop_syntax.proofs.Common.{◌≡◌, ℕ, ◌+◌, ◌<◌, ◌≤◌, ◌^◌, List, [], ◌∷◌, ◌++◌, length, map, get_or, take, drop}
+use Rattle.scop_syntax.proofs.Common.{Some, None, inl, inr, sym, ap, ◌∙◌, append_assoc, length-append, arith, ◌⊎◌}
+use Rattle.scop_syntax.proofs.Common.{map-append, take_more}
 use Rattle.scop_expressions.specs.Tree.{tokens_of, size, written}
 use Rattle.scop_expressions.specs.declared.node.Node.{Node}
 use Rattle.scop_grammar.specs.declared.part.Mark.{Mark}

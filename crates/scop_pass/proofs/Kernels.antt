@@ -1,10 +1,10 @@
 -- The pass over all pieces of a kernel: its faults, and its program.
-use Rattle.std.proofs.Common.{◌≡◌, ℕ, zero, suc, ◌+◌, List, [], ◌∷◌, ◌++◌, length, map, refl, ap, ◌∙◌, append_assoc}
+use Rattle.scop_syntax.proofs.Common.{◌≡◌, ℕ, zero, suc, ◌+◌, List, [], ◌∷◌, ◌++◌, length, map, refl, ap, ◌∙◌}
+use Rattle.scop_syntax.proofs.Common.{append_assoc, trees_of}
 use Rattle.scop_grammar.specs.declared.part.Mark.TheVariants as kept
 use Rattle.scop_grammar.specs.Kernel.{Element, pieces, Kernel, KernelFits, kernel_elements, begins, ends}
 use Rattle.scop_grammar.specs.Kernel.{parameter_elements, other_parameters, declarations, all_elements}
 use Rattle.scop_units.specs.Bytes.{Text}
-use Rattle.scop_syntax.specs.View.{trees_of}
 use Rattle.scop_units.specs.Words.{Words}
 use Rattle.scop_units.specs.Scopes.{Scope, no_scope, with_iterator}
 use Rattle.scop_units.specs.Units.{kernel_name_faults, declared_over}

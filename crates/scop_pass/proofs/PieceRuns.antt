@@ -1,5 +1,6 @@
 -- The pass over the pieces of an item finds the item's faults and its trees of the program.
-use Rattle.std.proofs.Common.{◌≡◌, ℕ, ◌+◌, true, false, List, [], ◌∷◌, ◌++◌, length, refl, sym, ap, ◌∙◌, length-append}
+use Rattle.scop_syntax.proofs.Common.{◌≡◌, ℕ, ◌+◌, true, false, List, [], ◌∷◌, ◌++◌, length, refl, sym, ap, ◌∙◌}
+use Rattle.scop_syntax.proofs.Common.{length-append}
 use Rattle.scop_expressions.specs.Token.TheVariants as token
 use Rattle.scop_expressions.specs.Tree.{Tree, size, tokens_of, written, IsPlace}
 use Rattle.scop_expressions.specs.Tree as tree

@@ -1,5 +1,6 @@
 -- The pieces of elements one after another.
-use Rattle.std.proofs.Common.{◌≡◌, ℕ, ◌+◌, List, [], ◌∷◌, ◌++◌, sym, ap, ◌∙◌, append_assoc, length-append, arith}
+use Rattle.scop_syntax.proofs.Common.{◌≡◌, ℕ, ◌+◌, List, [], ◌∷◌, ◌++◌, sym, ap, ◌∙◌, append_assoc, length-append}
+use Rattle.scop_syntax.proofs.Common.{arith}
 use Rattle.scop_expressions.specs.Tree.{size, tokens_of, written}
 use Rattle.scop_grammar.specs.Kernel.{Element, sign, expression, Piece, nodes_from, pieces, marked, spelled}
 use Rattle.scop_units.specs.Judging.{width}

@@ -1,8 +1,7 @@
 -- Where the faults of a unit stand: from its first token on, in front of the token behind it.
-use Rattle.std.proofs.Common.{◌≡◌, ℕ, zero, suc, ◌+◌, ◌<◌, ◌≤◌, nat_lt, nat_le, List, [], ◌∷◌, ◌++◌, length, Option}
-use Rattle.std.proofs.Common.{Some, None, refl, sym, subst, length-append, arith, rules}
-use Rattle.std.specs.Prelude.{All, ⊤, slice_get, not}
-use Rattle.std.proofs.lemmas.List.Elements.{All-head, All-tail}
+use Rattle.scop_syntax.proofs.Common.{◌≡◌, ℕ, zero, suc, ◌+◌, ◌<◌, ◌≤◌, nat_lt, nat_le, List, [], ◌∷◌, ◌++◌, length}
+use Rattle.scop_syntax.proofs.Common.{Option, Some, None, refl, sym, subst, length-append, arith, rules, All, ⊤}
+use Rattle.scop_syntax.proofs.Common.{slice_get, not, All-head, All-tail}
 use Rattle.scop_expressions.specs.Assign.{Assign}
 use Rattle.scop_expressions.specs.Assign.TheVariants as assigns
 use Rattle.scop_expressions.specs.Token.TheVariants as token

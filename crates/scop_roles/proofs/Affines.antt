@@ -1,13 +1,11 @@
 -- Formulas without faults in their roles are within the limits; entries of combined forms, what shifts and signs read.
-use Rattle.std.proofs.Common.{◌≡◌, ℕ, ◌+◌, ◌<◌, ◌≤◌, ◌^◌, ◌==◌, Bool, true, false, ◌&&◌, nat_lt, pos, negsuc, List, []}
-use Rattle.std.proofs.Common.{◌∷◌, ◌++◌, length, Some, None, All, ap, ap₂, sym, ◌∙◌, refl, length-append, arith}
-use Rattle.std.specs.Prelude.{if◌then◌else◌, not, ℤ, ◌+ℤ◌, ◌*ℤ◌, unsigned_abs}
-use Rattle.std.proofs.lemmas.Bool.{and_parts}
-use Rattle.std.proofs.lemmas.List.Elements.{All-nil, All-cons, All-append}
-use Rattle.whole_numbers.specs.Affine.{Affine, multiple_of_form}
-use Rattle.whole_numbers.specs.Lists.{sums, multiples}
-use Rattle.whole_numbers.proofs.Dot.{length-zeros, length-sums, length-multiples, sums-nil}
-use Rattle.whole_numbers.proofs.Sizes.{abs_sum}
+use Rattle.scop_syntax.proofs.Common.{◌≡◌, ℕ, ◌+◌, ◌<◌, ◌≤◌, ◌^◌, ◌==◌, Bool, true, false, ◌&&◌, nat_lt, pos, negsuc}
+use Rattle.scop_syntax.proofs.Common.{List, [], ◌∷◌, ◌++◌, length, Some, None, All, ap, ap₂, sym, ◌∙◌, refl}
+use Rattle.scop_syntax.proofs.Common.{length-append, arith, if◌then◌else◌, not, ℤ, ◌+ℤ◌, ◌*ℤ◌, unsigned_abs, and_parts}
+use Rattle.scop_syntax.proofs.Common.{All-nil, All-cons, All-append, Affine, multiple_of_form, sums, multiples}
+use Rattle.scop_syntax.proofs.Common.{length-zeros, length-sums, length-multiples, sums-nil, abs_sum, Access}
+use Rattle.scop_syntax.proofs.Common.{Expression, affine, implied, converted, Test, reads_of, IsForm, IsAffine}
+use Rattle.scop_syntax.proofs.Common.{IsAccess, IsExpression, IsComparison, test_form}
 use Rattle.scop_expressions.specs.Op.{Op}
 use Rattle.scop_expressions.specs.Op.TheVariants as op
 use Rattle.scop_expressions.specs.declared.token.Sign.{Sign}
@@ -15,10 +13,8 @@ use Rattle.scop_expressions.specs.declared.token.Sign.TheVariants as sign
 use Rattle.scop_expressions.specs.Suffix.TheVariants as suffix
 use Rattle.scop_expressions.specs.Width.{Width}
 use Rattle.scop_expressions.specs.Width.TheVariants as width
-use Rattle.scop_syntax.specs.Tree.{Access, Expression, affine, Narrowing, implied, converted, Test}
-use Rattle.scop_syntax.specs.Cells.{reads_of}
-use Rattle.scop_syntax.specs.Kernel.{IsForm, IsAffine, IsAccess, IsNarrowed, IsExpression, IsComparison}
-use Rattle.scop_syntax.specs.Kernel.{test_form}
+use Rattle.scop_syntax.specs.Tree.{Narrowing}
+use Rattle.scop_syntax.specs.Kernel.{IsNarrowed}
 use Rattle.scop_roles.specs.declared.fault.Kind.TheVariants as kind
 use Rattle.scop_roles.specs.declared.formula.Meaning.{Meaning}
 use Rattle.scop_roles.specs.declared.formula.Meaning.TheVariants as meaning

@@ -1,9 +1,8 @@
 -- What holds along subscripts put on a place one by one, and along arguments (`makes_next`); what a place with
 -- subscripts is.
-use Rattle.std.proofs.Common.{◌≡◌, ℕ, ◌+◌, ◌-◌, ◌<◌, ◌≤◌, ◌==◌, false, List, [], ◌∷◌, ◌++◌, None, length, map, drop}
-use Rattle.std.proofs.Common.{fold, get_or, drop-cons, add-one, ap, sym, subst, ◌∙◌, refl, arith, append_assoc}
-use Rattle.std.proofs.lemmas.List.{drop_all}
-use Rattle.whole_numbers.specs.Affine.{Affine}
+use Rattle.scop_syntax.proofs.Common.{◌≡◌, ℕ, ◌+◌, ◌-◌, ◌<◌, ◌≤◌, ◌==◌, false, List, [], ◌∷◌, ◌++◌, None, length, map}
+use Rattle.scop_syntax.proofs.Common.{drop, fold, get_or, drop-cons, add-one, ap, sym, subst, ◌∙◌, refl, arith}
+use Rattle.scop_syntax.proofs.Common.{append_assoc, drop_all, Affine}
 use Rattle.scop_expressions.specs.Op.{Op}
 use Rattle.scop_roles.specs.Formula.{Formula, index, binary, place, meaning_of, subscripts}
 use Rattle.scop_roles.specs.Faults.{first, place_faults}

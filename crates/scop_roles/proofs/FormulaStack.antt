@@ -1,7 +1,6 @@
 -- The stack of formulas reads a tree's nodes as the tree's formula (`formula-of-written`); how many tokens a tree has.
-use Rattle.std.proofs.Common.{◌≡◌, ℕ, zero, suc, ◌+◌, ◌<◌, ◌≤◌, List, [], ◌∷◌, ◌++◌, length, drop, fold, get_or, refl}
-use Rattle.std.proofs.Common.{ap, sym, ◌∙◌, arith, append_assoc, length-append, add-one, drop-cons}
-use Rattle.std.specs.Prelude.{⊤}
+use Rattle.scop_syntax.proofs.Common.{◌≡◌, ℕ, zero, suc, ◌+◌, ◌<◌, ◌≤◌, List, [], ◌∷◌, ◌++◌, length, drop, fold, get_or}
+use Rattle.scop_syntax.proofs.Common.{refl, ap, sym, ◌∙◌, arith, append_assoc, length-append, add-one, drop-cons, ⊤}
 use Rattle.std.proofs.lemmas.List.{append-nil}
 use Rattle.scop_expressions.specs.Tree.{Tree, constant, name, group, index, bare_call, call, unary, cast, binary}
 use Rattle.scop_expressions.specs.Tree.{written, size}

@@ -1,11 +1,7 @@
 -- The values and the comparisons that the code makes of a formula's parts.
-use Rattle.std.proofs.Common.{◌≡◌, ℕ, Bool, true, false, ◌&&◌, List, [], ◌∷◌, ◌++◌, None, Result, Ok, Err, ap, sym}
-use Rattle.std.proofs.Common.{subst, ◌∙◌, refl, append_assoc}
-use Rattle.std.proofs.lemmas.Bool.{and_parts}
-use Rattle.std.specs.Prelude.{OnOk, IfOk}
-use Rattle.std.specs.declared.alloc.AllocError.{AllocError}
-use Rattle.whole_numbers.specs.Affine.{Affine}
-use Rattle.scop_syntax.specs.Tree.{Expression, affine, read, implied, converted, Test}
+use Rattle.scop_syntax.proofs.Common.{◌≡◌, ℕ, Bool, true, false, ◌&&◌, List, [], ◌∷◌, ◌++◌, None, Result, Ok, Err, ap}
+use Rattle.scop_syntax.proofs.Common.{sym, subst, ◌∙◌, refl, append_assoc, and_parts, OnOk, IfOk, AllocError, Affine}
+use Rattle.scop_syntax.proofs.Common.{Expression, affine, read, implied, converted, Test}
 use Rattle.scop_syntax.specs.Tree as scop
 use Rattle.scop_expressions.specs.Op.{Op}
 use Rattle.scop_expressions.specs.declared.token.Sign.{Sign}

@@ -1,9 +1,8 @@
 -- The multiples of the numbers of a list, and the sums of two lists' numbers, made one by one.
-use Rattle.std.proofs.Common.{◌≡◌, ℕ, ◌+◌, ◌<◌, ◌≤◌, ℤ, pos, List, [], ◌∷◌, ◌++◌, length, drop, get_or, add-one}
-use Rattle.std.proofs.Common.{drop-cons, append_assoc, ap, sym, ◌∙◌, refl, arith}
-use Rattle.std.specs.Prelude.{◌*ℤ◌, ◌+ℤ◌}
-use Rattle.std.proofs.lemmas.List.{drop_all, append-nil}
-use Rattle.whole_numbers.specs.Lists.{multiples, sums}
+use Rattle.scop_syntax.proofs.Common.{◌≡◌, ℕ, ◌+◌, ◌<◌, ◌≤◌, ℤ, pos, List, [], ◌∷◌, ◌++◌, length, drop, get_or, add-one}
+use Rattle.scop_syntax.proofs.Common.{drop-cons, append_assoc, ap, sym, ◌∙◌, refl, arith, ◌*ℤ◌, ◌+ℤ◌, drop_all}
+use Rattle.scop_syntax.proofs.Common.{multiples, sums}
+use Rattle.std.proofs.lemmas.List.{append-nil}
 
 pub multiples_next : (f x : ℤ) (xs done next : List ℤ) (i : ℕ) → i < length xs → x ≡ f *ℤ get_or xs i (pos 0)
     → next ≡ done ++ x ∷ [] → done ++ multiples f (drop i xs) ≡ multiples f xs

@@ -1,7 +1,6 @@
 -- The first fault of each node from what is known of its parts.
-use Rattle.std.proofs.Common.{◌≡◌, ℕ, zero, suc, ◌==◌, Bool, true, false, ◌&&◌, ◌||◌, ◌++◌, Option, Some, None, inl}
-use Rattle.std.proofs.Common.{inr, ap, sym, ◌∙◌, refl, add-one, arith}
-use Rattle.std.specs.Prelude.{◌⊎◌, if◌then◌else◌}
+use Rattle.scop_syntax.proofs.Common.{◌≡◌, ℕ, zero, suc, ◌==◌, Bool, true, false, ◌&&◌, ◌||◌, ◌++◌, Option, Some, None}
+use Rattle.scop_syntax.proofs.Common.{inl, inr, ap, sym, ◌∙◌, refl, add-one, arith, ◌⊎◌, if◌then◌else◌}
 use Rattle.scop_expressions.specs.Op.{Op}
 use Rattle.scop_expressions.specs.Op.TheVariants as op
 use Rattle.scop_expressions.specs.declared.token.Sign.{Sign}

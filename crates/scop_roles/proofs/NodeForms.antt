@@ -1,8 +1,6 @@
 -- The form of a node from those of its parts.
-use Rattle.std.proofs.Common.{◌≡◌, ◌≢◌, ℕ, Bool, true, false, ◌&&◌, ◌||◌, List, Some, None, inl, inr, ap, sym, subst}
-use Rattle.std.proofs.Common.{◌∙◌, refl, length, arith}
-use Rattle.std.specs.Prelude.{if◌then◌else◌, ◌⊎◌, not}
-use Rattle.whole_numbers.specs.Affine.{Affine}
+use Rattle.scop_syntax.proofs.Common.{◌≡◌, ◌≢◌, ℕ, Bool, true, false, ◌&&◌, ◌||◌, List, Some, None, inl, inr, ap, sym}
+use Rattle.scop_syntax.proofs.Common.{subst, ◌∙◌, refl, length, arith, if◌then◌else◌, ◌⊎◌, not, Affine}
 use Rattle.scop_expressions.specs.Op.{Op}
 use Rattle.scop_expressions.specs.declared.token.Sign.TheVariants as sign
 use Rattle.scop_roles.specs.declared.fault.Fault.{Fault}

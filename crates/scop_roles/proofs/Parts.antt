@@ -1,8 +1,6 @@
 -- The parts of a formula without faults in a role have none in theirs.
-use Rattle.std.proofs.Common.{◌≡◌, ℕ, Bool, true, false, ◌&&◌, ◌||◌, List, ◌++◌, Option, None, ap, sym, subst, ◌∙◌}
-use Rattle.std.proofs.Common.{refl, arith}
-use Rattle.std.proofs.lemmas.Bool.{and_parts}
-use Rattle.std.specs.Prelude.{if◌then◌else◌, not}
+use Rattle.scop_syntax.proofs.Common.{◌≡◌, ℕ, Bool, true, false, ◌&&◌, ◌||◌, List, ◌++◌, Option, None, ap, sym, subst}
+use Rattle.scop_syntax.proofs.Common.{◌∙◌, refl, arith, and_parts, if◌then◌else◌, not, Expression}
 use Rattle.scop_expressions.specs.Op.{Op}
 use Rattle.scop_expressions.specs.Op.TheVariants as op
 use Rattle.scop_expressions.specs.declared.token.Sign.{Sign}
@@ -13,7 +11,6 @@ use Rattle.scop_roles.specs.declared.fault.Fault.{Fault}
 use Rattle.scop_roles.specs.declared.fault.Kind.{Kind}
 use Rattle.scop_roles.specs.declared.fault.Kind.TheVariants as kind
 use Rattle.scop_roles.specs.declared.formula.Role.TheVariants as role
-use Rattle.scop_syntax.specs.Tree.{Expression}
 use Rattle.scop_syntax.specs.Tree as scop
 use Rattle.scop_roles.specs.Formula.{Formula, constant, index, unary, cast, binary, place}
 use Rattle.scop_roles.specs.Forms.{is_sum_or_product, is_shift, is_and, is_comparison, is_signed, is_narrow, mixes}

@@ -1,6 +1,6 @@
 -- Where the faults of a tree's formula stand, and what its names and constants are.
-use Rattle.std.proofs.Common.{ℕ, ◌&&◌, ◌+◌, ◌<◌, ◌≤◌, List, [], ◌∷◌, ◌++◌, Option, Some, None, All, arith}
-use Rattle.std.proofs.lemmas.List.Elements.{All-nil, All-cons, All-head, All-tail, All-append}
+use Rattle.scop_syntax.proofs.Common.{ℕ, ◌&&◌, ◌+◌, ◌<◌, ◌≤◌, List, [], ◌∷◌, ◌++◌, Option, Some, None, All, arith}
+use Rattle.scop_syntax.proofs.Common.{All-nil, All-cons, All-head, All-tail, All-append}
 use Rattle.scop_expressions.specs.Tree.{Tree, constant, name, group, index, bare_call, call, unary, cast, binary}
 use Rattle.scop_expressions.specs.Tree.{size}
 use Rattle.scop_roles.specs.declared.fault.Fault.{Fault}

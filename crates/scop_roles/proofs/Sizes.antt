@@ -1,16 +1,11 @@
 -- How large the numbers of sums and multiples of forms get.
-use Rattle.std.proofs.Common.{◌≡◌, ℕ, zero, suc, ◌+◌, ◌*◌, ◌^◌, ◌≤◌, ℤ, pos, negsuc, true, nat_le, List}
-use Rattle.std.proofs.Common.{[], ◌∷◌, length, set, length-set, ◌∙◌, arith, mul-le-mul}
-use Rattle.std.specs.Prelude.{◌*ℤ◌, unsigned_abs}
-use Rattle.std.specs.List.{list_all}
-use Rattle.std.proofs.lemmas.Int.{unsigned_abs-mul}
-use Rattle.std.proofs.lemmas.Bool.{and_parts}
-use Rattle.whole_numbers.specs.Lists.{sums, multiples, zeros}
-use Rattle.whole_numbers.specs.Affine.{Affine, form_of, multiple_of_form}
-use Rattle.whole_numbers.proofs.Dot.{length-multiples, length-zeros}
-use Rattle.whole_numbers.proofs.Sizes.{abs_sum}
-use Rattle.scop_syntax.specs.Kernel.{AreAtMost, IsForm, IsAffine}
-use Rattle.scop_syntax.proofs.Limits.{at_most_more, at_most_zeros}
+use Rattle.scop_syntax.proofs.Common.{◌≡◌, ℕ, zero, suc, ◌+◌, ◌*◌, ◌^◌, ◌≤◌, ℤ, pos, negsuc, true, nat_le, List, []}
+use Rattle.scop_syntax.proofs.Common.{◌∷◌, length, set, ◌∙◌, arith, mul-le-mul, ◌*ℤ◌, unsigned_abs, list_all}
+use Rattle.scop_syntax.proofs.Common.{unsigned_abs-mul, and_parts, sums, multiples, zeros, Affine, form_of}
+use Rattle.scop_syntax.proofs.Common.{multiple_of_form, length-multiples, length-zeros, abs_sum, AreAtMost, IsForm}
+use Rattle.scop_syntax.proofs.Common.{IsAffine, at_most_more}
+use Rattle.std.proofs.Common.{length-set}
+use Rattle.scop_syntax.proofs.Limits.{at_most_zeros}
 use Rattle.scop_roles.specs.Forms.{is_small, is_within}
 
 pub at_most-set : (k : ℕ) (xs : List ℤ) (i : ℕ) (x : ℤ) → AreAtMost k xs → unsigned_abs x ≤ k → AreAtMost k (set xs i x)

@@ -1,7 +1,7 @@
 -- The value of a formula without faults has the types that C gives it, where arrays have their widths.
-use Rattle.std.proofs.Common.{◌≡◌, ℕ, ◌+◌, ◌<◌, Bool, true, false, ◌&&◌, ◌||◌, ◌++◌, List, Some, None, sym, subst, refl}
-use Rattle.std.proofs.Common.{◌∙◌, ap₂, arith, slice_index_or}
-use Rattle.std.specs.Prelude.{if◌then◌else◌}
+use Rattle.scop_syntax.proofs.Common.{◌≡◌, ℕ, ◌+◌, ◌<◌, Bool, true, false, ◌&&◌, ◌||◌, ◌++◌, List, Some, None, sym}
+use Rattle.scop_syntax.proofs.Common.{subst, refl, ◌∙◌, ap₂, arith, slice_index_or, if◌then◌else◌, Expression, affine}
+use Rattle.scop_syntax.proofs.Common.{implied, converted, IsTyped}
 use Rattle.scop_expressions.specs.Op.{Op}
 use Rattle.scop_expressions.specs.Op.TheVariants as op
 use Rattle.scop_expressions.specs.declared.token.Sign.{Sign}
@@ -11,9 +11,8 @@ use Rattle.scop_expressions.specs.Width.{Width}
 use Rattle.scop_expressions.specs.Width.TheVariants as width
 use Rattle.scop_expressions.specs.Tree.{Tree, size}
 use Rattle.scop_expressions.specs.Tree as tree
-use Rattle.scop_syntax.specs.Tree.{Expression, affine, implied, converted}
 use Rattle.scop_syntax.specs.Tree as scop
-use Rattle.scop_syntax.specs.Widths.{bits, is_narrow as has_type, IsTypedAs, IsTyped}
+use Rattle.scop_syntax.specs.Widths.{bits, is_narrow as has_type, IsTypedAs}
 use Rattle.scop_roles.specs.declared.fault.Kind.TheVariants as kind
 use Rattle.scop_roles.specs.declared.formula.Meaning.{Meaning}
 use Rattle.scop_roles.specs.declared.formula.Meaning.TheVariants as meaning

@@ -1,6 +1,5 @@
 -- The formulas that the code's values stand for, at each kind.
-use Rattle.std.proofs.Common.{◌≡◌, ℕ, Vec, Global, map, fold, ap, sym, ◌∙◌}
-use Rattle.std.specs.Global.{Box}
+use Rattle.scop_syntax.proofs.Common.{◌≡◌, ℕ, Vec, Global, map, fold, ap, sym, ◌∙◌, Box}
 use Rattle.scop_expressions.specs.Op.{Op}
 use Rattle.scop_expressions.specs.Op.TheVariants as op
 use Rattle.scop_expressions.specs.declared.token.Sign.{Sign}

@@ -1,16 +1,14 @@
 -- Signed parts beside 32 bits: what is signed has none, and what a value without fault converts is a form or a constant
 -- of no more.
-use Rattle.std.proofs.Common.{◌≡◌, ℕ, ◌^◌, ◌<◌, Bool, true, false, ◌&&◌, ◌||◌, ◌++◌, None}
-use Rattle.std.proofs.Common.{refl, arith}
-use Rattle.std.specs.Prelude.{not, nat_le}
-use Rattle.std.proofs.lemmas.Bool.{and_parts, or_parts}
+use Rattle.scop_syntax.proofs.Common.{◌≡◌, ℕ, ◌^◌, ◌<◌, Bool, true, false, ◌&&◌, ◌||◌, ◌++◌, None, refl, arith, not}
+use Rattle.scop_syntax.proofs.Common.{nat_le, and_parts, converted}
+use Rattle.std.proofs.lemmas.Bool.{or_parts}
 use Rattle.scop_expressions.specs.Op.{Op}
 use Rattle.scop_expressions.specs.Op.TheVariants as op
 use Rattle.scop_expressions.specs.declared.token.Sign.TheVariants as sign
 use Rattle.scop_expressions.specs.Base.{Base}
 use Rattle.scop_expressions.specs.Base.TheVariants as base
 use Rattle.scop_expressions.specs.Suffix.TheVariants as suffix
-use Rattle.scop_syntax.specs.Tree.{converted}
 use Rattle.scop_syntax.specs.Kernel.{IsNarrowed}
 use Rattle.scop_roles.specs.declared.fault.Kind.{Kind}
 use Rattle.scop_roles.specs.declared.fault.Kind.TheVariants as kind

@@ -1,9 +1,6 @@
 -- The walk without its numbers.
-use Rattle.std.proofs.Common.{◌≡◌, ℕ, zero, suc, ◌+◌, Bool, true, false, ℤ, pos, List, [], ◌∷◌, ◌++◌, map, ap, ap₂, ◌∙◌}
-use Rattle.std.proofs.Common.{refl}
-use Rattle.std.specs.Prelude.{if◌then◌else◌}
-use Rattle.std.specs.Int.Signed.{le_z}
-use Rattle.std.proofs.lemmas.List.{map-append}
+use Rattle.whole_numbers.proofs.Common.{◌≡◌, ℕ, zero, suc, ◌+◌, Bool, true, false, ℤ, pos, List, [], ◌∷◌, ◌++◌, map, ap}
+use Rattle.whole_numbers.proofs.Common.{ap₂, ◌∙◌, refl, if◌then◌else◌, le_z, map-append}
 use Rattle.scop_syntax.specs.Tree.{Tree, loop, guard, statement, Trees, none, more}
 use Rattle.scop_syntax.specs.Walk.{all_hold, turn_point, condition_at, most_turns, turns, statements_in, Visit, within}
 use Rattle.scop_syntax.specs.Walk.{walk, walk_all}

@@ -1,11 +1,8 @@
 -- What the limits of the language give for a run of a kernel.
-use Rattle.std.proofs.Common.{◌≡◌, ℕ, zero, suc, ◌+◌, ◌^◌, ◌<◌, ◌≤◌, ℤ, pos, negsuc, List, [], ◌∷◌, length, map}
-use Rattle.std.proofs.Common.{get_or, inl, inr, subst, sym, ◌∙◌, refl, arith, mul-le-mul, mul-one, one-mul}
-use Rattle.std.specs.Prelude.{◌≤ℤ◌, ◌<ℤ◌, All, unsigned_abs}
-use Rattle.std.proofs.lemmas.Int.{ints}
-use Rattle.std.proofs.lemmas.List.{length-map}
-use Rattle.std.proofs.lemmas.List.Elements.{All-nil, All-cons, All-head, All-tail}
-use Rattle.whole_numbers.specs.Affine.{Affine, value_of}
+use Rattle.whole_numbers.proofs.Common.{◌≡◌, ℕ, zero, suc, ◌+◌, ◌^◌, ◌<◌, ◌≤◌, ℤ, pos, negsuc, List, [], ◌∷◌, length}
+use Rattle.whole_numbers.proofs.Common.{map, get_or, inl, inr, subst, sym, ◌∙◌, refl, arith, mul-le-mul, mul-one}
+use Rattle.whole_numbers.proofs.Common.{one-mul, ◌≤ℤ◌, ◌<ℤ◌, All, unsigned_abs, ints, length-map, All-nil, All-cons}
+use Rattle.whole_numbers.proofs.Common.{All-head, All-tail, Affine, value_of}
 use Rattle.scop_syntax.specs.Tree.{Access, Expression, read, constant, affine, negated, complemented, cast, binary}
 use Rattle.scop_syntax.specs.Tree.{shifted_left, shifted_right, narrowed, Right, assigned, combined, moved_left}
 use Rattle.scop_syntax.specs.Tree.{moved_right, combined_narrow, moved_left_narrow, Statement, Declaration, Program}

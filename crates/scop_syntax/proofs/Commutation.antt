@@ -1,9 +1,7 @@
 -- Two visits that do not conflict leave the same contents in either order.
-use Rattle.std.proofs.Common.{◌≡◌, ℕ, suc, ℤ, List, [], ◌∷◌, map, get_or, set, inl, inr, ap, ap₂, subst, sym}
-use Rattle.std.proofs.Common.{◌∙◌, refl}
-use Rattle.std.specs.Prelude.{◌≢◌}
-use Rattle.std.proofs.lemmas.Bool.Decides.{eqb_tells}
-use Rattle.std.proofs.lemmas.List.{get_or-set_same, get_or-set_other, set-set, set_comm}
+use Rattle.whole_numbers.proofs.Common.{◌≡◌, ℕ, suc, ℤ, List, [], ◌∷◌, map, get_or, set, inl, inr, ap, ap₂, subst, sym}
+use Rattle.whole_numbers.proofs.Common.{◌∙◌, refl, ◌≢◌, eqb_tells, get_or-set_same, get_or-set_other}
+use Rattle.std.proofs.lemmas.List.{set-set, set_comm}
 use Rattle.scop_syntax.specs.Tree.{Access}
 use Rattle.scop_syntax.specs.Members.{In}
 use Rattle.scop_syntax.specs.Walk.{Visit}

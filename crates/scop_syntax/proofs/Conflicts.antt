@@ -1,7 +1,6 @@
 -- The writers of a cell that an access touches conflict with the access's place.
-use Rattle.std.proofs.Common.{◌≡◌, ℕ, List, Option, Some, None, inl, inr, sym, ◌∙◌, refl}
-use Rattle.std.specs.Prelude.{slice_get, option_and_then}
-use Rattle.std.specs.Option.{option_map}
+use Rattle.whole_numbers.proofs.Common.{◌≡◌, ℕ, List, Option, Some, None, inl, inr, sym, ◌∙◌, refl, slice_get}
+use Rattle.whole_numbers.proofs.Common.{option_and_then, option_map}
 use Rattle.scop_syntax.specs.Tree.{Access}
 use Rattle.scop_syntax.specs.Walk.{Visit}
 use Rattle.scop_syntax.specs.Cells.{Cell, accesses, cell_at, cell_of, PlacesConflict}

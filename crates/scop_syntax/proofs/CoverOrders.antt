@@ -1,6 +1,5 @@
 -- An order without doubles that keeps the covers of a walk keeps its conflicts.
-use Rattle.std.proofs.Common.{◌≡◌, ℕ, List, [], ◌∷◌, Some, inl, inr, sym}
-use Rattle.std.specs.Prelude.{slice_get}
+use Rattle.whole_numbers.proofs.Common.{◌≡◌, ℕ, List, [], ◌∷◌, Some, inl, inr, sym, slice_get}
 use Rattle.scop_syntax.specs.Cells.{PlacesConflict, conflict_cell}
 use Rattle.scop_syntax.specs.Covers.{Chain}
 use Rattle.scop_syntax.specs.Walk.{Visit}

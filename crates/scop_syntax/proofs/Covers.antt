@@ -1,8 +1,6 @@
 -- Each conflict is a chain of covers, and what goes on from place to place and holds of covers holds along chains.
-use Rattle.std.proofs.Common.{◌≡◌, ℕ, zero, suc, ◌<◌, ◌≤◌, true, List, [], ◌∷◌, ◌++◌, Option, Some, None, inl}
-use Rattle.std.proofs.Common.{inr, ap, subst, sym, ◌∙◌, refl, arith}
-use Rattle.std.specs.Prelude.{slice_get, option_and_then}
-use Rattle.std.specs.Option.{option_map}
+use Rattle.whole_numbers.proofs.Common.{◌≡◌, ℕ, zero, suc, ◌<◌, ◌≤◌, true, List, [], ◌∷◌, ◌++◌, Option, Some, None, inl}
+use Rattle.whole_numbers.proofs.Common.{inr, ap, subst, sym, ◌∙◌, refl, arith, slice_get, option_and_then, option_map}
 use Rattle.scop_syntax.specs.Tree.{Access}
 use Rattle.scop_syntax.specs.Walk.{Visit}
 use Rattle.scop_syntax.specs.Cells.{Cell, OneWrites, PlacesConflict, accesses, cell_at, cell_of, written}

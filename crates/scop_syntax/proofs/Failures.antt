@@ -1,11 +1,7 @@
 -- Nothing fails exactly where every cell is one of its array's.
-use Rattle.std.proofs.Common.{◌≡◌, ℕ, zero, suc, ◌+◌, Bool, true, false, ℤ, pos, List, [], ◌∷◌, ◌++◌, length, get_or}
-use Rattle.std.proofs.Common.{Some, None, inl, inr, ap, ap₂, subst, sym, ◌∙◌, refl, arith}
-use Rattle.std.specs.Prelude.{◌<◌, ◌+ℤ◌, slice_get, if◌then◌else◌}
-use Rattle.std.specs.Int.Signed.{le_z}
-use Rattle.std.proofs.lemmas.Int.{ints}
-use Rattle.std.proofs.lemmas.List.{length-map}
-use Rattle.whole_numbers.specs.Affine.{value_of}
+use Rattle.whole_numbers.proofs.Common.{◌≡◌, ℕ, zero, suc, ◌+◌, Bool, true, false, ℤ, pos, List, [], ◌∷◌, ◌++◌, length}
+use Rattle.whole_numbers.proofs.Common.{get_or, Some, None, inl, inr, ap, ap₂, subst, sym, ◌∙◌, refl, arith, ◌<◌, ◌+ℤ◌}
+use Rattle.whole_numbers.proofs.Common.{slice_get, if◌then◌else◌, le_z, ints, length-map, value_of}
 use Rattle.scop_syntax.specs.Tree.{Access}
 use Rattle.scop_syntax.specs.Members.{In}
 use Rattle.scop_syntax.specs.Walk.{Visit}

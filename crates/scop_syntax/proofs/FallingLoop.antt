@@ -1,9 +1,6 @@
 -- The worked loop that falls by two is a kernel within the limits.
-use Rattle.std.proofs.Common.{◌^◌, ℤ, pos, negsuc, [], ◌∷◌, inr, refl, arith}
-use Rattle.std.specs.Prelude.{◌≤ℤ◌, All}
-use Rattle.std.proofs.lemmas.Int.{ints}
-use Rattle.std.proofs.lemmas.List.Elements.{All-nil, All-cons}
-use Rattle.whole_numbers.specs.Affine.{Affine, value_of}
+use Rattle.whole_numbers.proofs.Common.{◌^◌, ℤ, pos, negsuc, [], ◌∷◌, inr, refl, arith, ◌≤ℤ◌, All, ints, All-nil}
+use Rattle.whole_numbers.proofs.Common.{All-cons, Affine, value_of}
 use Rattle.scop_syntax.specs.Tree.{Declaration}
 use Rattle.scop_syntax.specs.Kernel.{IsForm, IsAffine, IsAccess, IsDeclaration, IsKernel}
 use Rattle.scop_syntax.specs.Examples.{form, at, four_cells, falling_by_two}

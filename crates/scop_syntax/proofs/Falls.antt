@@ -1,11 +1,7 @@
 -- In a well-formed tree each loop's condition falls.
-use Rattle.std.proofs.Common.{◌≡◌, ◌+◌, ℤ, pos, List, [], ◌∷◌, ◌++◌, length, get_or, inl, inr, ap, arith}
-use Rattle.std.specs.Prelude.{negsuc, ◌⊎◌, ◌≤ℤ◌, ◌+ℤ◌, ◌-ℤ◌, ◌*ℤ◌, ◌<ℤ◌}
-use Rattle.std.proofs.lemmas.Int.{ints}
-use Rattle.whole_numbers.specs.Lists.{dot}
-use Rattle.whole_numbers.specs.Affine.{value_of}
-use Rattle.whole_numbers.proofs.Dot.{dot-nil}
-use Rattle.whole_numbers.proofs.Ring.{mul_distrib_left, mul_sub_left, mul_one_right, mul_one_left, mul_neg_left}
+use Rattle.whole_numbers.proofs.Common.{◌≡◌, ◌+◌, ℤ, pos, List, [], ◌∷◌, ◌++◌, length, get_or, inl, inr, ap, arith}
+use Rattle.whole_numbers.proofs.Common.{negsuc, ◌⊎◌, ◌≤ℤ◌, ◌+ℤ◌, ◌-ℤ◌, ◌*ℤ◌, ◌<ℤ◌, ints, dot, value_of, dot-nil}
+use Rattle.whole_numbers.proofs.Common.{mul_distrib_left, mul_sub_left, mul_one_right, mul_one_left, mul_neg_left}
 use Rattle.scop_syntax.specs.Tree.{Head}
 use Rattle.scop_syntax.specs.Walk.{condition_at, Falls}
 use Rattle.scop_syntax.specs.Kernel.{own, IsHead}

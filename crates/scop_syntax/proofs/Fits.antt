@@ -1,10 +1,7 @@
 -- Within the limits every number of a run fits.
-use Rattle.std.proofs.Common.{◌≡◌, ℕ, zero, suc, ◌+◌, ◌-◌, ◌*◌, ◌^◌, ◌≤◌, ℤ, pos, List, [], ◌∷◌, length, get_or, subst}
-use Rattle.std.proofs.Common.{sym, arith, mul-le-mul, length-append}
-use Rattle.std.specs.Prelude.{◌+ℤ◌, ◌*ℤ◌, ◌≤ℤ◌, All, FitsSigned}
-use Rattle.std.specs.Int.{w64}
-use Rattle.std.proofs.lemmas.Int.{ints, fits_signed_from_abs}
-use Rattle.whole_numbers.specs.Affine.{Affine, value_of}
+use Rattle.whole_numbers.proofs.Common.{◌≡◌, ℕ, zero, suc, ◌+◌, ◌-◌, ◌*◌, ◌^◌, ◌≤◌, ℤ, pos, List, [], ◌∷◌, length}
+use Rattle.whole_numbers.proofs.Common.{get_or, subst, sym, arith, mul-le-mul, length-append, ◌+ℤ◌, ◌*ℤ◌, ◌≤ℤ◌, All}
+use Rattle.whole_numbers.proofs.Common.{FitsSigned, w64, ints, fits_signed_from_abs, Affine, value_of}
 use Rattle.scop_syntax.specs.Tree.{Expression, read, constant, affine, negated, complemented, cast, binary}
 use Rattle.scop_syntax.specs.Tree.{shifted_left, shifted_right, narrowed, Right, assigned, combined, moved_left}
 use Rattle.scop_syntax.specs.Tree.{moved_right, combined_narrow, moved_left_narrow, Statement, Test, Head, Tree, loop}

@@ -1,6 +1,7 @@
 -- The statements gathered down the tree are those of the program, in textual order.
-use Rattle.std.proofs.Common.{◌≡◌, ◌∙◌, ap, ap₂, sym, refl, ℕ, ◌+◌, List, [], ◌∷◌, ◌++◌, map, append-nil}
-use Rattle.std.proofs.lemmas.List.{append_assoc, map-append}
+use Rattle.whole_numbers.proofs.Common.{◌≡◌, ◌∙◌, ap, ap₂, sym, refl, ℕ, ◌+◌, List, [], ◌∷◌, ◌++◌, map, append-nil}
+use Rattle.whole_numbers.proofs.Common.{map-append}
+use Rattle.std.proofs.lemmas.List.{append_assoc}
 use Rattle.scop_syntax.specs.Tree.{Head, Test, Tree, loop, guard, statement, Trees, none, more, Program}
 use Rattle.scop_syntax.specs.Walk.{statements_in}
 use Rattle.scop_syntax.specs.Statements.{Placed, placed, placed_all, in_loop_of, in_guard_of}

@@ -1,5 +1,5 @@
 -- The loops among what stands round a statement are as many as its loops.
-use Rattle.std.proofs.Common.{◌≡◌, ap, refl, suc, List, [], ◌∷◌, length}
+use Rattle.whole_numbers.proofs.Common.{◌≡◌, ap, refl, suc, List, [], ◌∷◌, length}
 use Rattle.scop_syntax.specs.Statements.{Scope, loops_in, round, under}
 use Rattle.scop_syntax.specs.Standings.{heads_in}
 

@@ -1,16 +1,12 @@
 -- How large the values of forms and the iterators of instances get; numbers of a list up to a bound (`at_most_at`,
 -- `at_most_more`).
-use Rattle.std.proofs.Common.{◌≡◌, ℕ, zero, suc, ◌+◌, ◌*◌, ◌^◌, ◌<◌, ◌≤◌, ℤ, pos, List, [], ◌∷◌, ◌++◌, length}
-use Rattle.std.proofs.Common.{inl, inr, ap, subst, sym, ◌∙◌, arith, mul-le-mul, mul-add, length-append, get_or, negsuc}
-use Rattle.std.specs.Prelude.{◌+ℤ◌, ◌-ℤ◌, ◌*ℤ◌, ◌≤ℤ◌, neg_ℤ, unsigned_abs, All, ◌<ℤ◌, FitsSigned}
-use Rattle.std.specs.Int.{w64}
-use Rattle.std.proofs.lemmas.Int.{ints, unsigned_abs-mul}
-use Rattle.std.proofs.lemmas.List.Elements.{All-head, All-tail, All-nil, All-cons}
-use Rattle.whole_numbers.specs.Lists.{dot, zeros, NotNegative}
-use Rattle.whole_numbers.specs.Affine.{Affine, value_of}
-use Rattle.whole_numbers.proofs.Ring.{mul_neg_left, mul_one_left, mul_one_right, mul_zero_right, mul_distrib_left}
-use Rattle.whole_numbers.proofs.Order.{mul_le, mul_not_negative}
-use Rattle.whole_numbers.proofs.Sizes.{abs_low, abs_high, abs_at_most, abs_sum}
+use Rattle.whole_numbers.proofs.Common.{◌≡◌, ℕ, zero, suc, ◌+◌, ◌*◌, ◌^◌, ◌<◌, ◌≤◌, ℤ, pos, List, [], ◌∷◌, ◌++◌, length}
+use Rattle.whole_numbers.proofs.Common.{inl, inr, ap, subst, sym, ◌∙◌, arith, mul-le-mul, mul-add, length-append}
+use Rattle.whole_numbers.proofs.Common.{get_or, negsuc, ◌+ℤ◌, ◌-ℤ◌, ◌*ℤ◌, ◌≤ℤ◌, neg_ℤ, unsigned_abs, All, ◌<ℤ◌}
+use Rattle.whole_numbers.proofs.Common.{FitsSigned, w64, ints, unsigned_abs-mul, All-head, All-tail, All-nil, All-cons}
+use Rattle.whole_numbers.proofs.Common.{dot, zeros, NotNegative, Affine, value_of, mul_neg_left, mul_one_left}
+use Rattle.whole_numbers.proofs.Common.{mul_one_right, mul_zero_right, mul_distrib_left, mul_le, mul_not_negative}
+use Rattle.whole_numbers.proofs.Common.{abs_low, abs_high, abs_at_most, abs_sum}
 use Rattle.scop_syntax.specs.Tree.{Head, Program}
 use Rattle.scop_syntax.specs.Walk.{turn_point, condition_at}
 use Rattle.scop_syntax.specs.Kernel.{own, AreAtMost, IsForm, IsAffine, IsHead, AreScopes}

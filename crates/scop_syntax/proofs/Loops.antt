@@ -1,9 +1,7 @@
 -- A loop whose condition falls walks the bodies of the turns at which it holds.
-use Rattle.std.proofs.Common.{◌≡◌, ℕ, zero, suc, ◌+◌, ◌<◌, ◌≤◌, false, List, ◌++◌, ap, subst, refl, arith, below_more}
-use Rattle.std.specs.Prelude.{ℤ, pos, negsuc, ◌+ℤ◌, ◌≤ℤ◌, ◌<ℤ◌}
-use Rattle.std.specs.List.{flat_map, range_with_len}
-use Rattle.std.specs.Int.Signed.{le_z}
-use Rattle.std.proofs.lemmas.Int.{ints, by_lt_z}
+use Rattle.whole_numbers.proofs.Common.{◌≡◌, ℕ, zero, suc, ◌+◌, ◌<◌, ◌≤◌, false, List, ◌++◌, ap, subst, refl, arith}
+use Rattle.whole_numbers.proofs.Common.{below_more, ℤ, pos, negsuc, ◌+ℤ◌, ◌≤ℤ◌, ◌<ℤ◌, flat_map, range_with_len, le_z}
+use Rattle.whole_numbers.proofs.Common.{ints, by_lt_z}
 use Rattle.scop_syntax.proofs.Members.{le_z_holds, fallen}
 use Rattle.scop_syntax.specs.Walk.{turns, most_turns, loop_walk, Falls, RunsFor}
 

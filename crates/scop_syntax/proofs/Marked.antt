@@ -1,7 +1,7 @@
 -- The marks so far, and those among the arrays to come, are all of them.
-use Rattle.std.proofs.Common.{◌≡◌, ℕ, ◌+◌, ◌≤◌, ◌<◌, Bool, true, false, List, [], ◌∷◌, ◌++◌, length, map, drop, get_or}
-use Rattle.std.proofs.Common.{ap, ap₂, sym, ◌∙◌, refl, add-one, append_assoc, append-nil, drop-cons, drop_of_length-le}
-use Rattle.std.specs.Prelude.{if◌then◌else◌}
+use Rattle.whole_numbers.proofs.Common.{◌≡◌, ℕ, ◌+◌, ◌≤◌, ◌<◌, Bool, true, false, List, [], ◌∷◌, ◌++◌, length, map}
+use Rattle.whole_numbers.proofs.Common.{drop, get_or, ap, ap₂, sym, ◌∙◌, refl, add-one, append_assoc, append-nil}
+use Rattle.whole_numbers.proofs.Common.{drop-cons, drop_of_length-le, if◌then◌else◌}
 use Rattle.scop_syntax.specs.Reductions.{bodies, is_reduced, marks_from}
 use Rattle.scop_syntax.specs.Statements.{Placed, statements_of}
 use Rattle.scop_syntax.specs.Tree.{Declaration, Program, Statement}

@@ -1,10 +1,8 @@
 -- Elements of lists and of lists in order.
-use Rattle.std.proofs.Common.{◌≡◌, ℕ, zero, suc, ◌+◌, ◌<◌, Bool, true, false, ℤ, pos, negsuc, List, [], ◌∷◌, ◌++◌, map}
-use Rattle.std.proofs.Common.{Some, ◌⊎◌, inl, inr, ap, subst, sym, refl, arith, length, get_or}
-use Rattle.std.specs.Prelude.{◌≤◌, ◌+ℤ◌, ◌≤ℤ◌, ◌<ℤ◌, slice_get, if◌then◌else◌, All}
-use Rattle.std.specs.Int.Signed.{le_z}
-use Rattle.std.proofs.lemmas.Int.{ints}
-use Rattle.std.proofs.lemmas.List.Elements.{All-head, All-tail}
+use Rattle.whole_numbers.proofs.Common.{◌≡◌, ℕ, zero, suc, ◌+◌, ◌<◌, Bool, true, false, ℤ, pos, negsuc, List, [], ◌∷◌}
+use Rattle.whole_numbers.proofs.Common.{◌++◌, map, Some, ◌⊎◌, inl, inr, ap, subst, sym, refl, arith, length, get_or}
+use Rattle.whole_numbers.proofs.Common.{◌≤◌, ◌+ℤ◌, ◌≤ℤ◌, ◌<ℤ◌, slice_get, if◌then◌else◌, All, le_z, ints, All-head}
+use Rattle.whole_numbers.proofs.Common.{All-tail}
 use Rattle.scop_syntax.specs.Members.{In, Sorted}
 use Rattle.scop_syntax.specs.Walk.{turns, most_turns, loop_walk, Falls}
 

@@ -1,12 +1,9 @@
 -- A store changes its cell and no other.
-use Rattle.std.proofs.Common.{◌≡◌, ◌≢◌, ℕ, zero, suc, ◌+◌, ◌*◌, ◌<◌, ◌≤◌, ℤ, pos, negsuc, List, [], ◌∷◌, length, get_or}
-use Rattle.std.proofs.Common.{set, inl, inr, ap, ap₂, subst, sym, ◌∙◌, refl, arith, mul-le-mul_right, mul_assoc}
-use Rattle.std.proofs.Common.{add-mul, one-mul, mul-one}
-use Rattle.std.specs.Prelude.{◌≤ℤ◌, ◌<ℤ◌}
-use Rattle.std.proofs.lemmas.Int.{ints}
-use Rattle.std.proofs.lemmas.Bool.Decides.{eqb_tells}
-use Rattle.std.proofs.lemmas.List.{get_or-set_same, get_or-set_other, length-set, get_or-map, length-map}
-use Rattle.std.proofs.Math.Seq.{map-set_same}
+use Rattle.whole_numbers.proofs.Common.{◌≡◌, ◌≢◌, ℕ, zero, suc, ◌+◌, ◌*◌, ◌<◌, ◌≤◌, ℤ, pos, negsuc, List, [], ◌∷◌}
+use Rattle.whole_numbers.proofs.Common.{length, get_or, set, inl, inr, ap, ap₂, subst, sym, ◌∙◌, refl, arith}
+use Rattle.whole_numbers.proofs.Common.{mul-le-mul_right, mul_assoc, add-mul, one-mul, mul-one, ◌≤ℤ◌, ◌<ℤ◌, ints}
+use Rattle.whole_numbers.proofs.Common.{eqb_tells, get_or-set_same, get_or-set_other, length-set, get_or-map}
+use Rattle.whole_numbers.proofs.Common.{length-map, map-set_same}
 use Rattle.scop_syntax.specs.Cells.{Cell}
 use Rattle.scop_syntax.specs.Execution.{size_of, cell_count, AreWithin, IsCell, offset_from, offset_of, held, stored}
 use Rattle.scop_syntax.specs.Execution.{IsShaped}

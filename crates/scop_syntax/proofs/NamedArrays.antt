@@ -1,7 +1,6 @@
 -- What has two parts reads an array where the first reads it, or else the second.
-use Rattle.std.proofs.Common.{◌≡◌, ℕ, Bool, true, false, List, [], ◌∷◌, ◌++◌, ap, ap₂, sym, refl, ◌∙◌}
-use Rattle.std.specs.Global.{Box}
-use Rattle.std.specs.Prelude.{nat_eq, if◌then◌else◌}
+use Rattle.whole_numbers.proofs.Common.{◌≡◌, ℕ, Bool, true, false, List, [], ◌∷◌, ◌++◌, ap, ap₂, sym, refl, ◌∙◌, Box}
+use Rattle.whole_numbers.proofs.Common.{nat_eq, if◌then◌else◌}
 use Rattle.scop_syntax.specs.Cells.{reads_of}
 use Rattle.scop_syntax.specs.Reductions.{names}
 use Rattle.scop_syntax.specs.Tree.{Access, Expression}

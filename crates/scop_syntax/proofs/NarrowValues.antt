@@ -1,7 +1,7 @@
 -- What an operator of 64 bits makes, kept to 32, is what one of 32 bits makes of what its sides are kept to.
-use Rattle.std.proofs.Common.{◌≡◌, ℕ, ◌+◌, ◌-◌, ◌*◌, ◌%◌, ◌^◌, ◌<◌, ◌∙◌, arith}
+use Rattle.whole_numbers.proofs.Common.{◌≡◌, ℕ, ◌+◌, ◌-◌, ◌*◌, ◌%◌, ◌^◌, ◌<◌, ◌∙◌, arith, mod_below}
 use Rattle.std.specs.Int.Bits.{and_lt}
-use Rattle.std.proofs.lemmas.Nat.{and_mod, or_mod, xor_mod, or_lt, xor_lt, mod_below, mul-mod}
+use Rattle.std.proofs.lemmas.Nat.{and_mod, or_mod, xor_mod, or_lt, xor_lt, mul-mod}
 use Rattle.scop_syntax.specs.Tree.{Operator, plus, minus, times, bits_and, bits_or, bits_xor}
 use Rattle.scop_syntax.specs.Values.{applied, applied_narrow}
 

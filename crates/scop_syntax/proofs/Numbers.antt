@@ -1,6 +1,6 @@
 -- The numbers of cells among those of all arrays.
-use Rattle.std.proofs.Common.{◌≡◌, ℕ, zero, suc, ◌+◌, ◌<◌, ◌≤◌, ℤ, List, [], ◌∷◌, length, take, get_or, ap₂, subst}
-use Rattle.std.proofs.Common.{refl, arith, one-mul}
+use Rattle.whole_numbers.proofs.Common.{◌≡◌, ℕ, zero, suc, ◌+◌, ◌<◌, ◌≤◌, ℤ, List, [], ◌∷◌, length, take, get_or, ap₂}
+use Rattle.whole_numbers.proofs.Common.{subst, refl, arith, one-mul}
 use Rattle.scop_syntax.specs.Cells.{Cell}
 use Rattle.scop_syntax.specs.Execution.{AreWithin, IsCell, cell_count, total_cells, offset_from, offset_of, cell_number}
 use Rattle.scop_syntax.proofs.Members.{nat_cases}

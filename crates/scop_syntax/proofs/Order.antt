@@ -1,13 +1,8 @@
 -- The walk stands in the order of its instances.
-use Rattle.std.proofs.Common.{◌≡◌, ℕ, suc, ◌+◌, ◌<◌, true, ℤ, pos, List, [], ◌∷◌, map, Some, inl, inr, subst, length}
-use Rattle.std.proofs.Common.{sym, refl, arith, ap, ◌∙◌, ◌⊎◌, ◌++◌}
-use Rattle.std.specs.Prelude.{◌≤◌, ◌↔◌, slice_get, nat_eq, ⊤}
-use Rattle.std.proofs.lemmas.Int.{ints}
-use Rattle.std.proofs.lemmas.Bool.{eq-eqb}
-use Rattle.std.proofs.lemmas.List.{take_all}
-use Rattle.whole_numbers.specs.Lexicographic.{LexLess}
-use Rattle.whole_numbers.proofs.Lexicographic.{LexLess-irrefl, LexLess-asym, LexLess-append}
-use Rattle.whole_numbers.proofs.Tests.{nat_eq_below}
+use Rattle.whole_numbers.proofs.Common.{◌≡◌, ℕ, suc, ◌+◌, ◌<◌, true, ℤ, pos, List, [], ◌∷◌, map, Some, inl, inr, subst}
+use Rattle.whole_numbers.proofs.Common.{length, sym, refl, arith, ap, ◌∙◌, ◌⊎◌, ◌++◌, ◌≤◌, ◌↔◌, slice_get, nat_eq, ⊤}
+use Rattle.whole_numbers.proofs.Common.{ints, eq-eqb, take_all, LexLess, LexLess-irrefl, LexLess-asym, nat_eq_below}
+use Rattle.whole_numbers.proofs.Lexicographic.{LexLess-append}
 use Rattle.scop_syntax.specs.Tree.{Tree, loop, guard, statement, Trees, none, more}
 use Rattle.scop_syntax.specs.Members.{In, Sorted}
 use Rattle.scop_syntax.specs.Walk.{all_hold, turn_point, condition_at, most_turns, turns, statements_in}

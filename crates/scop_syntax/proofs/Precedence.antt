@@ -1,7 +1,6 @@
 -- Elements of a list before and behind one another, and a list without one of its elements.
-use Rattle.std.proofs.Common.{◌≡◌, ℕ, suc, ◌<◌, List, [], ◌∷◌, ◌++◌, Some, ◌⊎◌, inl, inr, ap, sym, refl}
-use Rattle.std.proofs.Common.{arith, ◌∙◌}
-use Rattle.std.specs.Prelude.{◌≢◌, slice_get}
+use Rattle.whole_numbers.proofs.Common.{◌≡◌, ℕ, suc, ◌<◌, List, [], ◌∷◌, ◌++◌, Some, ◌⊎◌, inl, inr, ap, sym, refl}
+use Rattle.whole_numbers.proofs.Common.{arith, ◌∙◌, ◌≢◌, slice_get}
 use Rattle.scop_syntax.specs.Members.{In}
 use Rattle.scop_syntax.proofs.Members.{in_back, place_of}
 use Rattle.scop_syntax.specs.ConflictOrders.{AreDistinct, StandsBefore}

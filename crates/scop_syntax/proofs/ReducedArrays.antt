@@ -1,8 +1,7 @@
 -- The marks of a program are the arrays that its statements only add to.
-use Rattle.std.proofs.Common.{◌≡◌, ◌≢◌, ℕ, zero, suc, ◌+◌, ◌<◌, Bool, true, false, ℤ, List, [], ◌∷◌, drop, Some, inl}
-use Rattle.std.proofs.Common.{inr, ◌⊎◌, sym, ap, subst, ◌∙◌, refl, arith}
-use Rattle.std.specs.Prelude.{◌↔◌, slice_get, nat_eq, if◌then◌else◌}
-use Rattle.std.proofs.lemmas.Bool.{eq-eqb, eqb-true, ne_eqb}
+use Rattle.whole_numbers.proofs.Common.{◌≡◌, ◌≢◌, ℕ, zero, suc, ◌+◌, ◌<◌, Bool, true, false, ℤ, List, [], ◌∷◌, drop}
+use Rattle.whole_numbers.proofs.Common.{Some, inl, inr, ◌⊎◌, sym, ap, subst, ◌∙◌, refl, arith, ◌↔◌, slice_get, nat_eq}
+use Rattle.whole_numbers.proofs.Common.{if◌then◌else◌, eq-eqb, eqb-true, ne_eqb}
 use Rattle.scop_syntax.specs.Tree.{Access, Right, assigned, combined, plus, minus, times, bits_and, bits_or, bits_xor}
 use Rattle.scop_syntax.specs.Tree.{moved_left, moved_right, combined_narrow, moved_left_narrow, Statement}
 use Rattle.scop_syntax.specs.Tree.{Declaration, Program}

@@ -1,6 +1,6 @@
 -- Orders that keep conflicts end with the same contents.
-use Rattle.std.proofs.Common.{◌≡◌, ℕ, List, [], ◌∷◌, ◌++◌, Some, inl, inr, ap, subst, sym, ◌∙◌, refl, arith}
-use Rattle.std.specs.Prelude.{◌≢◌, ◌↔◌, slice_get}
+use Rattle.whole_numbers.proofs.Common.{◌≡◌, ℕ, List, [], ◌∷◌, ◌++◌, Some, inl, inr, ap, subst, sym, ◌∙◌, refl, arith}
+use Rattle.whole_numbers.proofs.Common.{◌≢◌, ◌↔◌, slice_get}
 use Rattle.scop_syntax.specs.Cells.{written}
 use Rattle.scop_syntax.specs.Execution.{AreInside, IsShaped, performed, performed_all}
 use Rattle.scop_syntax.specs.Execution.{value_stored_by}

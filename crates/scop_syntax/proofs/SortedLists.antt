@@ -1,7 +1,6 @@
 -- Parts of sorted lists, and lists that are sorted by another relation; the instances of the walk are distinct.
-use Rattle.std.proofs.Common.{◌≡◌, ℕ, suc, ◌<◌, List, [], ◌∷◌, ◌++◌, map, Some, inl, inr, subst, sym, refl, arith}
-use Rattle.std.proofs.Common.{ℤ, ap}
-use Rattle.std.specs.Prelude.{slice_get, ◌≢◌}
+use Rattle.whole_numbers.proofs.Common.{◌≡◌, ℕ, suc, ◌<◌, List, [], ◌∷◌, ◌++◌, map, Some, inl, inr, subst, sym, refl}
+use Rattle.whole_numbers.proofs.Common.{arith, ℤ, ap, slice_get, ◌≢◌}
 use Rattle.scop_syntax.specs.Members.{In, Sorted}
 use Rattle.scop_syntax.specs.Tree.{Program}
 use Rattle.scop_syntax.specs.Walk.{Instance, instance, Visit, walk_of}

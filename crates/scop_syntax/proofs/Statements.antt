@@ -1,11 +1,7 @@
 -- The walk visits each statement at the turns at which all that stands round it holds.
-use Rattle.std.proofs.Common.{◌≡◌, ℕ, zero, suc, ◌+◌, ◌-◌, true, ℤ, pos, negsuc, List, [], ◌∷◌, ◌++◌, length, map, Some}
-use Rattle.std.proofs.Common.{inl, inr, ap, subst, sym, ◌∙◌, refl, arith, length-append, ap₂}
-use Rattle.std.specs.Prelude.{⊤, ◌+ℤ◌, ◌*ℤ◌, slice_get, ◌≤ℤ◌, All}
-use Rattle.std.proofs.lemmas.Int.{ints}
-use Rattle.std.proofs.lemmas.List.{length-map}
-use Rattle.std.proofs.lemmas.List.Elements.{All-nil, All-cons}
-use Rattle.whole_numbers.specs.Affine.{value_of}
+use Rattle.whole_numbers.proofs.Common.{◌≡◌, ℕ, zero, suc, ◌+◌, ◌-◌, true, ℤ, pos, negsuc, List, [], ◌∷◌, ◌++◌, length}
+use Rattle.whole_numbers.proofs.Common.{map, Some, inl, inr, ap, subst, sym, ◌∙◌, refl, arith, length-append, ap₂, ⊤}
+use Rattle.whole_numbers.proofs.Common.{◌+ℤ◌, ◌*ℤ◌, slice_get, ◌≤ℤ◌, All, ints, length-map, All-nil, All-cons, value_of}
 use Rattle.scop_syntax.specs.Tree.{Test, at_least, equal, Head, Tree, loop, guard, statement, Trees, none, more}
 use Rattle.scop_syntax.specs.Members.{In}
 use Rattle.scop_syntax.specs.Walk.{holds, all_hold, turn_point, condition_at, most_turns, statements_in}

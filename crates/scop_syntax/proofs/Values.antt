@@ -1,12 +1,8 @@
 -- Values lie below 2^64.
-use Rattle.std.proofs.Common.{ℕ, ◌+◌, ◌-◌, ◌*◌, ◌/◌, ◌%◌, ◌^◌, ◌<◌, ℤ, pos, negsuc, List, [], ◌∷◌, length, drop, get_or}
-use Rattle.std.proofs.Common.{arith}
-use Rattle.std.specs.Prelude.{All}
+use Rattle.whole_numbers.proofs.Common.{ℕ, ◌+◌, ◌-◌, ◌*◌, ◌/◌, ◌%◌, ◌^◌, ◌<◌, ℤ, pos, negsuc, List, [], ◌∷◌, length}
+use Rattle.whole_numbers.proofs.Common.{drop, get_or, arith, All, mod_below, div-le_self, All-head, All-drop, value_of}
 use Rattle.std.specs.Int.Bits.{and_lt}
-use Rattle.std.proofs.lemmas.Nat.{xor_lt, or_lt, mod_below}
-use Rattle.std.proofs.Math.Nat.{div-le_self}
-use Rattle.std.proofs.lemmas.List.Elements.{All-head, All-drop}
-use Rattle.whole_numbers.specs.Affine.{value_of}
+use Rattle.std.proofs.lemmas.Nat.{xor_lt, or_lt}
 use Rattle.scop_syntax.specs.Tree.{Operator, plus, minus, times, bits_and, bits_or, bits_xor, Expression, read}
 use Rattle.scop_syntax.specs.Tree.{constant, affine, negated, complemented, cast, binary, shifted_left, shifted_right}
 use Rattle.scop_syntax.specs.Tree.{narrowed, Right, assigned, combined, moved_left, moved_right, combined_narrow}

@@ -1,6 +1,5 @@
 -- The trees and expressions that the code's values stand for: what code that makes them wants.
-use Rattle.std.proofs.Common.{◌≡◌, Vec, Global, ap, sym, ◌∙◌}
-use Rattle.std.specs.Global.{Box}
+use Rattle.whole_numbers.proofs.Common.{◌≡◌, Vec, Global, ap, sym, ◌∙◌, Box}
 use Rattle.scop_syntax.specs.Tree.{binary, Head, loop, statement}
 use Rattle.scop_syntax.specs.declared.tree.Operator.{Operator as Code}
 use Rattle.scop_syntax.specs.declared.tree.Expr.{Expr}

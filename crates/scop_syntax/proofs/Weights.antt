@@ -1,6 +1,6 @@
 -- The weight of a tree, by which recursions over items fall, and the items of a list one by one.
-use Rattle.std.proofs.Common.{◌≡◌, ℕ, zero, suc, ◌+◌, ◌≤◌, ◌<◌, List, [], ◌∷◌, length, drop, get_or, ap, sym, subst}
-use Rattle.std.proofs.Common.{◌∙◌, refl, arith, add-one, drop-cons}
+use Rattle.whole_numbers.proofs.Common.{◌≡◌, ℕ, zero, suc, ◌+◌, ◌≤◌, ◌<◌, List, [], ◌∷◌, length, drop, get_or, ap, sym}
+use Rattle.whole_numbers.proofs.Common.{subst, ◌∙◌, refl, arith, add-one, drop-cons}
 use Rattle.scop_syntax.specs.Tree.{Tree, loop, guard, statement, Trees, none, more}
 use Rattle.scop_syntax.specs.declared.tree.Item.{Item}
 use Rattle.scop_syntax.specs.View.{tree_of, items_of}

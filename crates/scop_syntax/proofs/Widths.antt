@@ -1,10 +1,7 @@
 -- Cells hold numbers of their types, whatever runs: those of 32 bits hold no more.
-use Rattle.std.proofs.Common.{◌≡◌, ℕ, zero, suc, ◌+◌, ◌*◌, ◌^◌, ◌<◌, Bool, true, false, ℤ, List, [], ◌∷◌, map, get_or}
-use Rattle.std.proofs.Common.{take, set, inl, inr, ap, subst, sym, refl, arith}
-use Rattle.std.specs.Prelude.{All, length}
-use Rattle.std.proofs.lemmas.Nat.{mod_below}
-use Rattle.std.proofs.lemmas.List.Elements.{All-nil, All-cons}
-use Rattle.std.proofs.Math.Nat.{div-le_self}
+use Rattle.whole_numbers.proofs.Common.{◌≡◌, ℕ, zero, suc, ◌+◌, ◌*◌, ◌^◌, ◌<◌, Bool, true, false, ℤ, List, [], ◌∷◌, map}
+use Rattle.whole_numbers.proofs.Common.{get_or, take, set, inl, inr, ap, subst, sym, refl, arith, All, length}
+use Rattle.whole_numbers.proofs.Common.{mod_below, All-nil, All-cons, div-le_self}
 use Rattle.scop_syntax.specs.Tree.{Access, narrowed, Right, assigned, moved_right}
 use Rattle.scop_syntax.specs.Tree.{combined_narrow, moved_left_narrow, Statement, Tree, loop, guard, statement, Trees}
 use Rattle.scop_syntax.specs.Tree.{none, more, Program}

@@ -26,13 +26,12 @@ use Rattle.std.proofs.Common.{
   refl,
   min,
 }
+use Rattle.whole_numbers.proofs.Common.{ℤ, pos, negsuc, ◌+ℤ◌, ◌*ℤ◌, FitsSigned, w64, cast_signed, cast_unsigned, ints}
+use Rattle.whole_numbers.proofs.Common.{int_wrap-add_left, int_wrap-add_right, to_z-of_z, dot, dot-nil}
 use Rattle.scop_syntax.specs.Values.{wrapped}
-use Rattle.std.specs.Prelude.{ℤ, pos, negsuc, ◌+ℤ◌, ◌*ℤ◌, FitsSigned}
-use Rattle.std.specs.Int.{w64, cast_signed, cast_unsigned, int_wrap}
-use Rattle.std.proofs.lemmas.Int.{ints, int_wrap-add_left, int_wrap-add_right, wrapping_add-bits, wrapping_mul_is}
-use Rattle.std.proofs.lemmas.Int.{to_z-of_z, of_z-to_z}
-use Rattle.whole_numbers.specs.Lists.{dot}
-use Rattle.whole_numbers.proofs.Dot.{dot-nil}
+use Rattle.std.specs.Int.{int_wrap}
+use Rattle.std.proofs.lemmas.Int.{wrapping_add-bits, wrapping_mul_is}
+use Rattle.std.proofs.lemmas.Int.{of_z-to_z}
 
 -- one more product, wrapped on the way
 pub wrap_step : (v p rest : ℤ) → int_wrap w64 (int_wrap w64 (v +ℤ p) +ℤ rest) ≡ int_wrap w64 (v +ℤ (p +ℤ rest))

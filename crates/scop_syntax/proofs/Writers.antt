@@ -1,11 +1,8 @@
 -- A cell holds what its last writer has left in it.
-use Rattle.std.proofs.Common.{◌+◌, ◌-◌, ◌≡◌, ℕ, zero, suc, ◌<◌, ◌≤◌, Bool, true, false, ℤ, List, [], ◌∷◌, length, take}
-use Rattle.std.proofs.Common.{drop, fold, map, Some, None, inl, inr, ap, ap₂, subst, sym, ◌∙◌, refl, arith, Option}
-use Rattle.std.specs.Prelude.{slice_get, nat_eq, if◌then◌else◌}
-use Rattle.std.specs.Int.Signed.{le_z}
-use Rattle.std.proofs.lemmas.Int.{ints}
-use Rattle.std.proofs.lemmas.Bool.{eqb-true, eq-eqb}
-use Rattle.std.proofs.Math.Seq.{take-length}
+use Rattle.whole_numbers.proofs.Common.{◌+◌, ◌-◌, ◌≡◌, ℕ, zero, suc, ◌<◌, ◌≤◌, Bool, true, false, ℤ, List, [], ◌∷◌}
+use Rattle.whole_numbers.proofs.Common.{length, take, drop, fold, map, Some, None, inl, inr, ap, ap₂, subst, sym, ◌∙◌}
+use Rattle.whole_numbers.proofs.Common.{refl, arith, Option, slice_get, nat_eq, if◌then◌else◌, le_z, ints, eqb-true}
+use Rattle.whole_numbers.proofs.Common.{eq-eqb, take-length}
 use Rattle.scop_syntax.specs.Tree.{Access}
 use Rattle.scop_syntax.specs.Members.{In}
 use Rattle.scop_syntax.specs.Walk.{Visit}

@@ -1,16 +1,16 @@
 -- Items without faults leave trees within the limits; the arrays of a scope are known.
-use Rattle.std.proofs.Common.{◌≡◌, ℕ, suc, ◌+◌, ◌-◌, ◌<◌, ◌≤◌, Bool, true, false, if◌then◌else◌, List, [], ◌∷◌, ◌++◌}
-use Rattle.std.proofs.Common.{length, map, refl, ap, subst, ◌∙◌, arith, length-append, All, bytes_eq}
-use Rattle.std.specs.Prelude.{Option, Some, None, ⊤, slice_index_or}
+use Rattle.scop_syntax.proofs.Common.{◌≡◌, ℕ, suc, ◌+◌, ◌-◌, ◌<◌, ◌≤◌, Bool, true, false, if◌then◌else◌, List, [], ◌∷◌}
+use Rattle.scop_syntax.proofs.Common.{◌++◌, length, map, refl, ap, subst, ◌∙◌, arith, length-append, All, Option, Some}
+use Rattle.scop_syntax.proofs.Common.{None, ⊤, slice_index_or, IsComparison, test_form, IsHead, IsTree, AreTrees}
+use Rattle.scop_syntax.proofs.Common.{KeepWidths, Tree, trees_of}
+use Rattle.std.proofs.Common.{bytes_eq}
 use Rattle.scop_expressions.specs.Assign.{Assign}
 use Rattle.scop_expressions.specs.Tree.{size}
 use Rattle.scop_expressions.specs.Tree as expression
 use Rattle.scop_grammar.specs.Kernel.{Step, Head, branch, loop, Item, block, empty, assign, headed, Items, none, more}
 use Rattle.scop_grammar.specs.Kernel.{item_elements, head_elements}
 use Rattle.scop_lexer.specs.Bytes.{Text}
-use Rattle.scop_syntax.specs.Kernel.{IsComparison, test_form, IsHead, IsTree, AreTrees, KeepsWidths, KeepWidths}
-use Rattle.scop_syntax.specs.Tree.{Tree}
-use Rattle.scop_syntax.specs.View.{trees_of}
+use Rattle.scop_syntax.specs.Kernel.{KeepsWidths}
 use Rattle.scop_syntax.specs.Walk as walk
 use Rattle.scop_roles.specs.declared.formula.Meaning.{Meaning}
 use Rattle.scop_roles.specs.declared.formula.Meaning.TheVariants as meaning

@@ -1,20 +1,12 @@
 -- A kernel without faults stands for a program within the limits.
-use Rattle.std.proofs.Common.{◌≡◌, ℕ, zero, suc, ◌+◌, ◌-◌, ◌≤◌, Bool, List, [], ◌∷◌, ◌++◌, length, map, refl, sym, ap}
-use Rattle.std.proofs.Common.{subst, ◌∙◌, arith, inl, inr, length-append, append_assoc, append-nil, ℤ, All, nat_le}
-use Rattle.std.proofs.Common.{nat_lt}
-use Rattle.std.proofs.lemmas.List.{length-map, map-append}
-use Rattle.std.proofs.lemmas.List.Elements.{All-nil, All-cons, All-map}
-use Rattle.whole_numbers.specs.Affine.{Affine}
-use Rattle.whole_numbers.specs.Lists.{zeros}
-use Rattle.whole_numbers.proofs.Dot.{length-zeros}
+use Rattle.scop_syntax.proofs.Common.{◌≡◌, ℕ, zero, suc, ◌+◌, ◌-◌, ◌≤◌, Bool, List, [], ◌∷◌, ◌++◌, length, map, refl}
+use Rattle.scop_syntax.proofs.Common.{sym, ap, subst, ◌∙◌, arith, inl, inr, length-append, append_assoc, append-nil, ℤ}
+use Rattle.scop_syntax.proofs.Common.{All, nat_le, nat_lt, length-map, map-append, All-nil, All-cons, All-map, Affine}
+use Rattle.scop_syntax.proofs.Common.{zeros, length-zeros, AreAtMost, IsAffine, IsDeclaration, AreTrees, KeepWidths}
+use Rattle.scop_syntax.proofs.Common.{ranks_of, narrow_arrays, IsKernel, In, Sorted, Declaration, trees_of}
 use Rattle.scop_expressions.specs.Tree.{Tree, size}
 use Rattle.scop_grammar.specs.Kernel.{Parameter, number, array, Kernel, parameter_elements}
-use Rattle.scop_syntax.specs.Kernel.{AreAtMost, IsAffine, IsDeclaration, AreTrees, KeepWidths, ranks_of, narrow_arrays}
-use Rattle.scop_syntax.specs.Kernel.{IsKernel}
-use Rattle.scop_syntax.specs.Members.{In, Sorted}
-use Rattle.scop_syntax.specs.Tree.{Declaration}
 use Rattle.scop_syntax.specs.Tree as scop
-use Rattle.scop_syntax.specs.View.{trees_of}
 use Rattle.scop_syntax.proofs.Limits.{at_most_zeros}
 use Rattle.scop_roles.specs.declared.fault.Kind.TheVariants as kind
 use Rattle.scop_roles.specs.declared.formula.Role.TheVariants as role

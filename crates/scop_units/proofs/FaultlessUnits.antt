@@ -1,19 +1,14 @@
 -- Loops and statements without faults are within the limits of a kernel.
-use Rattle.std.proofs.Common.{◌≡◌, ℕ, zero, suc, ◌<◌, ◌≤◌, Bool, true, false, not, ◌||◌, List, [], ◌∷◌, ◌++◌, length}
-use Rattle.std.proofs.Common.{refl, sym, ap, subst, arith, All, nat_le, nat_lt, slice_get}
-use Rattle.std.specs.Prelude.{Option, Some, None, ◌&&◌, slice_index_or}
-use Rattle.std.proofs.lemmas.Bool.{and_parts, leb-true, ltb-false}
-use Rattle.std.proofs.lemmas.Bool.Decides.{nat_tests}
+use Rattle.scop_syntax.proofs.Common.{◌≡◌, ℕ, zero, suc, ◌<◌, ◌≤◌, Bool, true, false, not, ◌||◌, List, [], ◌∷◌, ◌++◌}
+use Rattle.scop_syntax.proofs.Common.{length, refl, sym, ap, subst, arith, All, nat_le, nat_lt, slice_get, Option, Some}
+use Rattle.scop_syntax.proofs.Common.{None, ◌&&◌, slice_index_or, and_parts, leb-true, ltb-false, nat_tests, IsAffine}
+use Rattle.scop_syntax.proofs.Common.{IsComparison, test_form, IsAccess, IsExpression, IsRight, IsStatement, HasWidth}
+use Rattle.scop_syntax.proofs.Common.{IsTyped, reads_of, reads_with, Access, Operator, plus, minus, times, bits_and}
+use Rattle.scop_syntax.proofs.Common.{bits_or, bits_xor, implied, converted, Expression}
 use Rattle.scop_expressions.specs.Tree.{Tree}
 use Rattle.scop_expressions.specs.Assign.{Assign}
 use Rattle.scop_expressions.specs.Assign.TheVariants as assigns
 use Rattle.scop_expressions.specs.Suffix.TheVariants as suffix
-use Rattle.scop_syntax.specs.Kernel.{IsAffine, IsComparison, test_form, IsAccess, IsExpression, IsRight}
-use Rattle.scop_syntax.specs.Kernel.{IsStatement, HasWidth}
-use Rattle.scop_syntax.specs.Widths.{IsTyped}
-use Rattle.scop_syntax.specs.Cells.{reads_of, reads_with}
-use Rattle.scop_syntax.specs.Tree.{Access, Operator, plus, minus, times, bits_and, bits_or, bits_xor}
-use Rattle.scop_syntax.specs.Tree.{implied, converted, Expression}
 use Rattle.scop_roles.specs.declared.fault.Fault.{Fault}
 use Rattle.scop_roles.specs.declared.fault.Kind.{Kind}
 use Rattle.scop_roles.specs.declared.fault.Kind.TheVariants as kind

@@ -1,7 +1,6 @@
 -- A list's elements one by one: what stands before one and behind it.
-use Rattle.std.proofs.Common.{◌≡◌, ℕ, suc, ◌+◌, ◌<◌, List, ◌∷◌, ◌++◌, length, map, get_or, drop, take}
-use Rattle.std.proofs.Common.{sym, ap, ◌∙◌, add-one, drop-cons}
-use Rattle.std.proofs.lemmas.List.{take-append-drop, map-append}
+use Rattle.scop_syntax.proofs.Common.{◌≡◌, ℕ, suc, ◌+◌, ◌<◌, List, ◌∷◌, ◌++◌, length, map, get_or, drop, take, sym, ap}
+use Rattle.scop_syntax.proofs.Common.{◌∙◌, add-one, drop-cons, take-append-drop, map-append}
 
 pub next_of : {A : Type 0} (i : ℕ) (xs : List A) (x : A) → i < length xs → x ≡ get_or xs i x
     → drop i xs ≡ x ∷ drop (i + 1) xs

@@ -1,25 +1,18 @@
 -- The head of a loop without faults rises to a form, or falls to one.
-use Rattle.std.proofs.Common.{◌≡◌, ◌≢◌, ℕ, suc, ◌+◌, ◌<◌, ◌≤◌, Bool, true, false, not, ◌&&◌, if◌then◌else◌, ◌==◌}
-use Rattle.std.proofs.Common.{List, [], ◌∷◌, ◌++◌, length, get_or, set, ℤ, pos, negsuc, ◌+ℤ◌, ◌-ℤ◌, ◌*ℤ◌, ◌^◌, ◌≤ℤ◌}
-use Rattle.std.proofs.Common.{unsigned_abs}
-use Rattle.std.proofs.Common.{◌⊎◌, inl, inr, refl, sym, ap, subst, ◌∙◌, arith}
-use Rattle.std.specs.Prelude.{Option, Some, None, ⊤, slice_index_or}
-use Rattle.std.proofs.lemmas.Int.{ints}
-use Rattle.std.proofs.lemmas.Bool.{and_parts, cases_eq, eqb-true, not-true}
-use Rattle.std.proofs.lemmas.Bool.Decides.{nat_tests}
-use Rattle.std.proofs.lemmas.List.{get_or-set_same, get_or-set_other, length-set}
-use Rattle.whole_numbers.specs.Affine.{Affine, form_of, sum_of_forms, multiple_of_form}
-use Rattle.whole_numbers.specs.Lists.{zeros, sums, multiples}
-use Rattle.whole_numbers.proofs.Dot.{length-multiples, length-zeros, length-sums, get_or-sums, get_or-multiples}
-use Rattle.whole_numbers.proofs.Dot.{get_or-zeros}
-use Rattle.whole_numbers.proofs.Ring.{mul_zero_right}
+use Rattle.scop_syntax.proofs.Common.{◌≡◌, ◌≢◌, ℕ, suc, ◌+◌, ◌<◌, ◌≤◌, Bool, true, false, not, ◌&&◌, if◌then◌else◌}
+use Rattle.scop_syntax.proofs.Common.{◌==◌, List, [], ◌∷◌, ◌++◌, length, get_or, set, ℤ, pos, negsuc, ◌+ℤ◌, ◌-ℤ◌, ◌*ℤ◌}
+use Rattle.scop_syntax.proofs.Common.{◌^◌, ◌≤ℤ◌, unsigned_abs, ◌⊎◌, inl, inr, refl, sym, ap, subst, ◌∙◌, arith, Option}
+use Rattle.scop_syntax.proofs.Common.{Some, None, ⊤, slice_index_or, ints, and_parts, eqb-true, not-true, nat_tests}
+use Rattle.scop_syntax.proofs.Common.{get_or-set_same, get_or-set_other, length-set, Affine, form_of, sum_of_forms}
+use Rattle.scop_syntax.proofs.Common.{multiple_of_form, zeros, sums, multiples, length-multiples, length-zeros}
+use Rattle.scop_syntax.proofs.Common.{length-sums, get_or-sums, get_or-multiples, get_or-zeros, mul_zero_right}
+use Rattle.scop_syntax.proofs.Common.{AreAtMost, IsAffine, IsCondition, IsHead, at_most_at}
+use Rattle.std.proofs.lemmas.Bool.{cases_eq}
 use Rattle.scop_expressions.specs.Assign.TheVariants as assigns
 use Rattle.scop_expressions.specs.Count.TheVariants as counts
 use Rattle.scop_expressions.specs.Op.{Op}
 use Rattle.scop_expressions.specs.Op.TheVariants as op
 use Rattle.scop_expressions.specs.declared.token.Sign.TheVariants as sign
-use Rattle.scop_syntax.specs.Kernel.{AreAtMost, IsAffine, IsCondition, IsHead}
-use Rattle.scop_syntax.proofs.Limits.{at_most_at}
 use Rattle.scop_roles.specs.declared.fault.Fault.{Fault}
 use Rattle.scop_roles.specs.declared.fault.Kind.TheVariants as kind
 use Rattle.scop_roles.specs.declared.formula.Meaning.TheVariants as meaning

@@ -1,7 +1,6 @@
 -- Whether an entry is named along subscripts, and along arguments.
-use Rattle.std.proofs.Common.{◌≡◌, ℕ, Bool, true, false, List, [], ◌∷◌, fold, ap, sym, ◌∙◌, refl}
-use Rattle.std.specs.Prelude.{◌||◌}
-use Rattle.std.specs.List.{list_any}
+use Rattle.scop_syntax.proofs.Common.{◌≡◌, ℕ, Bool, true, false, List, [], ◌∷◌, fold, ap, sym, ◌∙◌, refl, ◌||◌}
+use Rattle.scop_syntax.proofs.Common.{list_any}
 use Rattle.scop_expressions.specs.Op.TheVariants as op
 use Rattle.scop_roles.specs.Formula.{Formula, index, binary, with_argument}
 use Rattle.scop_units.specs.Loops.{names_entry}

@@ -1,16 +1,13 @@
 -- Names of a kernel without faults are distinct.
-use Rattle.std.proofs.Common.{◌≡◌, ℕ, ◌+◌, Bool, true, false, if◌then◌else◌, List, [], ◌∷◌, ◌++◌, length, map, refl}
-use Rattle.std.proofs.Common.{sym, ap, subst, ◌∙◌, append_assoc, append-nil, bytes_eq}
-use Rattle.std.specs.Prelude.{Option, Some, None}
-use Rattle.std.proofs.lemmas.List.{map-append}
+use Rattle.scop_syntax.proofs.Common.{◌≡◌, ℕ, ◌+◌, Bool, true, false, if◌then◌else◌, List, [], ◌∷◌, ◌++◌, length, map}
+use Rattle.scop_syntax.proofs.Common.{refl, sym, ap, subst, ◌∙◌, append_assoc, append-nil, Option, Some, None}
+use Rattle.scop_syntax.proofs.Common.{map-append, In, Tree, Declaration, trees_of}
+use Rattle.std.proofs.Common.{bytes_eq}
 use Rattle.scop_expressions.specs.Tree as expression
 use Rattle.scop_grammar.specs.Kernel.{Step, branch, loop, Item, block, empty, assign, headed, Items, none, more}
 use Rattle.scop_grammar.specs.Kernel.{Parameter, number, array, Kernel, item_elements, head_elements}
 use Rattle.scop_grammar.specs.Kernel.{parameter_elements}
 use Rattle.scop_lexer.specs.Bytes.{Text}
-use Rattle.scop_syntax.specs.Members.{In}
-use Rattle.scop_syntax.specs.Tree.{Tree, Declaration}
-use Rattle.scop_syntax.specs.View.{trees_of}
 use Rattle.scop_roles.specs.declared.formula.Meaning.{Meaning}
 use Rattle.scop_roles.specs.declared.formula.Meaning.TheVariants as meaning
 use Rattle.scop_roles.specs.Faults.{told, judged}

@@ -1,7 +1,8 @@
 -- Names that are kept in order: one stands among them where it is the name put in last, or stood there before.
-use Rattle.std.proofs.Common.{◌≡◌, Bool, true, false, ◌||◌, List, [], ◌∷◌, refl, sym, ap, ◌∙◌, bytes_eq}
-use Rattle.std.specs.List.{list_any}
-use Rattle.std.proofs.Common.{Ordering, Less, Equal, Greater}
+use Rattle.scop_syntax.proofs.Common.{◌≡◌, Bool, true, false, ◌||◌, List, [], ◌∷◌, refl, sym, ap, ◌∙◌, list_any}
+use Rattle.scop_syntax.proofs.Common.{Ordering, Less, Greater}
+use Rattle.std.proofs.Common.{bytes_eq}
+use Rattle.std.proofs.Common.{Equal}
 use Rattle.std.specs.Ordering.{is_eq, match_ordering, nat_cmp}
 use Rattle.std.specs.Cmp.Lexicographic.{slice_cmp}
 use Rattle.std.proofs.lemmas.Cmp.{nat_list_eq_equiv}

@@ -1,14 +1,13 @@
 -- The first fault of a unit by those of its parts, and what is clean where a unit is.
-use Rattle.std.proofs.Common.{◌≡◌, ℕ, suc, ◌+◌, ◌<◌, ◌≤◌, Bool, true, false, ℤ, List, [], ◌∷◌, ◌++◌, length, map}
-use Rattle.std.proofs.Common.{get_or, drop, refl, sym, ap, ◌∙◌, append_assoc, add-one, drop-cons}
-use Rattle.std.specs.Prelude.{Option, Some, None, not, nat_le, nat_lt, slice_get, is_some}
+use Rattle.scop_syntax.proofs.Common.{◌≡◌, ℕ, suc, ◌+◌, ◌<◌, ◌≤◌, Bool, true, false, ℤ, List, [], ◌∷◌, ◌++◌, length}
+use Rattle.scop_syntax.proofs.Common.{map, get_or, drop, refl, sym, ap, ◌∙◌, append_assoc, add-one, drop-cons, Option}
+use Rattle.scop_syntax.proofs.Common.{Some, None, not, nat_le, nat_lt, slice_get, is_some, Affine}
 use Rattle.scop_expressions.specs.Assign.{Assign}
 use Rattle.scop_expressions.specs.Assign.TheVariants as assigns
 use Rattle.scop_roles.specs.declared.fault.Fault.{Fault}
 use Rattle.scop_roles.specs.declared.fault.Kind.{Kind}
 use Rattle.scop_roles.specs.declared.fault.Kind.TheVariants as kind
 use Rattle.scop_roles.specs.declared.formula.Role.TheVariants as role
-use Rattle.whole_numbers.specs.Affine.{Affine}
 use Rattle.scop_roles.specs.Forms.{form}
 use Rattle.scop_roles.specs.Values.{count}
 use Rattle.scop_roles.specs.declared.formula.Formula.{Formula as CodeFormula}

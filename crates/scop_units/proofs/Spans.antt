@@ -1,6 +1,5 @@
 -- Tokens stand within the text.
-use Rattle.std.proofs.Common.{◌≡◌, ℕ, zero, suc, ◌≤◌, List, [], ◌∷◌, subst, arith}
-use Rattle.std.specs.Prelude.{slice_get, Some}
+use Rattle.scop_syntax.proofs.Common.{◌≡◌, ℕ, zero, suc, ◌≤◌, List, [], ◌∷◌, subst, arith, slice_get, Some}
 use Rattle.scop_lexer.specs.Tokens.{AreBetween}
 use Rattle.scop_lexer.specs.declared.token.Token.{Token}
 

@@ -1,15 +1,13 @@
 -- The names of a header are spelled by its tokens.
-use Rattle.std.proofs.Common.{◌≡◌, ◌∙◌, ap, subst, refl, ℕ, suc, ◌+◌, List, [], ◌∷◌, ◌++◌, length, map, append_assoc}
-use Rattle.std.proofs.Common.{arith}
-use Rattle.std.specs.Prelude.{All, slice_get, Some}
-use Rattle.std.proofs.lemmas.List.Elements.{All-nil, All-cons, All-append, All-map}
+use Rattle.scop_syntax.proofs.Common.{◌≡◌, ◌∙◌, ap, subst, refl, ℕ, suc, ◌+◌, List, [], ◌∷◌, ◌++◌, length, map}
+use Rattle.scop_syntax.proofs.Common.{append_assoc, arith, All, slice_get, Some, All-nil, All-cons, All-append, All-map}
+use Rattle.scop_syntax.proofs.Common.{Declaration}
 use Rattle.scop_expressions.specs.Token.{Token}
 use Rattle.scop_expressions.specs.Token.TheVariants as token
 use Rattle.scop_grammar.specs.Kernel.{Element, spelled, Parameter, number, array, Kernel, parameter_elements}
 use Rattle.scop_grammar.specs.Kernel.{other_parameters, kernel_elements, begins, ends, declarations, all_elements}
 use Rattle.scop_grammar.proofs.Parses.{spelled_append}
 use Rattle.scop_lexer.specs.Words.{IsName}
-use Rattle.scop_syntax.specs.Tree.{Declaration}
 use Rattle.scop_units.specs.Words.{Words}
 use Rattle.scop_units.specs.Scopes.{Scope, no_scope}
 use Rattle.scop_units.specs.Units.{declared_over}

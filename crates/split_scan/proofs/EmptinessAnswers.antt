@@ -1,11 +1,7 @@
 -- What the answer of a question means, for any number of parameters.
-use Rattle.std.proofs.Common.{◌≡◌, ℕ, zero, suc, ◌+◌, ℤ, pos, List, [], ◌∷◌, ◌++◌, length, All, arith}
-use Rattle.std.specs.Prelude.{◌≤ℤ◌}
-use Rattle.std.proofs.lemmas.Int.{ints}
-use Rattle.std.proofs.lemmas.List.Elements.{All-cons, All-head, All-nil, All-tail}
-use Rattle.whole_numbers.specs.Affine.{Affine, value_of}
-use Rattle.whole_numbers.specs.Lists.{NotNegative}
-use Rattle.whole_numbers.proofs.Lists.{not_negative-append, not_negative_all}
+use Rattle.scop_syntax.proofs.Common.{◌≡◌, ℕ, zero, suc, ◌+◌, ℤ, pos, List, [], ◌∷◌, ◌++◌, length, All, arith, ◌≤ℤ◌}
+use Rattle.scop_syntax.proofs.Common.{ints, All-cons, All-head, All-nil, All-tail, Affine, value_of, NotNegative}
+use Rattle.scop_syntax.proofs.Common.{not_negative-append, not_negative_all}
 use Rattle.affine_forms.specs.Parts.{variables_of}
 use Rattle.integer_sets.specs.Constraints.{IsSized, system_of}
 use Rattle.pip_solver.specs.Emptiness.{IsBoundedPoint}

@@ -1,13 +1,8 @@
 -- The rows of a hull that bound a variable, and what is known within its loop.
-use Rattle.std.proofs.Common.{◌≡◌, ℕ, zero, suc, ◌+◌, ◌<◌, ℤ, pos, negsuc, List, [], ◌∷◌, ◌++◌, length, take, get_or}
-use Rattle.std.proofs.Common.{map}
-use Rattle.std.proofs.Common.{refl, sym, ap, subst, ◌∙◌, All, arith}
-use Rattle.std.specs.Prelude.{◌≤ℤ◌}
-use Rattle.std.proofs.lemmas.Int.{ints}
-use Rattle.std.proofs.lemmas.List.Elements.{All-append, All-cons, All-head, All-nil, All-tail}
-use Rattle.std.proofs.Math.Seq.{get_or-append_seam}
-use Rattle.whole_numbers.specs.Affine.{Affine, widened}
-use Rattle.whole_numbers.proofs.Ring.{mul_one_left}
+use Rattle.scop_syntax.proofs.Common.{◌≡◌, ℕ, zero, suc, ◌+◌, ◌<◌, ℤ, pos, negsuc, List, [], ◌∷◌, ◌++◌, length, take}
+use Rattle.scop_syntax.proofs.Common.{get_or, map, refl, sym, ap, subst, ◌∙◌, All, arith, ◌≤ℤ◌, ints, All-append}
+use Rattle.scop_syntax.proofs.Common.{All-cons, All-head, All-nil, All-tail, get_or-append_seam, Affine, widened}
+use Rattle.scop_syntax.proofs.Common.{mul_one_left}
 use Rattle.fractions.specs.Elimination.{coefficient_of}
 use Rattle.fm_projection.specs.Alone.{place_form}
 use Rattle.fm_projection.proofs.Ranges.{place_value}

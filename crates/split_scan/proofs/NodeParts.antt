@@ -1,15 +1,9 @@
 -- Parts of a node, cut by the rows of one set after another.
-use Rattle.std.proofs.Common.{◌≡◌, ℕ, zero, suc, ◌+◌, ◌<◌, Bool, true, false, ℤ, pos, negsuc, List, [], ◌∷◌, ◌++◌}
-use Rattle.std.proofs.Common.{length, take, get_or, ◌⊎◌, inl, inr, refl, sym, ap, subst, ◌∙◌, All, arith}
-use Rattle.std.specs.Prelude.{◌≤ℤ◌, ◌<ℤ◌, not}
-use Rattle.std.specs.Bool.{IsTrue}
-use Rattle.std.proofs.lemmas.Int.{ints}
-use Rattle.std.proofs.lemmas.List.Elements.{All-append, All-cons, All-head, All-nil, All-tail}
-use Rattle.whole_numbers.specs.Affine.{Affine, complement, value_of}
-use Rattle.whole_numbers.proofs.Values.{value_of-complement}
-use Rattle.whole_numbers.proofs.Order.{le_or_lt}
-use Rattle.whole_numbers.proofs.Dot.{get_or-multiples, length-multiples}
-use Rattle.whole_numbers.proofs.Ring.{mul_neg_left, mul_one_left}
+use Rattle.scop_syntax.proofs.Common.{◌≡◌, ℕ, zero, suc, ◌+◌, ◌<◌, Bool, true, false, ℤ, pos, negsuc, List, [], ◌∷◌}
+use Rattle.scop_syntax.proofs.Common.{◌++◌, length, take, get_or, ◌⊎◌, inl, inr, refl, sym, ap, subst, ◌∙◌, All, arith}
+use Rattle.scop_syntax.proofs.Common.{◌≤ℤ◌, ◌<ℤ◌, not, IsTrue, ints, All-append, All-cons, All-head, All-nil, All-tail}
+use Rattle.scop_syntax.proofs.Common.{Affine, complement, value_of, value_of-complement, le_or_lt, get_or-multiples}
+use Rattle.scop_syntax.proofs.Common.{length-multiples, mul_neg_left, mul_one_left}
 use Rattle.fractions.specs.Elimination.{coefficient_of}
 use Rattle.integer_sets.specs.Scanned.{Scanned}
 use Rattle.plain_scan.specs.Between.{HasSmallNumbers}

@@ -1,7 +1,6 @@
 -- Outlines of the sets that stay.
-use Rattle.std.proofs.Common.{◌≡◌, ℕ, zero, suc, ◌+◌, ◌<◌, Bool, true, false, List, [], ◌∷◌, ◌++◌, length, take, get_or}
-use Rattle.std.proofs.Common.{refl, sym, ap, subst, ◌∙◌, All, arith}
-use Rattle.std.proofs.lemmas.Bool.{false≢true}
+use Rattle.scop_syntax.proofs.Common.{◌≡◌, ℕ, zero, suc, ◌+◌, ◌<◌, Bool, true, false, List, [], ◌∷◌, ◌++◌, length, take}
+use Rattle.scop_syntax.proofs.Common.{get_or, refl, sym, ap, subst, ◌∙◌, All, arith, false≢true}
 use Rattle.std.proofs.lemmas.List.{append-nil}
 use Rattle.integer_sets.specs.Scanned.{Scanned}
 use Rattle.plain_scan.specs.declared.outline.Shadow.{Shadow}

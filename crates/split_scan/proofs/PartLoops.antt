@@ -1,18 +1,12 @@
 -- The loops of a node's parts scan its sets.
-use Rattle.std.proofs.Common.{◌≡◌, ◌≢◌, ℕ, zero, suc, Bool, true, false, ℤ, pos, negsuc, List, [], ◌∷◌, ◌++◌, length}
-use Rattle.std.proofs.Common.{map}
-use Rattle.std.proofs.Common.{get_or, inl, inr, refl, sym, ap, subst, ◌∙◌, All, arith}
-use Rattle.std.specs.Prelude.{◌≤ℤ◌, ◌<ℤ◌, Option, Some, eqb}
-use Rattle.std.specs.Option.{option_eq}
-use Rattle.std.proofs.lemmas.Int.{ints}
+use Rattle.scop_syntax.proofs.Common.{◌≡◌, ◌≢◌, ℕ, zero, suc, Bool, true, false, ℤ, pos, negsuc, List, [], ◌∷◌, ◌++◌}
+use Rattle.scop_syntax.proofs.Common.{length, map, get_or, inl, inr, refl, sym, ap, subst, ◌∙◌, All, arith, ◌≤ℤ◌, ◌<ℤ◌}
+use Rattle.scop_syntax.proofs.Common.{Option, Some, eqb, option_eq, ints, All-append, All-head, All-tail, Affine}
+use Rattle.scop_syntax.proofs.Common.{value_of, widened, In, in_append}
 use Rattle.std.proofs.lemmas.List.{append-nil}
-use Rattle.std.proofs.lemmas.List.Elements.{All-append, All-head, All-tail}
 use Rattle.fm_projection.proofs.WholePoints.{one_more}
-use Rattle.whole_numbers.specs.Affine.{Affine, value_of, widened}
 use Rattle.fractions.specs.Elimination.{coefficient_of}
 use Rattle.integer_sets.specs.Scanned.{Scanned}
-use Rattle.scop_syntax.specs.Members.{In}
-use Rattle.scop_syntax.proofs.Members.{in_append}
 use Rattle.loop_tree.specs.Tree.{Trees, more, none}
 use Rattle.loop_tree.specs.Walk.{walk, walk_all}
 use Rattle.loop_tree.specs.Fits.{AreSmallForms, AreSmallTrees}

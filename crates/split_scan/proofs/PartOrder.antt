@@ -1,21 +1,13 @@
 -- Order from emptiness, and a part put among others in their order.
-use Rattle.std.proofs.Common.{◌≡◌, ℕ, zero, suc, ◌+◌, ◌<◌, Bool, true, false, ℤ, pos, negsuc, List, [], ◌∷◌, ◌++◌}
-use Rattle.std.proofs.Common.{length, take, drop}
-use Rattle.std.proofs.Common.{get_or, map, set, ◌⊎◌, inl, inr, refl, sym, ap, subst, ◌∙◌, All, arith, length-append}
-use Rattle.std.specs.Prelude.{◌-◌, ◌≤ℤ◌, ◌<ℤ◌, ◌-ℤ◌, ◌*ℤ◌}
-use Rattle.std.proofs.lemmas.Int.{ints}
-use Rattle.std.proofs.lemmas.List.{get_or-set_other, length-set}
-use Rattle.std.proofs.lemmas.List.Elements.{All-append, All-cons, All-head, All-nil, All-tail}
-use Rattle.std.proofs.lemmas.Bool.{false≢true}
-use Rattle.std.proofs.Math.Seq.{get_or-append_seam}
+use Rattle.scop_syntax.proofs.Common.{◌≡◌, ℕ, zero, suc, ◌+◌, ◌<◌, Bool, true, false, ℤ, pos, negsuc, List, [], ◌∷◌}
+use Rattle.scop_syntax.proofs.Common.{◌++◌, length, take, drop, get_or, map, set, ◌⊎◌, inl, inr, refl, sym, ap, subst}
+use Rattle.scop_syntax.proofs.Common.{◌∙◌, All, arith, length-append, ◌-◌, ◌≤ℤ◌, ◌<ℤ◌, ◌-ℤ◌, ◌*ℤ◌, ints}
+use Rattle.scop_syntax.proofs.Common.{get_or-set_other, length-set, All-append, All-cons, All-head, All-nil, All-tail}
+use Rattle.scop_syntax.proofs.Common.{false≢true, get_or-append_seam, NotNegative, zeros, Affine, value_of, widened}
+use Rattle.scop_syntax.proofs.Common.{not_negative_all, dot-set_left, dot-zeros, get_or-zeros, length-zeros}
+use Rattle.scop_syntax.proofs.Common.{mul_one_left, mul_neg_left, le_or_lt}
 use Rattle.fm_projection.proofs.WholePoints.{one_more}
 use Rattle.integer_sets.specs.Scanned.{Scanned}
-use Rattle.whole_numbers.specs.Lists.{NotNegative, zeros}
-use Rattle.whole_numbers.specs.Affine.{Affine, value_of, widened}
-use Rattle.whole_numbers.proofs.Lists.{not_negative_all}
-use Rattle.whole_numbers.proofs.Dot.{dot-set_left, dot-zeros, get_or-zeros, length-zeros}
-use Rattle.whole_numbers.proofs.Ring.{mul_one_left, mul_neg_left}
-use Rattle.whole_numbers.proofs.Order.{le_or_lt}
 use Rattle.affine_forms.specs.Parts.{variables_of}
 use Rattle.plain_scan.specs.Sets.{AllAtLeast, Keys}
 use Rattle.plain_scan.proofs.Pieces.{all_append}

@@ -1,9 +1,8 @@
 -- Values of forms with a column more, and of rows at a point of a loop.
-use Rattle.std.proofs.Common.{◌≡◌, ℕ, ◌+◌, ℤ, List, [], ◌∷◌, ◌++◌, length, map, sym, subst, All, arith, length-append}
-use Rattle.std.proofs.lemmas.List.Elements.{All-cons, All-head, All-nil, All-tail}
+use Rattle.scop_syntax.proofs.Common.{◌≡◌, ℕ, ◌+◌, ℤ, List, [], ◌∷◌, ◌++◌, length, map, sym, subst, All, arith}
+use Rattle.scop_syntax.proofs.Common.{length-append, All-cons, All-head, All-nil, All-tail, Affine, widened}
+use Rattle.scop_syntax.proofs.Common.{length-widened}
 use Rattle.fm_projection.proofs.WholePoints.{one_more}
-use Rattle.whole_numbers.specs.Affine.{Affine, widened}
-use Rattle.whole_numbers.proofs.Values.{length-widened}
 use Rattle.affine_forms.specs.Parts.{variables_of}
 use Rattle.plain_scan.specs.Sets.{AllAtLeast}
 

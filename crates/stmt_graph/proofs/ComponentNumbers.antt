@@ -1,10 +1,9 @@
 -- Components are numbered one after another.
-use Rattle.std.proofs.Common.{◌≡◌, ℕ, zero, suc, ◌<◌, Bool, true, false, List, [], refl, sym, ◌∙◌, ap, ◌⊎◌}
-use Rattle.std.proofs.Common.{inl, inr, arith, length, None, Some, nat_eq, nat_lt}
-use Rattle.std.specs.Prelude.{◌≤◌, ◌↔◌, if◌then◌else◌}
-use Rattle.std.proofs.lemmas.Bool.{false≢true, eq-eqb, le-ltb, ltb-false, eqb-true, cases_lt, cases_Bool}
-use Rattle.scop_syntax.proofs.Members.{both}
-use Rattle.whole_numbers.proofs.Tests.{nat_eq_below, if_both}
+use Rattle.scop_syntax.proofs.Common.{◌≡◌, ℕ, zero, suc, ◌<◌, Bool, true, false, List, [], refl, sym, ◌∙◌, ap, ◌⊎◌, inl}
+use Rattle.scop_syntax.proofs.Common.{inr, arith, length, None, Some, nat_eq, nat_lt, ◌≤◌, ◌↔◌, if◌then◌else◌}
+use Rattle.scop_syntax.proofs.Common.{false≢true, eq-eqb, le-ltb, ltb-false, eqb-true, cases_lt, cases_Bool, both}
+use Rattle.scop_syntax.proofs.Common.{nat_eq_below}
+use Rattle.whole_numbers.proofs.Tests.{if_both}
 use Rattle.stmt_graph.specs.Graph.{number_in, Reaches, IsNumbering}
 use Rattle.stmt_graph.specs.Closure.{IsClosure, reaches, joined, IsFree, IsNext, IsGiven}
 use Rattle.stmt_graph.proofs.Counts.{lt_or_eq, count, count_falls, found, none_counted}

@@ -1,8 +1,6 @@
 -- Counting the places at which something holds; of two numbers one is less, or they are equal.
-use Rattle.std.proofs.Common.{◌≡◌, ℕ, zero, suc, ◌+◌, ◌<◌, Bool, true, false, refl, sym, ◌∙◌, ap, ◌⊎◌}
-use Rattle.std.proofs.Common.{inl, inr, arith}
-use Rattle.std.specs.Prelude.{◌≤◌}
-use Rattle.std.proofs.lemmas.Bool.{cases_lt, cases_Bool}
+use Rattle.scop_syntax.proofs.Common.{◌≡◌, ℕ, zero, suc, ◌+◌, ◌<◌, Bool, true, false, refl, sym, ◌∙◌, ap, ◌⊎◌, inl, inr}
+use Rattle.scop_syntax.proofs.Common.{arith, ◌≤◌, cases_lt, cases_Bool}
 
 pub lt_or_eq : (a b : ℕ) → a ≤ b → (a < b) ⊎ (a ≡ b)
 lt_or_eq a b h = elim (cases_lt a b) [

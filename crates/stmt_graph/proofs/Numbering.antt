@@ -1,9 +1,6 @@
 -- There is one numbering of the components.
-use Rattle.std.proofs.Common.{◌≡◌, ℕ, zero, suc, ◌<◌, pos, List, [], ◌∷◌, refl, sym, ◌∙◌, ap₂, subst, ◌⊎◌}
-use Rattle.std.proofs.Common.{inl, inr, arith, length}
-use Rattle.std.specs.Prelude.{◌≤◌}
-use Rattle.std.proofs.lemmas.Int.{ints}
-use Rattle.whole_numbers.proofs.Order.{le_or_lt}
+use Rattle.scop_syntax.proofs.Common.{◌≡◌, ℕ, zero, suc, ◌<◌, pos, List, [], ◌∷◌, refl, sym, ◌∙◌, ap₂, subst, ◌⊎◌, inl}
+use Rattle.scop_syntax.proofs.Common.{inr, arith, length, ◌≤◌, ints, le_or_lt}
 use Rattle.stmt_graph.specs.Graph.{number_in}
 use Rattle.stmt_graph.specs.Graph.{IsNumbering, Reaches}
 use Rattle.stmt_graph.proofs.Counts.{lt_or_eq}

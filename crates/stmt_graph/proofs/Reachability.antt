@@ -1,12 +1,8 @@
 -- Chains of edges, and what is reached by them.
-use Rattle.std.proofs.Common.{get_or, ◌≡◌, ℕ, zero, suc, ◌<◌, Bool, true, false, List, [], ◌∷◌, ◌++◌, refl}
-use Rattle.std.proofs.Common.{sym, ◌∙◌, ap, subst, ◌⊎◌, inl, inr, arith, length, set, All, None, Some, drop}
-use Rattle.std.proofs.Common.{drop-cons, add-one, ◌+◌}
-use Rattle.std.proofs.lemmas.List.{length-set, get_or-set_same, get_or-set_other}
-use Rattle.std.proofs.lemmas.List.Elements.{All-head, All-tail, All-same, All-cons}
-use Rattle.std.proofs.lemmas.Bool.{false≢true, cases_lt}
-use Rattle.whole_numbers.proofs.Entries.{get_or_same}
-use Rattle.scop_syntax.specs.Members.{In}
+use Rattle.scop_syntax.proofs.Common.{get_or, ◌≡◌, ℕ, zero, suc, ◌<◌, Bool, true, false, List, [], ◌∷◌, ◌++◌, refl, sym}
+use Rattle.scop_syntax.proofs.Common.{◌∙◌, ap, subst, ◌⊎◌, inl, inr, arith, length, set, All, None, Some, drop}
+use Rattle.scop_syntax.proofs.Common.{drop-cons, add-one, ◌+◌, length-set, get_or-set_same, get_or-set_other, All-head}
+use Rattle.scop_syntax.proofs.Common.{All-tail, All-same, All-cons, false≢true, cases_lt, get_or_same, In}
 use Rattle.stmt_graph.specs.Graph.{AreWithin, IsChain, Reaches}
 use Rattle.stmt_graph.specs.Closure.{at, Leads, IsReached, IsClosure, AreSquare}
 

@@ -1,16 +1,12 @@
 -- A pivot over a buffer, row by row.
-use Rattle.std.proofs.Common.{◌≡◌, ℕ, zero, suc, ◌+◌, ◌*◌, ◌≤◌, ℤ, pos, ◌<ℤ◌, Bool, true, false, List, ◌∷◌, ◌++◌}
-use Rattle.std.proofs.Common.{length, get_or, drop, take, refl, subst, ap, sym, ◌∙◌, arith, append_assoc}
+use Rattle.whole_numbers.proofs.Common.{◌≡◌, ℕ, zero, suc, ◌+◌, ◌*◌, ◌≤◌, ℤ, pos, ◌<ℤ◌, Bool, true, false, List, ◌∷◌}
+use Rattle.whole_numbers.proofs.Common.{◌++◌, length, get_or, drop, take, refl, subst, ap, sym, ◌∙◌, arith}
+use Rattle.whole_numbers.proofs.Common.{append_assoc, Result, Ok, Err, nat_eq, ints, length-take-le, length-drop}
+use Rattle.whole_numbers.proofs.Common.{take-append-drop, suc-mul, take-append_seam, drop-append_seam, lowest}
+use Rattle.whole_numbers.proofs.Common.{mul_positive}
 use Rattle.std.proofs.Common.{drop-drop}
-use Rattle.std.specs.Prelude.{Result, Ok, Err, nat_eq}
-use Rattle.std.proofs.lemmas.Int.{ints}
-use Rattle.std.proofs.lemmas.List.{length-take-le, length-drop, take-append-drop}
 use Rattle.std.proofs.lemmas.Slice.{take-put_mid, drop-put_mid}
-use Rattle.std.proofs.Math.Nat.{suc-mul}
 use borrow.Rule.Slice.PartMut.{put_mid, same_len_mid}
-use Rattle.std.proofs.Math.Seq.{take-append_seam, drop-append_seam}
-use Rattle.whole_numbers.specs.Content.{lowest}
-use Rattle.whole_numbers.proofs.Order.{mul_positive}
 use Rattle.affine_forms.specs.Wide.{Wide}
 use Rattle.affine_forms.specs.Checked.{product_of, ◌>>=◌}
 use Rattle.affine_forms.proofs.CheckedSteps.{chain-ok, product_of-ok}

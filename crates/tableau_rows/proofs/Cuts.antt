@@ -1,4 +1,10 @@
 -- A cut that is not too wide keeps each whole point.
+use Rattle.whole_numbers.proofs.Common.{refl, ◌≡◌, ℕ, zero, suc, ◌+◌, ◌<◌, ℤ, pos, neg_ℤ, ◌+ℤ◌, ◌-ℤ◌, ◌*ℤ◌, ◌≤ℤ◌, ◌<ℤ◌}
+use Rattle.whole_numbers.proofs.Common.{Option, Some, None, List, [], ◌∷◌, ◌++◌, length, get_or, subst, ap, ap₂, sym}
+use Rattle.whole_numbers.proofs.Common.{◌∙◌, arith, Ok, ints, dot, zeros, NotNegative, floor, remainder, IsFloor}
+use Rattle.whole_numbers.proofs.Common.{floor_is, mul_comm_int, mul_zero_left, mul_sub_left, mul_sub_right}
+use Rattle.whole_numbers.proofs.Common.{mul_distrib_left, mul_assoc_int, mul_neg_left, mul_not_negative, dot-set_left}
+use Rattle.whole_numbers.proofs.Common.{dot-nil}
 use Rattle.std.proofs.Math.ListN.{length-set}
 use Rattle.tableau_rows.specs.Rows.{Row, row_of, At}
 use Rattle.tableau_rows.specs.Moves.{cut_entries, cut_entries_run, tied, lowest_row, cut_run}
@@ -7,18 +13,7 @@ use Rattle.tableau_rows.proofs.PivotMoves.{lowered_sized}
 use Rattle.tableau_rows.proofs.Pivots.{lowered_at}
 use Rattle.tableau_rows.proofs.LeastPoints.{dot_apart}
 use Rattle.tableau_rows.proofs.Lowest.{lowest_is}
-use Rattle.std.proofs.Common.{refl, ◌≡◌, ℕ, zero, suc, ◌+◌, ◌<◌, ℤ, pos, neg_ℤ, ◌+ℤ◌, ◌-ℤ◌, ◌*ℤ◌, ◌≤ℤ◌, ◌<ℤ◌, Option}
-use Rattle.std.proofs.Common.{Some, None, List, [], ◌∷◌, ◌++◌, length, get_or, subst, ap, ap₂, sym, ◌∙◌, arith}
-use Rattle.std.specs.Prelude.{Ok}
-use Rattle.std.proofs.lemmas.Int.{ints}
-use Rattle.whole_numbers.specs.Lists.{dot, zeros, NotNegative}
-use Rattle.whole_numbers.specs.Floor.{floor, remainder}
-use Rattle.whole_numbers.specs.Division.{IsFloor}
-use Rattle.whole_numbers.proofs.Floors.{floor_is}
-use Rattle.whole_numbers.proofs.Ring.{mul_comm_int, mul_zero_left, mul_sub_left, mul_sub_right, mul_distrib_left}
-use Rattle.whole_numbers.proofs.Ring.{mul_assoc_int, mul_neg_left}
-use Rattle.whole_numbers.proofs.Order.{mul_not_negative, factor_up}
-use Rattle.whole_numbers.proofs.Dot.{dot-set_left, dot-nil}
+use Rattle.whole_numbers.proofs.Order.{factor_up}
 use Rattle.affine_forms.specs.Checked.{difference_of, ◌>>=◌}
 use Rattle.affine_forms.proofs.CheckedSteps.{difference_of-ok, chain-ok}
 

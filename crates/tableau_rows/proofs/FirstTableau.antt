@@ -1,19 +1,12 @@
 -- What stands holds of a problem's tableau at first.
-use Rattle.std.proofs.Common.{◌↔◌, ◌<◌, ◌≡◌, ◌≢◌, ℕ, zero, suc, ◌+◌, ◌≤◌, ℤ, pos, ◌≤ℤ◌, ◌<ℤ◌, inl, inr, List, [], ◌∷◌}
-use Rattle.std.proofs.Common.{◌++◌, length, set, get_or, map, drop, take, refl, subst, ap, ap₂, sym, ◌∙◌, arith}
-use Rattle.std.proofs.Common.{length-append, append_assoc, drop-cons}
-use Rattle.std.proofs.lemmas.Int.{ints, by_lt_z}
-use Rattle.std.proofs.lemmas.List.{length-take-le, get_or-set_same, get_or-set_other, take-append-drop, length-drop}
+use Rattle.whole_numbers.proofs.Common.{◌↔◌, ◌<◌, ◌≡◌, ◌≢◌, ℕ, zero, suc, ◌+◌, ◌≤◌, ℤ, pos, ◌≤ℤ◌, ◌<ℤ◌, inl, inr, List}
+use Rattle.whole_numbers.proofs.Common.{[], ◌∷◌, ◌++◌, length, set, get_or, map, drop, take, refl, subst, ap, ap₂, sym}
+use Rattle.whole_numbers.proofs.Common.{◌∙◌, arith, length-append, append_assoc, drop-cons, ints, by_lt_z}
+use Rattle.whole_numbers.proofs.Common.{length-take-le, get_or-set_same, get_or-set_other, take-append-drop}
+use Rattle.whole_numbers.proofs.Common.{length-drop, take-append_seam, drop-append_seam, dite, ℕ_discrete}
+use Rattle.whole_numbers.proofs.Common.{LexNotNegative, not_negative-append, dot, zeros, NotNegative, Affine, value_of}
+use Rattle.whole_numbers.proofs.Common.{mul_one_left, mul_one_right, length-zeros, dot-unit, dot-append, get_or-zeros}
 use Rattle.std.proofs.Math.ListN.{length-set}
-use Rattle.std.proofs.Math.Seq.{take-append_seam, drop-append_seam}
-use mathlib.Core.Logic.{dite}
-use native.Mathlib.Decide.{ℕ_discrete}
-use Rattle.whole_numbers.specs.Lexicographic.{LexNotNegative}
-use Rattle.whole_numbers.proofs.Lists.{not_negative-append}
-use Rattle.whole_numbers.specs.Lists.{dot, zeros, NotNegative}
-use Rattle.whole_numbers.specs.Affine.{Affine, value_of}
-use Rattle.whole_numbers.proofs.Ring.{mul_one_left, mul_one_right}
-use Rattle.whole_numbers.proofs.Dot.{length-zeros, dot-unit, dot-append, get_or-zeros}
 use Rattle.tableau_rows.specs.Rows.{Row, entry, At, Means, Sized}
 use Rattle.tableau_rows.specs.Solutions.{IsSolution, IsColumn, HasColumn, IsTableau}
 use Rattle.tableau_rows.specs.Moves.{row_at, unit_row}

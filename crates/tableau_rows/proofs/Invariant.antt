@@ -1,8 +1,7 @@
 -- What the moves keep of a tableau, beside its solutions: the proofs' own words.
-use Rattle.std.specs.Prelude.{◌≡◌, ℕ, ◌<◌, ◌≤◌, ◌+◌, take, ℤ, pos, ◌+ℤ◌, ◌-ℤ◌, ◌*ℤ◌, ◌<ℤ◌, List, [], ◌∷◌, ◌++◌, length}
-use Rattle.std.specs.Prelude.{get_or, set, map, drop, ⊤}
-use Rattle.whole_numbers.specs.Lexicographic.{LexNotNegative}
-use Rattle.whole_numbers.specs.Lists.{dot, multiples, zeros, NotNegative}
+use Rattle.whole_numbers.proofs.Common.{◌≡◌, ℕ, ◌<◌, ◌≤◌, ◌+◌, take, ℤ, pos, ◌+ℤ◌, ◌-ℤ◌, ◌*ℤ◌, ◌<ℤ◌, List, [], ◌∷◌}
+use Rattle.whole_numbers.proofs.Common.{◌++◌, length, get_or, set, map, drop, ⊤, LexNotNegative, dot, multiples, zeros}
+use Rattle.whole_numbers.proofs.Common.{NotNegative}
 use Rattle.tableau_rows.specs.Rows.{Row, row_of, entry, Means, Sized}
 use Rattle.tableau_rows.specs.Solutions.{IsSolution}
 

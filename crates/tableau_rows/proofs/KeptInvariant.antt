@@ -1,16 +1,11 @@
 -- Each move keeps what stands, and what stands makes a leaf the least point and an empty node right.
-use Rattle.std.proofs.Common.{◌≡◌, ℕ, zero, suc, ◌+◌, ◌<◌, ◌≤◌, ℤ, pos, ◌≤ℤ◌, ◌<ℤ◌, Option, Some, List, [], ◌∷◌}
-use Rattle.std.proofs.Common.{◌++◌, length, get_or, drop, take, refl, subst, ap, sym, ◌∙◌, arith, length-append}
-use Rattle.std.specs.Prelude.{Ok}
-use Rattle.std.proofs.lemmas.Int.{ints}
-use Rattle.std.proofs.Math.Seq.{drop-append_seam}
-use Rattle.std.proofs.lemmas.List.{length-drop, drop-append-le, take-append-le, length-take-le}
+use Rattle.whole_numbers.proofs.Common.{◌≡◌, ℕ, zero, suc, ◌+◌, ◌<◌, ◌≤◌, ℤ, pos, ◌≤ℤ◌, ◌<ℤ◌, Option, Some, List, []}
+use Rattle.whole_numbers.proofs.Common.{◌∷◌, ◌++◌, length, get_or, drop, take, refl, subst, ap, sym, ◌∙◌, arith}
+use Rattle.whole_numbers.proofs.Common.{length-append, Ok, ints, drop-append_seam, length-drop, take-append-le}
+use Rattle.whole_numbers.proofs.Common.{length-take-le, dot, zeros, NotNegative, LexLe, LexNotNegative, mul_comm_int}
+use Rattle.whole_numbers.proofs.Common.{mul_zero_left, mul_not_negative, cancel_le, cancel_eq, length-zeros}
+use Rattle.std.proofs.lemmas.List.{drop-append-le}
 use Rattle.whole_numbers.proofs.Lists.{dot_not_positive, not_negative-at}
-use Rattle.whole_numbers.specs.Lists.{dot, zeros, NotNegative}
-use Rattle.whole_numbers.specs.Lexicographic.{LexLe, LexNotNegative}
-use Rattle.whole_numbers.proofs.Ring.{mul_comm_int, mul_zero_left}
-use Rattle.whole_numbers.proofs.Order.{mul_not_negative, cancel_le, cancel_eq}
-use Rattle.whole_numbers.proofs.Dot.{length-zeros}
 use Rattle.tableau_rows.specs.Rows.{Row, entry, Means, Sized}
 use Rattle.tableau_rows.specs.Moves.{rows_run, row_at, pivot_run, cut_run, cut_entries}
 use Rattle.tableau_rows.specs.Solutions.{IsSolution, IsTied}

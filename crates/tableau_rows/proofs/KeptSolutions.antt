@@ -1,19 +1,13 @@
 -- A pivot and a cut keep a tableau and its whole solutions, in both directions.
-use Rattle.std.proofs.Common.{◌≡◌, ◌≢◌, ℕ, zero, suc, ◌+◌, ◌-◌, ◌<◌, ◌≤◌, ℤ, pos, ◌-ℤ◌, ◌*ℤ◌, ◌<ℤ◌, Option}
-use Rattle.std.proofs.Common.{List, [], ◌∷◌, ◌++◌, length, set, get_or, take, drop, refl, subst, ap, sym, ◌∙◌, arith}
-use Rattle.std.proofs.Common.{append_assoc, length-append}
-use Rattle.std.specs.Prelude.{Ok}
-use Rattle.std.proofs.lemmas.Int.{ints}
-use Rattle.std.proofs.lemmas.List.{set-append_left, length-take-le, take-append-drop}
+use Rattle.whole_numbers.proofs.Common.{◌≡◌, ◌≢◌, ℕ, zero, suc, ◌+◌, ◌-◌, ◌<◌, ◌≤◌, ℤ, pos, ◌-ℤ◌, ◌*ℤ◌, ◌<ℤ◌, Option}
+use Rattle.whole_numbers.proofs.Common.{List, [], ◌∷◌, ◌++◌, length, set, get_or, take, drop, refl, subst, ap, sym, ◌∙◌}
+use Rattle.whole_numbers.proofs.Common.{arith, append_assoc, length-append, Ok, ints, length-take-le, take-append-drop}
+use Rattle.whole_numbers.proofs.Common.{dite, ℕ_discrete, not_negative-append, dot, NotNegative, mul_comm_int}
+use Rattle.whole_numbers.proofs.Common.{mul_zero_left, mul_zero_right, mul_assoc_int, mul_distrib_left, mul_sub_left}
+use Rattle.whole_numbers.proofs.Common.{left_comm, cancel_eq, dot-set, get_or-multiples}
+use Rattle.std.proofs.lemmas.List.{set-append_left}
 use Rattle.std.proofs.Math.ListN.{length-set}
-use mathlib.Core.Logic.{dite}
-use native.Mathlib.Decide.{ℕ_discrete}
-use Rattle.whole_numbers.proofs.Lists.{dot_same, not_negative-at, not_negative-append, not_negative-set}
-use Rattle.whole_numbers.specs.Lists.{dot, NotNegative}
-use Rattle.whole_numbers.proofs.Ring.{mul_comm_int, mul_zero_left, mul_zero_right, mul_assoc_int, mul_distrib_left}
-use Rattle.whole_numbers.proofs.Ring.{mul_sub_left, left_comm}
-use Rattle.whole_numbers.proofs.Order.{cancel_eq}
-use Rattle.whole_numbers.proofs.Dot.{dot-set, get_or-multiples}
+use Rattle.whole_numbers.proofs.Lists.{dot_same, not_negative-at, not_negative-set}
 use Rattle.tableau_rows.specs.Rows.{Row, entry, At, Means, Sized}
 use Rattle.tableau_rows.specs.Moves.{row_at, pivot_run, rows_run, cut_run, cut_entries}
 use Rattle.tableau_rows.specs.Solutions.{IsSolution, IsColumn, HasColumn, IsTableau, HaveSameSolutions, IsPlaced}

@@ -1,16 +1,11 @@
 -- Columns whose first number that is not 0 is positive: a pivot keeps them, and with them the point at 0 is the least.
-use Rattle.std.proofs.Common.{◌≡◌, ◌≢◌, ℕ, zero, suc, ◌+◌, ◌<◌, ◌≤◌, ℤ, pos, ◌+ℤ◌, ◌-ℤ◌, ◌*ℤ◌, ◌≤ℤ◌, ◌<ℤ◌, ◌⊎◌, inl}
-use Rattle.std.proofs.Common.{inr, List, [], ◌∷◌, ◌++◌, length, get_or, map, drop, refl, subst, ap, ap₂, sym, ◌∙◌}
-use Rattle.std.proofs.Common.{arith}
-use Rattle.std.proofs.lemmas.Int.{ints, by_lt_z}
-use Rattle.std.proofs.lemmas.List.{get_or-set_same, get_or-set_other}
-use Rattle.whole_numbers.specs.Lists.{dot, zeros, NotNegative}
-use Rattle.whole_numbers.specs.Lexicographic.{LexLe, LexNotNegative}
-use Rattle.whole_numbers.proofs.Ring.{mul_sub_left, mul_zero_left, mul_zero_right, mul_comm_int}
-use Rattle.whole_numbers.proofs.Order.{mul_positive, mul_not_negative, mul_opposite, cancel_eq, cancel_lt}
-use Rattle.whole_numbers.proofs.Dot.{dot-nil, get_or-multiples}
-use mathlib.Core.Logic.{dite}
-use native.Mathlib.Decide.{ℕ_discrete}
+use Rattle.whole_numbers.proofs.Common.{◌≡◌, ◌≢◌, ℕ, zero, suc, ◌+◌, ◌<◌, ◌≤◌, ℤ, pos, ◌+ℤ◌, ◌-ℤ◌, ◌*ℤ◌, ◌≤ℤ◌, ◌<ℤ◌}
+use Rattle.whole_numbers.proofs.Common.{◌⊎◌, inl, inr, List, [], ◌∷◌, ◌++◌, length, get_or, map, drop, refl, subst, ap}
+use Rattle.whole_numbers.proofs.Common.{ap₂, sym, ◌∙◌, arith, ints, by_lt_z, get_or-set_same, get_or-set_other, dot}
+use Rattle.whole_numbers.proofs.Common.{zeros, NotNegative, LexLe, LexNotNegative, mul_sub_left, mul_zero_left}
+use Rattle.whole_numbers.proofs.Common.{mul_zero_right, mul_comm_int, mul_positive, mul_not_negative, cancel_eq}
+use Rattle.whole_numbers.proofs.Common.{dot-nil, get_or-multiples, dite, ℕ_discrete}
+use Rattle.whole_numbers.proofs.Order.{mul_opposite, cancel_lt}
 use Rattle.tableau_rows.specs.Rows.{Row, entry, Means, Sized}
 use Rattle.tableau_rows.proofs.Invariant.{column, crossed, combined, Pivoted, compared}
 use Rattle.tableau_rows.proofs.Pivots.{crossed-entry, length-crossed}

@@ -1,11 +1,10 @@
 -- The runs of rows in the parts that the code takes: a row combined in place.
-use Rattle.std.proofs.Common.{◌≡◌, ℕ, zero, suc, ◌+◌, ◌<◌, ℤ, pos, List, [], ◌∷◌, ◌++◌, length, set, get_or, drop, take}
-use Rattle.std.proofs.Common.{refl, subst, ap, sym, ◌∙◌, arith, add-one, drop-cons}
-use Rattle.std.specs.Prelude.{Result, Ok, Err}
+use Rattle.whole_numbers.proofs.Common.{◌≡◌, ℕ, zero, suc, ◌+◌, ◌<◌, ℤ, pos, List, [], ◌∷◌, ◌++◌, length, set, get_or}
+use Rattle.whole_numbers.proofs.Common.{drop, take, refl, subst, ap, sym, ◌∙◌, arith, add-one, drop-cons, Result, Ok}
+use Rattle.whole_numbers.proofs.Common.{Err, take-append-drop, length-take-le}
 use Rattle.affine_forms.specs.Wide.{Wide}
 use Rattle.affine_forms.specs.Checked.{product_of, cross_of, ◌>>=◌}
 use Rattle.affine_forms.specs.WideGives.{Becomes}
-use Rattle.std.proofs.lemmas.List.{take-append-drop, length-take-le}
 use Rattle.tableau_rows.specs.Rows.{entry}
 use Rattle.tableau_rows.specs.Moves.{crossed_run, entries_run, line_run, line_row}
 

@@ -1,12 +1,7 @@
 -- A row in lowest terms is the row with a positive common factor left out.
-use Rattle.std.proofs.Common.{ℕ, zero, suc, ℤ, pos, ◌<ℤ◌, ◌∷◌, arith}
-use Rattle.std.proofs.lemmas.Int.{ints}
-use Rattle.std.proofs.lemmas.List.Elements.{All-head, All-tail}
-use Rattle.whole_numbers.specs.Content.{content}
-use Rattle.whole_numbers.specs.Divisors.{Divides}
-use Rattle.whole_numbers.proofs.Contents.{content_divides}
+use Rattle.whole_numbers.proofs.Common.{ℕ, zero, suc, ℤ, pos, ◌<ℤ◌, ◌∷◌, arith, ints, All-head, All-tail, content}
+use Rattle.whole_numbers.proofs.Common.{Divides, content_divides, mul_zero_left}
 use Rattle.whole_numbers.proofs.Lowest.{exact_floor, exact_floors}
-use Rattle.whole_numbers.proofs.Ring.{mul_zero_left}
 use Rattle.tableau_rows.specs.Rows.{Row}
 use Rattle.tableau_rows.specs.Moves.{lowest_row}
 use Rattle.tableau_rows.proofs.Invariant.{IsLowered}

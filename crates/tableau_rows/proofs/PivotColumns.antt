@@ -1,14 +1,9 @@
 -- The column that a pivot takes is the least among those with a positive entry in the pivot row.
-use Rattle.std.proofs.Common.{◌≡◌, ◌≢◌, ℕ, zero, suc, ◌+◌, ◌<◌, ℤ, pos, negsuc, ◌+ℤ◌, ◌-ℤ◌, ◌*ℤ◌, ◌≤ℤ◌, ◌<ℤ◌, inl, inr}
-use Rattle.std.proofs.Common.{Bool, true, false, Option, Some, None, List, [], ◌∷◌, take, refl, subst, ap, sym, ◌∙◌}
-use Rattle.std.proofs.Common.{arith}
-use Rattle.std.specs.Prelude.{Ok, if◌then◌else◌}
-use Rattle.std.proofs.lemmas.Int.{ints}
-use mathlib.Core.Logic.{dite}
-use native.Mathlib.Decide.{ℕ_discrete}
-use Rattle.whole_numbers.specs.Lexicographic.{LexNotNegative}
-use Rattle.whole_numbers.proofs.Ring.{mul_comm_int, mul_zero_left, mul_zero_right, mul_sub_left, left_comm}
-use Rattle.whole_numbers.proofs.Order.{mul_positive, mul_not_negative, cancel_eq, positive_factor}
+use Rattle.whole_numbers.proofs.Common.{◌≡◌, ◌≢◌, ℕ, zero, suc, ◌+◌, ◌<◌, ℤ, pos, negsuc, ◌+ℤ◌, ◌-ℤ◌, ◌*ℤ◌, ◌≤ℤ◌, ◌<ℤ◌}
+use Rattle.whole_numbers.proofs.Common.{inl, inr, Bool, true, false, Option, Some, None, List, [], ◌∷◌, take, refl}
+use Rattle.whole_numbers.proofs.Common.{subst, ap, sym, ◌∙◌, arith, Ok, if◌then◌else◌, ints, dite, ℕ_discrete}
+use Rattle.whole_numbers.proofs.Common.{LexNotNegative, mul_comm_int, mul_zero_left, mul_zero_right, mul_sub_left}
+use Rattle.whole_numbers.proofs.Common.{left_comm, mul_positive, mul_not_negative, cancel_eq, positive_factor}
 use Rattle.affine_forms.specs.Checked.{product_of, ◌>>=◌}
 use Rattle.affine_forms.proofs.CheckedSteps.{product_of-ok, chain-ok}
 use Rattle.tableau_rows.specs.Rows.{Row, entry}

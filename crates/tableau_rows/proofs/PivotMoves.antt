@@ -1,14 +1,10 @@
 -- A pivot that is not too wide combines each row with the pivot row.
-use Rattle.std.proofs.Common.{◌≡◌, ℕ, zero, suc, ◌+◌, ◌<◌, ℤ, pos, ◌-ℤ◌, ◌*ℤ◌, ◌<ℤ◌, List, [], ◌∷◌, length, set, refl}
-use Rattle.std.proofs.Common.{subst, ap, ap₂, sym, ◌∙◌, arith}
-use Rattle.std.specs.Prelude.{Ok, Bool, true, false, nat_eq, if◌then◌else◌}
-use Rattle.std.proofs.lemmas.Int.{ints}
-use Rattle.std.proofs.lemmas.Bool.{eqb-true}
+use Rattle.whole_numbers.proofs.Common.{◌≡◌, ℕ, zero, suc, ◌+◌, ◌<◌, ℤ, pos, ◌-ℤ◌, ◌*ℤ◌, ◌<ℤ◌, List, [], ◌∷◌, length}
+use Rattle.whole_numbers.proofs.Common.{set, refl, subst, ap, ap₂, sym, ◌∙◌, arith, Ok, Bool, true, false, nat_eq}
+use Rattle.whole_numbers.proofs.Common.{if◌then◌else◌, ints, eqb-true, multiples, zeros, mul_comm_int, mul_zero_right}
+use Rattle.whole_numbers.proofs.Common.{mul_one_right, mul_zero_left, mul_positive, length-multiples}
 use Rattle.std.proofs.Math.ListN.{length-set}
-use Rattle.whole_numbers.specs.Lists.{multiples, zeros}
-use Rattle.whole_numbers.proofs.Ring.{mul_comm_int, mul_zero_right, mul_one_right, mul_zero_left}
-use Rattle.whole_numbers.proofs.Order.{mul_positive, cancel_lt}
-use Rattle.whole_numbers.proofs.Dot.{length-multiples}
+use Rattle.whole_numbers.proofs.Order.{cancel_lt}
 use Rattle.affine_forms.specs.Checked.{product_of, cross_of, ◌>>=◌}
 use Rattle.affine_forms.proofs.CheckedSteps.{product_of-ok, chain-ok, cross_of-exact}
 use Rattle.tableau_rows.specs.Rows.{Row, row_of, entry, Sized}

@@ -1,16 +1,12 @@
 -- What a pivot keeps, of rows that are combined with one row and brought to lower terms.
-use Rattle.std.proofs.Common.{◌≡◌, ℕ, zero, suc, ◌<◌, ℤ, pos, ◌+ℤ◌, ◌-ℤ◌, ◌*ℤ◌, List, [], ◌∷◌, ◌++◌, length, set}
-use Rattle.std.proofs.Common.{get_or, drop, refl, subst, ap, sym, ◌∙◌, arith}
-use Rattle.std.proofs.lemmas.Int.{ints}
-use Rattle.std.proofs.lemmas.List.{get_or-set_same, drop-set-lt}
+use Rattle.whole_numbers.proofs.Common.{◌≡◌, ℕ, zero, suc, ◌<◌, ℤ, pos, ◌+ℤ◌, ◌-ℤ◌, ◌*ℤ◌, List, [], ◌∷◌, ◌++◌, length}
+use Rattle.whole_numbers.proofs.Common.{set, get_or, drop, refl, subst, ap, sym, ◌∙◌, arith, ints, get_or-set_same, dot}
+use Rattle.whole_numbers.proofs.Common.{multiples, multiples-append, mul_distrib_left, mul_sub_left, mul_sub_right}
+use Rattle.whole_numbers.proofs.Common.{mul_assoc_int, left_comm, mul_comm_int, cancel_eq, dot-set, dot-set_left}
+use Rattle.whole_numbers.proofs.Common.{dot-multiples, dot-multiples_right, length-multiples, get_or-multiples}
+use Rattle.std.proofs.lemmas.List.{drop-set-lt}
 use Rattle.std.proofs.Math.ListN.{length-set}
-use Rattle.whole_numbers.specs.Lists.{dot, multiples}
-use Rattle.whole_numbers.proofs.Lists.{multiples-append, drop-multiples}
-use Rattle.whole_numbers.proofs.Ring.{mul_distrib_left, mul_sub_left, mul_sub_right, mul_assoc_int, left_comm}
-use Rattle.whole_numbers.proofs.Ring.{mul_comm_int}
-use Rattle.whole_numbers.proofs.Order.{cancel_eq}
-use Rattle.whole_numbers.proofs.Dot.{dot-set, dot-set_left, dot-multiples, dot-multiples_right, length-multiples}
-use Rattle.whole_numbers.proofs.Dot.{get_or-multiples}
+use Rattle.whole_numbers.proofs.Lists.{drop-multiples}
 use Rattle.tableau_rows.specs.Rows.{Row, entry, At, Means, Sized}
 use Rattle.tableau_rows.proofs.Invariant.{crossed, combined, IsLowered, Pivoted, before, values, Faithful}
 

@@ -1,7 +1,6 @@
 -- Lists of values, and the rows that give them.
-use Rattle.std.proofs.Common.{◌≡◌, ℕ, zero, suc, ◌<◌, ◌≤◌, ℤ, pos, ◌<ℤ◌, List, [], ◌∷◌, ◌++◌, length, get_or, take}
-use Rattle.std.proofs.Common.{arith}
-use Rattle.whole_numbers.specs.Lists.{NotNegative}
+use Rattle.whole_numbers.proofs.Common.{◌≡◌, ℕ, zero, suc, ◌<◌, ◌≤◌, ℤ, pos, ◌<ℤ◌, List, [], ◌∷◌, ◌++◌, length, get_or}
+use Rattle.whole_numbers.proofs.Common.{take, arith, NotNegative}
 use Rattle.tableau_rows.specs.Rows.{Row, At, Means, Sized}
 use Rattle.tableau_rows.specs.Moves.{row_at}
 

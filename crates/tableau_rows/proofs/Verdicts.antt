@@ -1,20 +1,11 @@
 -- A run without parameters that ends says what is so.
-use Rattle.std.proofs.Common.{◌≡◌, ◌≢◌, ℕ, zero, suc, ◌+◌, ◌<◌, ◌≤◌, ℤ, pos, ◌-ℤ◌, ◌≤ℤ◌, ◌<ℤ◌, Bool, true, false}
-use Rattle.std.proofs.Common.{Option, Some, None, List, [], ◌∷◌, ◌++◌, length, get_or, drop, take, refl, subst, ap, sym}
-use Rattle.std.proofs.Common.{◌∙◌, arith}
-use Rattle.std.specs.Prelude.{Result, Ok, Err, if◌then◌else◌}
-use Rattle.std.proofs.lemmas.Int.{ints}
-use Rattle.std.proofs.lemmas.List.{length-take-le, take-append-drop}
-use mathlib.Core.Logic.{dite}
-use native.Mathlib.Decide.{ℕ_discrete}
-use Rattle.whole_numbers.specs.Floor.{remainder}
-use Rattle.whole_numbers.proofs.Dot.{dot-nil}
-use Rattle.whole_numbers.specs.Lists.{dot, zeros}
-use Rattle.whole_numbers.specs.Affine.{Affine}
-use Rattle.whole_numbers.specs.Division.{IsFloor}
-use Rattle.whole_numbers.specs.Lexicographic.{LexLe}
-use Rattle.whole_numbers.proofs.Ring.{mul_one_right, mul_zero_left, mul_zero_right}
-use Rattle.whole_numbers.proofs.Lexicographic.{LexLess-from_le, LexLess-irrefl}
+use Rattle.whole_numbers.proofs.Common.{◌≡◌, ◌≢◌, ℕ, zero, suc, ◌+◌, ◌<◌, ◌≤◌, ℤ, pos, ◌-ℤ◌, ◌≤ℤ◌, ◌<ℤ◌, Bool, true}
+use Rattle.whole_numbers.proofs.Common.{false, Option, Some, None, List, [], ◌∷◌, ◌++◌, length, get_or, drop, take}
+use Rattle.whole_numbers.proofs.Common.{refl, subst, ap, sym, ◌∙◌, arith, Result, Ok, Err, if◌then◌else◌, ints}
+use Rattle.whole_numbers.proofs.Common.{length-take-le, take-append-drop, dite, ℕ_discrete, remainder, dot-nil, dot}
+use Rattle.whole_numbers.proofs.Common.{zeros, Affine, IsFloor, LexLe, mul_one_right, mul_zero_left, mul_zero_right}
+use Rattle.whole_numbers.proofs.Common.{LexLess-irrefl}
+use Rattle.whole_numbers.proofs.Lexicographic.{LexLess-from_le}
 use Rattle.affine_forms.specs.Wide.{Wide}
 use Rattle.affine_forms.proofs.CheckedSteps.{chain-ok}
 use Rattle.tableau_rows.specs.Rows.{Row, entry, Means, Sized}

@@ -1,14 +1,10 @@
 -- The pivot over a buffer is the pivot over its rows.
-use Rattle.std.proofs.Common.{◌≡◌, ℕ, zero, suc, ◌+◌, ◌*◌, ◌<◌, ℤ, pos, Bool, true, false, List, [], ◌∷◌, ◌++◌, length}
-use Rattle.std.proofs.Common.{set, get_or, drop, take, refl, subst, ap, sym, ◌∙◌, arith, add-one}
-use Rattle.std.specs.Prelude.{Result, Ok, Err, nat_eq, if◌then◌else◌}
-use Rattle.std.proofs.lemmas.List.{length-take-le, length-drop, length-map}
+use Rattle.whole_numbers.proofs.Common.{◌≡◌, ℕ, zero, suc, ◌+◌, ◌*◌, ◌<◌, ℤ, pos, Bool, true, false, List, [], ◌∷◌}
+use Rattle.whole_numbers.proofs.Common.{◌++◌, length, set, get_or, drop, take, refl, subst, ap, sym, ◌∙◌, arith}
+use Rattle.whole_numbers.proofs.Common.{add-one, Result, Ok, Err, nat_eq, if◌then◌else◌, length-take-le, length-drop}
+use Rattle.whole_numbers.proofs.Common.{length-map, take-append_seam, drop-append_seam, suc-mul, lowest, zeros}
+use Rattle.whole_numbers.proofs.Common.{length-zeros}
 use Rattle.std.proofs.Math.ListN.{length-set}
-use Rattle.std.proofs.Math.Seq.{take-append_seam, drop-append_seam}
-use Rattle.std.proofs.Math.Nat.{suc-mul}
-use Rattle.whole_numbers.specs.Content.{lowest}
-use Rattle.whole_numbers.specs.Lists.{zeros}
-use Rattle.whole_numbers.proofs.Dot.{length-zeros}
 use Rattle.affine_forms.specs.Wide.{Wide}
 use Rattle.affine_forms.specs.Checked.{product_of, ◌>>=◌}
 use Rattle.affine_forms.proofs.CheckedSteps.{chain-ok}

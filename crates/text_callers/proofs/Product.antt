@@ -1,6 +1,5 @@
 -- The value of the worked statement, `i * A[i]`, over an array of one dimension.
-use Rattle.std.proofs.Common.{ℕ, ℤ, List, [], ◌∷◌, refl, arith}
-use Rattle.scop_syntax.specs.Cells.{Cell}
+use Rattle.scop_syntax.proofs.Common.{ℕ, ℤ, List, [], ◌∷◌, refl, arith, Cell}
 use Rattle.scop_roles.specs.Scope.{IsInScope}
 use Rattle.scop_arithmetic.specs.Arithmetic.{HasNoComma, HoldTypes}
 use Rattle.text_callers.specs.Worked.{product}

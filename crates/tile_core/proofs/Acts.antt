@@ -1,11 +1,8 @@
 -- What the events of a worker's instances leave (`instance_run`, `stretch_run`).
-use Rattle.std.proofs.Common.{take, ◌≡◌, ◌∙◌, ◌&&◌, not, Bool, true, false, ℕ, zero, suc, ◌+◌, ◌<◌, ◌≤◌, List, [], ◌∷◌, ◌++◌}
-use Rattle.std.proofs.Common.{length, get_or, set, length-append, ap, ap₂, sym, refl, arith}
-use Rattle.std.specs.Prelude.{nat_lt, nat_eq, if◌then◌else◌}
-use Rattle.std.proofs.lemmas.Bool.{and_from, eq-eqb, lt-ltb}
+use Rattle.scop_syntax.proofs.Common.{take, ◌≡◌, ◌∙◌, ◌&&◌, not, Bool, true, false, ℕ, zero, suc, ◌+◌, ◌<◌, ◌≤◌, List}
+use Rattle.scop_syntax.proofs.Common.{[], ◌∷◌, ◌++◌, length, get_or, set, length-append, ap, ap₂, sym, refl, arith}
+use Rattle.scop_syntax.proofs.Common.{nat_lt, nat_eq, if◌then◌else◌, and_from, eq-eqb, lt-ltb, some, get_elem?}
 use Rattle.std.proofs.lemmas.List.{append-nil, append_assoc, get_or_at, map_more, set-set}
-use mathlib.Core.Option.{some}
-use lib.ListN.{get_elem?}
 use Rattle.atomic_table.proofs.Lists.{set_again}
 use Rattle.tile_events.specs.Core.{Event, State, Worker, acts, is_counted, is_last_act, last_act, load}
 use Rattle.tile_events.specs.Core.{replay, Seen, step, step_of, working}

@@ -1,7 +1,5 @@
 -- The instances that a worker has ahead, from the one that it does next: they are walked, and those of its tile.
-use Rattle.std.proofs.Common.{◌≡◌, ◌∙◌, ℕ, ◌+◌, ◌<◌, Option, Some, sym, subst, take}
-use Rattle.scop_syntax.specs.Members.{In}
-use Rattle.scop_syntax.specs.View.{instance_of}
+use Rattle.scop_syntax.proofs.Common.{◌≡◌, ◌∙◌, ℕ, ◌+◌, ◌<◌, Option, Some, sym, subst, take, In, instance_of}
 use Rattle.scop_syntax.specs.declared.instance.Instance.{Instance}
 use Rattle.loop_tree.specs.declared.stretch.Stretch.{Stretch}
 use Rattle.tile_core.specs.Plans.{places_in, walk_shape}

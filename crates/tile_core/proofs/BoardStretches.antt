@@ -1,11 +1,7 @@
 -- What a worker's instances, done at once, leave of a board (`none_done`, `some_done`).
-use Rattle.std.proofs.Common.{◌≡◌, ◌∙◌, ◌⊎◌, ℕ, ◌+◌, ◌<◌, ◌≤◌, List, [], length, get_or, map, ap, ap₂, inl, inr, sym}
-use Rattle.std.proofs.Common.{refl, arith}
-use Rattle.std.specs.Prelude.{Vec}
+use Rattle.scop_syntax.proofs.Common.{◌≡◌, ◌∙◌, ◌⊎◌, ℕ, ◌+◌, ◌<◌, ◌≤◌, List, [], length, get_or, map, ap, ap₂, inl, inr}
+use Rattle.scop_syntax.proofs.Common.{sym, refl, arith, Vec, with_item, some, some-injective, get_elem?}
 use Rattle.std.specs.Global.{Global}
-use Rattle.std.specs.Vec.{with_item}
-use mathlib.Core.Option.{some, some-injective}
-use lib.ListN.{get_elem?}
 use Rattle.atomic_table.proofs.Lists.{at_index, set_again}
 use Rattle.tile_events.specs.Core as core
 use Rattle.tile_events.specs.Core.{replay, working}

@@ -1,20 +1,12 @@
 -- Each event in memory is the one on plain data.
-use Rattle.std.proofs.Common.{◌≡◌, ⊎_elim, ◌&&◌, not, Bool, true, false, ℕ, zero, suc, ◌+◌, ◌%◌, ◌^◌, ◌<◌, ◌≤◌, List, []}
-use Rattle.std.proofs.Common.{◌∷◌, ◌++◌, length, get_or, map, set, take, Some, None, ap, ap₂, sym, refl}
-use Rattle.std.proofs.Common.{◌∙◌, subst, arith}
-use Rattle.std.specs.Prelude.{All, Vec, nat_lt, nat_le, nat_eq}
+use Rattle.scop_syntax.proofs.Common.{◌≡◌, ⊎_elim, ◌&&◌, not, Bool, true, false, ℕ, zero, suc, ◌+◌, ◌%◌, ◌^◌, ◌<◌, ◌≤◌}
+use Rattle.scop_syntax.proofs.Common.{List, [], ◌∷◌, ◌++◌, length, get_or, map, set, take, Some, None, ap, ap₂, sym}
+use Rattle.scop_syntax.proofs.Common.{refl, ◌∙◌, subst, arith, All, Vec, nat_lt, nat_le, nat_eq, with_item, and_from}
+use Rattle.scop_syntax.proofs.Common.{lt-ltb, le-ltb, le-leb, lt-leb, eq-eqb, eqb_tells, map-set, All-set, some}
+use Rattle.scop_syntax.proofs.Common.{some-injective, get_elem?, instance_of, nat_cases}
 use Rattle.std.specs.Global.{Global}
-use Rattle.std.specs.Vec.{with_item}
-use Rattle.std.proofs.lemmas.Bool.{and_from, lt-ltb, le-ltb, le-leb, lt-leb, eq-eqb}
-use Rattle.std.proofs.lemmas.Bool.Decides.{eqb_tells}
-use Rattle.std.proofs.lemmas.List.{map-set}
-use Rattle.std.proofs.lemmas.List.Elements.{All-set}
-use mathlib.Core.Option.{some, some-injective}
-use lib.ListN.{get_elem?}
 use Rattle.atomic_table.proofs.Lists.{at_map, at_index}
-use Rattle.scop_syntax.specs.View.{instance_of}
 use Rattle.scop_syntax.specs.declared.instance.Instance.{Instance as CodeInstance}
-use Rattle.scop_syntax.proofs.Members.{nat_cases}
 use Rattle.tile_events.specs.Core as core
 use Rattle.tile_events.specs.Core.{State, claim, open_tile, load, release, finish, acts, last_act, step, step_of}
 use Rattle.tile_events.specs.Core.{is_counted, is_last_act, needed_by, seen_by, shut, told}

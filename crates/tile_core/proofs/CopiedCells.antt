@@ -1,18 +1,11 @@
 -- What the places of a plan with copies write and read: as many cells as without (`as_many_reads`), the place that stands
 -- in a tile (`stood`), and of its reads the copies of their sources (`read_there`).
-use Rattle.std.proofs.Common.{◌≡◌, ◌∙◌, ℕ, zero, suc, ◌+◌, ◌*◌, ◌<◌, ◌≤◌, List, [], ◌∷◌, length, map, get_or, Option}
-use Rattle.std.proofs.Common.{Some, None}
-use Rattle.std.proofs.Common.{Bor, ap, ap₂, sym, subst, refl, arith}
-use Rattle.std.specs.Prelude.{⊤, MatchOption, is_some, option_and_then, slice_get}
-use Rattle.std.specs.Option.{option_map}
-use Rattle.std.proofs.lemmas.List.{length-map}
-use Rattle.std.proofs.lemmas.Option.{get_or_from_slice_get, slice_get-map, slice_get_within}
-use Rattle.scop_syntax.specs.Cells.{Cell, accesses, cell_at, cell_of, reads}
-use Rattle.scop_syntax.specs.Execution.{cell_number, total_cells}
-use Rattle.scop_syntax.specs.Tree.{Access}
-use Rattle.scop_syntax.specs.Walk.{Instance, Visit, instance}
-use Rattle.scop_syntax.specs.Writers.{last_of, last_writer}
-use Rattle.scop_syntax.proofs.Members.{in_at, in_from_place, there_is}
+use Rattle.scop_syntax.proofs.Common.{◌≡◌, ◌∙◌, ℕ, zero, suc, ◌+◌, ◌*◌, ◌<◌, ◌≤◌, List, [], ◌∷◌, length, map, get_or}
+use Rattle.scop_syntax.proofs.Common.{Option, Some, None, Bor, ap, ap₂, sym, subst, refl, arith, ⊤, MatchOption}
+use Rattle.scop_syntax.proofs.Common.{is_some, option_and_then, slice_get, option_map, length-map}
+use Rattle.scop_syntax.proofs.Common.{get_or_from_slice_get, slice_get-map, slice_get_within, Cell, accesses, cell_at}
+use Rattle.scop_syntax.proofs.Common.{cell_of, reads, cell_number, total_cells, Access, Instance, Visit, instance}
+use Rattle.scop_syntax.proofs.Common.{last_of, last_writer, in_at, in_from_place, there_is}
 use Rattle.loop_tree.specs.View.{trees_in}
 use Rattle.expansions.specs.Expansions.{number_of}
 use Rattle.tile_events.specs.Copies.{copies_of, copy_of, expanded}

@@ -1,18 +1,11 @@
 -- The sources of a walk's reads: they are those of its plan (`sources_are`), what a place reads by flow is among them
 -- (`source_last`, `last_source`), and in a plan with copies places touch, and cover, where one is a source of the other.
-use Rattle.std.proofs.Common.{◌≡◌, ◌∙◌, ℕ, suc, ◌+◌, ◌<◌, ◌≤◌, inl, inr, true, false, ℤ, List, [], ◌∷◌, map, length}
-use Rattle.std.proofs.Common.{Option, Some, None, ap, sym, refl, subst, arith}
-use Rattle.std.specs.Prelude.{slice_get, option_and_then}
-use Rattle.std.specs.Option.{option_map}
-use Rattle.std.proofs.lemmas.Option.{slice_get_within}
-use Rattle.scop_syntax.specs.Cells.{Cell, accesses, cell_of, reads, written}
-use Rattle.scop_syntax.specs.Execution.{AreInside, IsCell, cell_number}
-use Rattle.scop_syntax.specs.Members.{In}
-use Rattle.scop_syntax.specs.Tree.{Access}
-use Rattle.scop_syntax.specs.Walk.{Visit}
-use Rattle.scop_syntax.specs.Writers.{last_of, last_writer, writes}
-use Rattle.scop_syntax.proofs.Members.{in_from_place, in_map, in_map_from, place_of, there_is}
-use Rattle.scop_syntax.proofs.Writers.{last_is, none_writes, same_cells, writer_of, written_inside}
+use Rattle.scop_syntax.proofs.Common.{◌≡◌, ◌∙◌, ℕ, suc, ◌+◌, ◌<◌, ◌≤◌, inl, inr, true, false, ℤ, List, [], ◌∷◌, map}
+use Rattle.scop_syntax.proofs.Common.{length, Option, Some, None, ap, sym, refl, subst, arith, slice_get}
+use Rattle.scop_syntax.proofs.Common.{option_and_then, option_map, slice_get_within, Cell, accesses, cell_of, reads}
+use Rattle.scop_syntax.proofs.Common.{written, AreInside, IsCell, cell_number, In, Access, Visit, last_of, last_writer}
+use Rattle.scop_syntax.proofs.Common.{writes, in_from_place, in_map, in_map_from, place_of, there_is, last_is}
+use Rattle.scop_syntax.proofs.Common.{none_writes, same_cells, writer_of, written_inside}
 use Rattle.tile_events.specs.Copies.{AreSources, IsSource, copies_of, copy_of, expanded}
 use Rattle.tile_events.specs.Covers.{Covers, Meet}
 use Rattle.tile_events.specs.Flat.{read_by, written_by}

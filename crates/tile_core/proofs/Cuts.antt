@@ -1,13 +1,9 @@
 -- The tiles of a scan by where each begins.
-use Rattle.std.proofs.Common.{◌≡◌, ℕ, zero, suc, ◌+◌, ◌-◌, ◌≤◌, ◌<◌, List, [], ◌∷◌, length, map, take, get_or, Some}
-use Rattle.std.proofs.Common.{inl, inr, ap, subst, sym, refl, ◌∙◌, arith}
-use Rattle.std.specs.Prelude.{slice_get, slice_index_or}
+use Rattle.scop_syntax.proofs.Common.{◌≡◌, ℕ, zero, suc, ◌+◌, ◌-◌, ◌≤◌, ◌<◌, List, [], ◌∷◌, length, map, take, get_or}
+use Rattle.scop_syntax.proofs.Common.{Some, inl, inr, ap, subst, sym, refl, ◌∙◌, arith, slice_get, slice_index_or}
+use Rattle.scop_syntax.proofs.Common.{slice_get_within, slice_get-get_or, LexLess, In, Instance, in_from_place}
+use Rattle.scop_syntax.proofs.Common.{nat_cases, sorted_places}
 use Rattle.std.proofs.lemmas.List.{length-append}
-use Rattle.std.proofs.lemmas.Option.{slice_get_within, slice_get-get_or}
-use Rattle.whole_numbers.specs.Lexicographic.{LexLess}
-use Rattle.scop_syntax.specs.Members.{In}
-use Rattle.scop_syntax.specs.Walk.{Instance}
-use Rattle.scop_syntax.proofs.Members.{in_from_place, nat_cases, sorted_places}
 use Rattle.loop_tree.specs.Tiling.{Tiling, wave_of}
 use Rattle.tile_list.specs.Tiles.{AreTiles, AreWaves, InOneTile, PartBefore, TileBefore, joined, start_of}
 use Rattle.tile_core.specs.Ranks.{start_at}

@@ -1,9 +1,7 @@
 -- A worker's desk at an instance of a plan: what its lanes tell there (`read_cell`, `written_cell`, `value_there`), and
 -- that it stays there.
-use Rattle.std.proofs.Common.{◌≡◌, ◌∙◌, ℕ, ℤ, suc, ◌+◌, ◌<◌, List, length, get_or, Some, ap, subst, arith}
-use Rattle.std.specs.Prelude.{slice_get}
-use Rattle.std.proofs.lemmas.List.{length-map}
-use Rattle.scop_syntax.specs.Walk.{Instance}
+use Rattle.scop_syntax.proofs.Common.{◌≡◌, ◌∙◌, ℕ, ℤ, suc, ◌+◌, ◌<◌, List, length, get_or, Some, ap, subst, arith}
+use Rattle.scop_syntax.proofs.Common.{slice_get, length-map, Instance}
 use Rattle.tile_table.specs.Codes.{value_by}
 use Rattle.tile_table.specs.Desks.{HasSameRoom, IsLaid}
 use Rattle.tile_table.specs.declared.desk.Desk.{Desk}

@@ -1,18 +1,12 @@
 -- A plan whose tiles are released one by one: its pairs are those of the walk's covers, or of its sources where it has
 -- an expansion (`pairs_are`), it is dealt and good, and what is in conflict, or a source, touches (`touch_from`,
 -- `touch_read`).
-use Rattle.std.proofs.Common.{◌≡◌, ◌∙◌, ℕ, zero, suc, ◌<◌, false, true, List, [], length, map, inl, inr}
-use Rattle.std.proofs.Common.{Bool, Option, Some, None, Bor, ap, refl, subst, sym, arith}
-use Rattle.std.specs.Prelude.{⊤, MatchOption, slice_get}
-use Rattle.scop_syntax.specs.Cells.{Conflict, OneWrites, PlacesConflict, cell_of, reads}
-use Rattle.scop_syntax.specs.Execution.{AreInside, cell_number}
-use Rattle.scop_syntax.specs.Members.{In}
-use Rattle.scop_syntax.specs.Tree.{Access}
-use Rattle.scop_syntax.specs.Walk.{Visit, instance}
-use Rattle.scop_syntax.proofs.Members.{in_from_place, in_map, there_is}
+use Rattle.scop_syntax.proofs.Common.{◌≡◌, ◌∙◌, ℕ, zero, suc, ◌<◌, false, true, List, [], length, map, inl, inr, Bool}
+use Rattle.scop_syntax.proofs.Common.{Option, Some, None, Bor, ap, refl, subst, sym, arith, ⊤, MatchOption, slice_get}
+use Rattle.scop_syntax.proofs.Common.{Conflict, PlacesConflict, cell_of, reads, AreInside, cell_number, In, Access}
+use Rattle.scop_syntax.proofs.Common.{Visit, instance, in_from_place, in_map, there_is, Cover, last_of}
+use Rattle.scop_syntax.specs.Cells.{OneWrites}
 use Rattle.loop_tree.specs.View.{trees_in}
-use Rattle.scop_syntax.specs.Covers.{Cover}
-use Rattle.scop_syntax.specs.Writers.{last_of}
 use Rattle.tile_events.specs.Covers.{ArePairsOf, Covers}
 use Rattle.tile_events.specs.Flat.{IsWalk, read_by, written_by}
 use Rattle.tile_events.specs.Plan as events

@@ -1,10 +1,8 @@
 -- A plan with its releases: it has the walk's places as they are (`Extends`), and behind them the releases
 -- (`releases_there`).
-use Rattle.std.proofs.Common.{◌≡◌, ◌∙◌, ℕ, ◌+◌, ◌-◌, ◌<◌, ◌≤◌, Bool, true, false, List, [], length, get_or}
-use Rattle.std.proofs.Common.{Option, Some, None, Bor, ap, sym, refl, subst, arith}
-use Rattle.std.specs.Prelude.{nat_lt, if◌then◌else◌}
-use Rattle.std.proofs.lemmas.Bool.{lt-ltb, le-ltb}
-use Rattle.scop_syntax.proofs.Members.{nat_cases}
+use Rattle.scop_syntax.proofs.Common.{◌≡◌, ◌∙◌, ℕ, ◌+◌, ◌-◌, ◌<◌, ◌≤◌, Bool, true, false, List, [], length, get_or}
+use Rattle.scop_syntax.proofs.Common.{Option, Some, None, Bor, ap, sym, refl, subst, arith, nat_lt, if◌then◌else◌}
+use Rattle.scop_syntax.proofs.Common.{lt-ltb, le-ltb, nat_cases}
 use Rattle.tile_events.specs.Core.{is_counted}
 use Rattle.tile_events.specs.Plan as events
 use Rattle.tile_events.specs.Releases.{released}

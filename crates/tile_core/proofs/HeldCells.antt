@@ -1,17 +1,10 @@
 -- What cells hold between two events of a run, by the plan of the walk alone (`cell_words`), and with an expansion by
 -- the walk's own execution: cells hold what they held at first (`kept_words`), and the copies of places that are done
 -- what these store (`copy_words`).
-use Rattle.std.proofs.Common.{◌≡◌, ◌∙◌, ◌+◌, ◌<◌, ◌≤◌, ℕ, Bool, true, false, List, [], length, map, get_or, Some, Option}
-use Rattle.std.proofs.Common.{ap, sym, arith}
-use Rattle.std.specs.Prelude.{if◌then◌else◌, slice_get}
-use Rattle.std.proofs.lemmas.Option.{slice_get_within}
-use Rattle.scop_syntax.specs.Cells.{Cell, cell_of}
-use Rattle.scop_syntax.specs.Execution.{AreInside, IsCell, IsShaped, before_place, cell_number, held, value_stored}
-use Rattle.scop_syntax.specs.Execution.{value_stored_at}
-use Rattle.scop_syntax.specs.Members.{In}
-use Rattle.scop_syntax.specs.Reductions.{AreMarked, is_marked, loads}
-use Rattle.scop_syntax.specs.Walk.{Visit}
-use Rattle.scop_syntax.proofs.Members.{there_is}
+use Rattle.scop_syntax.proofs.Common.{◌≡◌, ◌∙◌, ◌+◌, ◌<◌, ◌≤◌, ℕ, Bool, true, false, List, [], length, map, get_or}
+use Rattle.scop_syntax.proofs.Common.{Some, Option, ap, sym, arith, if◌then◌else◌, slice_get, slice_get_within, Cell}
+use Rattle.scop_syntax.proofs.Common.{cell_of, AreInside, IsCell, IsShaped, before_place, cell_number, held}
+use Rattle.scop_syntax.proofs.Common.{value_stored, value_stored_at, In, AreMarked, is_marked, loads, Visit, there_is}
 use Rattle.tile_events.specs.Copies.{AreSources, expanded}
 use Rattle.tile_events.specs.Core.{State}
 use Rattle.tile_events.specs.Flat.{IsWalk, flat, value_by}

@@ -1,11 +1,6 @@
 -- The tile of a place of the walk is that of its instance.
-use Rattle.std.proofs.Common.{◌≡◌, ◌∙◌, ℕ, ◌+◌, [], Some, ap, subst, sym, refl, arith}
-use Rattle.std.specs.Prelude.{slice_get}
-use Rattle.std.specs.Option.{option_map}
-use Rattle.std.proofs.lemmas.Option.{slice_get-map, slice_get_within}
-use Rattle.scop_syntax.specs.View.{instance_of}
-use Rattle.scop_syntax.specs.Walk.{Visit, instance}
-use Rattle.scop_syntax.proofs.Members.{there_is}
+use Rattle.scop_syntax.proofs.Common.{◌≡◌, ◌∙◌, ℕ, ◌+◌, [], Some, ap, subst, sym, refl, arith, slice_get, option_map}
+use Rattle.scop_syntax.proofs.Common.{slice_get-map, slice_get_within, instance_of, Visit, instance, there_is}
 use Rattle.tile_edges.specs.Edges.{IsTileOf}
 use Rattle.tile_core.specs.Plans.{IsPlan, deal_of, places_in, program_in, scan_in, walk_in, walk_shape}
 use Rattle.tile_core.specs.declared.plan.Plan.{Plan}

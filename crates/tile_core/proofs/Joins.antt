@@ -1,11 +1,7 @@
 -- The lanes of a join at an instance of a plan: the cells that they tell there (`written_lane`), that these are some of
 -- the plan's (`all_within`), and what the join makes of them (`join_there`).
-use Rattle.std.proofs.Common.{◌≡◌, ◌≤◌, ◌∙◌, false, ℕ, ℤ, suc, ◌<◌, List, [], ◌∷◌, length, get_or, map}
-use Rattle.std.proofs.Common.{Some, ap, refl, sym, take, arith}
-use Rattle.std.specs.Prelude.{Option, slice_get}
-use Rattle.scop_syntax.specs.Members.{In}
-use Rattle.scop_syntax.specs.View.{instance_of}
-use Rattle.scop_syntax.specs.Walk.{Instance}
+use Rattle.scop_syntax.proofs.Common.{◌≡◌, ◌≤◌, ◌∙◌, false, ℕ, ℤ, suc, ◌<◌, List, [], ◌∷◌, length, get_or, map, Some}
+use Rattle.scop_syntax.proofs.Common.{ap, refl, sym, take, arith, Option, slice_get, In, instance_of, Instance}
 use Rattle.scop_syntax.specs.declared.instance.Instance.{Instance as CodeInstance}
 use Rattle.loop_tree.specs.declared.stretch.Stretch.{Stretch}
 use Rattle.tile_table.specs.Codes.{leaves_at}

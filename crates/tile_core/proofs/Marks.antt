@@ -1,12 +1,8 @@
 -- A cell's number tells its array (`adds_is`), and where a cell is added to, tiles are opened by waves (`by_waves_alone`).
-use Rattle.std.proofs.Common.{◌≡◌, ℕ, zero, suc, ◌+◌, ◌-◌, ◌<◌, true, false, List, [], ◌∷◌, length, take, get_or, ap, refl, ◌∙◌}
-use Rattle.std.proofs.Common.{Option, Some, None, Bor, subst, arith}
-use Rattle.std.specs.Prelude.{⊤, MatchOption}
-use Rattle.std.proofs.lemmas.Bool.{lt-ltb, le-ltb}
-use Rattle.scop_syntax.specs.Cells.{Cell}
-use Rattle.scop_syntax.specs.Execution.{IsCell, cell_count, total_cells, cell_number, offset_of}
-use Rattle.scop_syntax.specs.Reductions.{is_marked}
-use Rattle.scop_syntax.proofs.Memory.{offset_below}
+use Rattle.scop_syntax.proofs.Common.{◌≡◌, ℕ, zero, suc, ◌+◌, ◌-◌, ◌<◌, true, false, List, [], ◌∷◌, length, take}
+use Rattle.scop_syntax.proofs.Common.{get_or, ap, refl, ◌∙◌, Option, Some, None, Bor, subst, arith, ⊤, MatchOption}
+use Rattle.scop_syntax.proofs.Common.{lt-ltb, le-ltb, Cell, IsCell, cell_count, total_cells, cell_number, offset_of}
+use Rattle.scop_syntax.proofs.Common.{is_marked, offset_below}
 use Rattle.tile_events.specs.Core.{is_counted}
 use Rattle.tile_edges.specs.declared.waiting.TileEdges.{TileEdges}
 use Rattle.tile_core.specs.Marks.{array_of, adds_to}

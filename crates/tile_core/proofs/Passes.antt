@@ -1,9 +1,7 @@
 -- The instance that comes next in the tile of a pass.
-use Rattle.std.proofs.Common.{◌≡◌, ℕ, ◌∙◌, ◌≤◌, [], Option, Some, None, Bor, ap, sym, subst, refl, arith}
-use Rattle.std.specs.Option.{option_copied}
-use Rattle.std.specs.Prelude.{MatchOption, slice_get, slice_index_or}
-use Rattle.std.proofs.lemmas.Option.{slice_get_within}
-use Rattle.scop_syntax.specs.View.{instance_of}
+use Rattle.scop_syntax.proofs.Common.{◌≡◌, ℕ, ◌∙◌, ◌≤◌, [], Option, Some, None, Bor, ap, sym, subst, refl, arith}
+use Rattle.scop_syntax.proofs.Common.{option_copied, MatchOption, slice_get, slice_index_or, slice_get_within}
+use Rattle.scop_syntax.proofs.Common.{instance_of}
 use Rattle.scop_syntax.specs.declared.instance.Instance.{Instance as CodeInstance}
 use Rattle.tile_list.specs.declared.list.Tile.{Tile}
 use Rattle.tile_events.specs.Sound.{Holds}

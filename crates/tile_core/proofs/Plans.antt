@@ -1,26 +1,18 @@
 -- A plan's tiles hold each place of the walk once, and conflicting places lie in one tile or in waves that rise; with an
 -- expansion, places and the sources of their reads (`flow_is`).
-use Rattle.std.proofs.Common.{◌≡◌, ℕ, suc, ◌-◌, ◌+◌, ◌<◌, Bool, false, ℤ, List, [], ◌∷◌, length, map, get_or, Some, ◌⊎◌}
-use Rattle.std.proofs.Common.{inl, inr, ap, ap₂, subst, sym, refl, ◌∙◌, arith, Option, None, Bor, true}
-use Rattle.std.specs.Prelude.{⊤, MatchOption, is_some, slice_get, slice_index_or}
-use Rattle.std.specs.Option.{option_map}
-use Rattle.std.proofs.lemmas.List.{length-map}
-use Rattle.std.proofs.lemmas.Option.{slice_get-map, slice_get_within, get_or_from_slice_get}
-use Rattle.scop_syntax.specs.Cells.{Cell, Conflict, PlacesConflict, cell_of}
-use Rattle.scop_syntax.specs.Execution.{AreInside, IsCell, cell_number, held, total_cells}
-use Rattle.scop_syntax.specs.Members.{In}
-use Rattle.scop_syntax.specs.Tree.{Program}
-use Rattle.scop_syntax.specs.View.{instance_of}
-use Rattle.scop_syntax.specs.Walk.{Instance, Visit, instance}
-use Rattle.scop_syntax.proofs.Members.{in_from_place, in_map_from, there_is}
-use Rattle.scop_syntax.proofs.SortedLists.{StandOnce, walked_distinct}
+use Rattle.scop_syntax.proofs.Common.{◌≡◌, ℕ, suc, ◌-◌, ◌+◌, ◌<◌, Bool, false, ℤ, List, [], ◌∷◌, length, map, get_or}
+use Rattle.scop_syntax.proofs.Common.{Some, ◌⊎◌, inl, inr, ap, ap₂, subst, sym, refl, ◌∙◌, arith, Option, None, Bor}
+use Rattle.scop_syntax.proofs.Common.{true, ⊤, MatchOption, is_some, slice_get, slice_index_or, option_map, length-map}
+use Rattle.scop_syntax.proofs.Common.{slice_get-map, slice_get_within, get_or_from_slice_get, Cell, Conflict}
+use Rattle.scop_syntax.proofs.Common.{PlacesConflict, cell_of, AreInside, IsCell, cell_number, held, total_cells, In}
+use Rattle.scop_syntax.proofs.Common.{Program, instance_of, Instance, Visit, instance, in_from_place, in_map_from}
+use Rattle.scop_syntax.proofs.Common.{there_is, StandOnce, walked_distinct, AreMarked, is_marked, loads}
 use Rattle.loop_tree.specs.Tiling.{IsFlowPlan, IsGoodFor, IsInOrder}
 use Rattle.tile_list.specs.TilesView.{firsts_of, waves_of}
 use Rattle.tile_list.specs.declared.list.Tile.{Tile}
 use Rattle.tile_events.specs.Copies as copies
 use Rattle.tile_events.specs.Copies.{AreSources, expanded}
 use Rattle.tile_events.specs.Deal.{Deal, IsScan, dealt}
-use Rattle.scop_syntax.specs.Reductions.{AreMarked, is_marked, loads}
 use Rattle.tile_events.specs.Flat.{IsWalk, flat, read_by, written_by}
 use Rattle.tile_events.specs.Plan as events
 use Rattle.tile_events.specs.Plan.{GoodPlan, IsByWaves, IsDealt, Touch, waves}

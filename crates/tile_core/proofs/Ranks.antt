@@ -1,18 +1,10 @@
 -- Where instances stand in lists that have each once.
-use Rattle.std.proofs.Common.{◌≡◌, ℕ, suc, ◌≤◌, Bool, true, false, ◌&&◌, List, [], ◌∷◌, ◌++◌, length, Some, inl, inr}
-use Rattle.std.proofs.Common.{ap, ap₂, subst, sym, refl}
-use Rattle.std.proofs.Common.{◌∙◌, arith}
-use Rattle.std.specs.Prelude.{slice_get, nat_eq, if◌then◌else◌}
-use Rattle.std.specs.Ordering.{int_eq}
+use Rattle.scop_syntax.proofs.Common.{◌≡◌, ℕ, suc, ◌≤◌, Bool, true, false, ◌&&◌, List, [], ◌∷◌, ◌++◌, length, Some, inl}
+use Rattle.scop_syntax.proofs.Common.{inr, ap, ap₂, subst, sym, refl, ◌∙◌, arith, slice_get, nat_eq, if◌then◌else◌}
+use Rattle.scop_syntax.proofs.Common.{int_eq, Decides-int_eq, Decides-eqb, slice_eq-Decides, In, Instance}
+use Rattle.scop_syntax.proofs.Common.{in_from_place, one_instance, AreDistinct}
 use Rattle.std.specs.Cmp.Lexicographic.{pointwise}
-use Rattle.std.proofs.lemmas.Bool.Decides.{Decides-int_eq, Decides-eqb}
 use Rattle.std.proofs.lemmas.List.{length-append}
-use Rattle.std.proofs.lemmas.Slice.Eq.{slice_eq-Decides}
-use Rattle.scop_syntax.specs.Members.{In}
-use Rattle.scop_syntax.specs.Walk.{Instance}
-use Rattle.scop_syntax.proofs.Members.{in_from_place}
-use Rattle.scop_syntax.proofs.Statements.{one_instance}
-use Rattle.scop_syntax.specs.ConflictOrders.{AreDistinct}
 use Rattle.scop_syntax.proofs.SortedLists.{distinct_places}
 use Rattle.scop_syntax.proofs.Precedence.{in_less, parted}
 use Rattle.tile_core.specs.Ranks.{is_same, place_in}

@@ -1,15 +1,11 @@
 -- A braid of whole rounds: what it has left, strand after strand and round after round (`woven_is`), and the place behind
 -- it.
-use Rattle.std.proofs.Common.{◌≡◌, ◌∙◌, ℕ, zero, suc, ◌+◌, ◌*◌, ◌-◌, ◌<◌, ◌≤◌, ℤ, List, [], ◌∷◌, ◌++◌, length, map, drop, take}
-use Rattle.std.proofs.Common.{Some, set, inl, refl, ap, ap₂, sym, subst, arith, append-nil}
-use Rattle.std.specs.Prelude.{All, slice_get}
-use Rattle.std.proofs.lemmas.List.{append_assoc, drop-drop, drop_at, length-append, length-map, length-take-le, take_all}
-use Rattle.std.proofs.lemmas.List.Elements.{All-head, All-nil, All-tail}
-use Rattle.whole_numbers.proofs.Entries.{get_map}
-use Rattle.scop_syntax.specs.View.{instance_of}
-use Rattle.scop_syntax.specs.Walk.{Instance}
+use Rattle.scop_syntax.proofs.Common.{◌≡◌, ◌∙◌, ℕ, zero, suc, ◌+◌, ◌*◌, ◌-◌, ◌<◌, ◌≤◌, ℤ, List, [], ◌∷◌, ◌++◌, length}
+use Rattle.scop_syntax.proofs.Common.{map, drop, take, Some, set, inl, refl, ap, ap₂, sym, subst, arith, append-nil}
+use Rattle.scop_syntax.proofs.Common.{All, slice_get, drop-drop, drop_at, length-map, length-take-le, take_all}
+use Rattle.scop_syntax.proofs.Common.{All-head, All-nil, All-tail, get_map, instance_of, Instance, in_from_place}
+use Rattle.std.proofs.lemmas.List.{append_assoc, length-append}
 use Rattle.scop_syntax.specs.declared.instance.Instance.{Instance as CodeInstance}
-use Rattle.scop_syntax.proofs.Members.{in_from_place}
 use Rattle.loop_tree.specs.Braids.{left_of_braid, taking, together, woven}
 use Rattle.loop_tree.specs.Conditions.{IsHeld}
 use Rattle.loop_tree.specs.Spot.{rest_of}

@@ -1,17 +1,8 @@
 -- The row of an instance's statement in a plan's table.
-use Rattle.std.proofs.Common.{◌≡◌, ◌∙◌, ap, refl, sym, subst, ℕ, suc, ◌<◌, ◌^◌, ℤ, List, length, get_or, Some}
-use Rattle.std.proofs.Common.{arith}
-use Rattle.std.specs.Prelude.{slice_get}
-use Rattle.std.proofs.lemmas.Option.{slice_get_within}
-use Rattle.scop_syntax.specs.Cells.{Cell, accesses, cell_of}
-use Rattle.scop_syntax.specs.Execution.{IsCell, cell_number, layout, total_cells}
-use Rattle.scop_syntax.specs.Limits.{WithinLimits}
-use Rattle.scop_syntax.specs.Members.{In}
-use Rattle.scop_syntax.specs.Reductions.{is_marked, loads}
-use Rattle.scop_syntax.specs.Tree.{Program, Statement}
-use Rattle.scop_syntax.specs.Walk.{Instance, Visit}
-use Rattle.scop_syntax.proofs.Members.{in_at, in_from_place}
-use Rattle.scop_syntax.proofs.SortedLists.{StandOnce}
+use Rattle.scop_syntax.proofs.Common.{◌≡◌, ◌∙◌, ap, refl, sym, subst, ℕ, suc, ◌<◌, ◌^◌, ℤ, List, length, get_or, Some}
+use Rattle.scop_syntax.proofs.Common.{arith, slice_get, slice_get_within, Cell, accesses, cell_of, IsCell, cell_number}
+use Rattle.scop_syntax.proofs.Common.{layout, total_cells, WithinLimits, In, is_marked, loads, Program, Statement}
+use Rattle.scop_syntax.proofs.Common.{Instance, Visit, in_at, in_from_place, StandOnce}
 use Rattle.tile_table.specs.Instances.{IsVisitOf}
 use Rattle.tile_table.specs.declared.table.Row.{Row}
 use Rattle.tile_table.proofs.Accesses.{touched_access}

@@ -1,18 +1,10 @@
 -- A plan's scan: the walked instances, each once, in an order in which conflicting places stand by tile and wave.
-use Rattle.std.proofs.Common.{◌≡◌, ℕ, suc, ◌<◌, ℤ, List, length, Some, ◌⊎◌, inl, inr, ap, subst, sym}
-use Rattle.std.proofs.Common.{◌∙◌, arith}
-use Rattle.std.specs.Prelude.{slice_get, ◌≢◌}
-use Rattle.std.specs.Option.{option_map}
-use Rattle.std.proofs.lemmas.List.{length-map}
-use Rattle.std.proofs.lemmas.Option.{slice_get-map, slice_get_within}
-use Rattle.whole_numbers.specs.Lexicographic.{LexLess}
-use Rattle.whole_numbers.proofs.Lexicographic.{LexLess-asym, LexLess-irrefl}
-use Rattle.scop_syntax.specs.Members.{In}
-use Rattle.scop_syntax.specs.Tree.{Program}
-use Rattle.scop_syntax.specs.Walk.{Instance, instance, Visit, walk_of}
-use Rattle.scop_syntax.proofs.Members.{in_from_place, nat_cases, sorted_places, there_is}
-use Rattle.scop_syntax.specs.ConflictOrders.{AreDistinct}
-use Rattle.scop_syntax.proofs.SortedLists.{sorted_weaker, StandOnce, walked_distinct}
+use Rattle.scop_syntax.proofs.Common.{◌≡◌, ℕ, suc, ◌<◌, ℤ, List, length, Some, ◌⊎◌, inl, inr, ap, subst, sym, ◌∙◌}
+use Rattle.scop_syntax.proofs.Common.{arith, slice_get, ◌≢◌, option_map, length-map, slice_get-map, slice_get_within}
+use Rattle.scop_syntax.proofs.Common.{LexLess, LexLess-asym, LexLess-irrefl, In, Program, Instance, instance, Visit}
+use Rattle.scop_syntax.proofs.Common.{walk_of, in_from_place, nat_cases, sorted_places, there_is, AreDistinct}
+use Rattle.scop_syntax.proofs.Common.{StandOnce, walked_distinct}
+use Rattle.scop_syntax.proofs.SortedLists.{sorted_weaker}
 use Rattle.loop_tree.specs.Plans.{AreInOrder, Precedes, walked}
 use Rattle.loop_tree.specs.Tiling.{IsInOrder, StandsBefore, Tiling, kept, tiled, order_of, tile_of, wave_of}
 use Rattle.loop_tree.proofs.Visits.{listed_same}

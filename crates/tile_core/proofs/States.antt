@@ -1,12 +1,10 @@
 -- Runs in memory: their first state, and what each event keeps.
-use Rattle.std.proofs.Common.{◌≡◌, ◌&&◌, Bool, true, false, ℕ, zero, suc, ◌+◌, ◌<◌, List, [], ◌∷◌, length, get_or, map, drop}
-use Rattle.std.proofs.Common.{add-one, drop-cons, ap, ap₂, sym, refl}
-use Rattle.std.proofs.Common.{◌∙◌, subst, arith}
-use Rattle.std.specs.Prelude.{Result, replicate, nat_lt, nat_le, nat_eq, if◌then◌else◌}
-use Rattle.std.proofs.lemmas.List.{length-replicate}
+use Rattle.scop_syntax.proofs.Common.{◌≡◌, ◌&&◌, Bool, true, false, ℕ, zero, suc, ◌+◌, ◌<◌, List, [], ◌∷◌, length}
+use Rattle.scop_syntax.proofs.Common.{get_or, map, drop, add-one, drop-cons, ap, ap₂, sym, refl, ◌∙◌, subst, arith}
+use Rattle.scop_syntax.proofs.Common.{Result, replicate, nat_lt, nat_le, nat_eq, if◌then◌else◌, length-replicate, some}
+use Rattle.scop_syntax.proofs.Common.{some-injective, some-ne-none, get_elem?}
 use mathlib.Core.Option as plain
-use mathlib.Core.Option.{none, some, some-injective, some-ne-none}
-use lib.ListN.{get_elem?}
+use mathlib.Core.Option.{none}
 use Rattle.tile_events.specs.Plan as events
 use Rattle.tile_events.specs.Plan.{Gate, GoodPlan, IsDealt, counters, values_read, waves}
 use Rattle.tile_events.specs.Core as core

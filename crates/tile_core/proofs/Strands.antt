@@ -1,17 +1,11 @@
 -- Desks of a braid's strands: each goes from one round to the next behind those before it (`laid_next`).
-use Rattle.std.proofs.Common.{◌≡◌, ◌∙◌, ℕ, suc, ◌+◌, ◌*◌, ◌<◌, ◌≤◌, List, Option, Some, ap, arith, get_or, inl, inr, length, set}
-use Rattle.std.proofs.Common.{subst, sym, take}
-use Rattle.std.specs.Prelude.{◌⊎◌, ℤ, Vec, slice_get}
+use Rattle.scop_syntax.proofs.Common.{◌≡◌, ◌∙◌, ℕ, suc, ◌+◌, ◌*◌, ◌<◌, ◌≤◌, List, Option, Some, ap, arith, get_or, inl}
+use Rattle.scop_syntax.proofs.Common.{inr, length, set, subst, sym, take, ◌⊎◌, ℤ, Vec, slice_get, slice_get-get_or}
+use Rattle.scop_syntax.proofs.Common.{sums, get_or-set_other, get_or-set_same, length-set, All-set, In, Instance}
 use Rattle.std.specs.Global.{Global}
-use Rattle.std.proofs.lemmas.Option.{slice_get-get_or}
-use Rattle.whole_numbers.specs.Lists.{sums}
 use Rattle.tile_core.specs.Workers.{IsWorker}
 use Rattle.tile_core.specs.declared.worker.Worker.{Worker}
 use Rattle.std.proofs.Math.Nat.{eq-or-lt_of_le}
-use Rattle.std.proofs.lemmas.List.{get_or-set_other, get_or-set_same, length-set}
-use Rattle.std.proofs.lemmas.List.Elements.{All-set}
-use Rattle.scop_syntax.specs.Members.{In}
-use Rattle.scop_syntax.specs.Walk.{Instance}
 use Rattle.scop_syntax.specs.declared.instance.Instance.{Instance as CodeInstance}
 use Rattle.loop_tree.specs.declared.braid.Braid.{Braid}
 use Rattle.loop_tree.specs.declared.spot.Spot.{Spot}

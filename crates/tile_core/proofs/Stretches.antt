@@ -1,13 +1,8 @@
 -- Instances that a worker has ahead, and the place behind those that it passes by.
-use Rattle.std.proofs.Common.{◌≡◌, ◌∙◌, ◌+◌, ◌-◌, ◌≤◌, ◌<◌, ℕ, zero, suc, ℤ, List, [], ◌++◌, Some, ap, ap₂, sym, refl}
-use Rattle.std.proofs.Common.{arith, drop, inl, inr, take}
-use Rattle.std.specs.Prelude.{◌⊎◌, slice_get}
-use Rattle.std.proofs.lemmas.List.{drop-drop, drop_at}
-use Rattle.whole_numbers.specs.Lists.{sums}
-use Rattle.scop_syntax.specs.View.{instance_of}
-use Rattle.scop_syntax.specs.Walk.{Instance}
+use Rattle.scop_syntax.proofs.Common.{◌≡◌, ◌∙◌, ◌+◌, ◌-◌, ◌≤◌, ◌<◌, ℕ, zero, suc, ℤ, List, [], ◌++◌, Some, ap, ap₂, sym}
+use Rattle.scop_syntax.proofs.Common.{refl, arith, drop, inl, inr, take, ◌⊎◌, slice_get, drop-drop, drop_at, sums}
+use Rattle.scop_syntax.proofs.Common.{instance_of, Instance, in_from_place}
 use Rattle.scop_syntax.specs.declared.instance.Instance.{Instance as CodeInstance}
-use Rattle.scop_syntax.proofs.Members.{in_from_place}
 use Rattle.loop_tree.specs.Braids.{left_of_braid}
 use Rattle.loop_tree.specs.Spot.{rest_of}
 use Rattle.loop_tree.specs.SpotView.{marks_in}

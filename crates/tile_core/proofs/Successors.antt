@@ -1,9 +1,7 @@
 -- The pairs that lead from a tile of a plan, as the code's rows have them, and how many acts it has.
-use Rattle.std.proofs.Common.{◌≡◌, ◌∙◌, ℕ, zero, suc, ◌+◌, ◌-◌, ◌<◌, ◌≤◌, List, [], ◌∷◌, length, get_or, Option, Some, None, Bor}
-use Rattle.std.proofs.Common.{ap, sym, subst, refl, arith}
-use Rattle.std.specs.Prelude.{⊤, IsSome, MatchOption, nat_lt}
-use Rattle.std.proofs.lemmas.Bool.{le-ltb}
-use Rattle.scop_syntax.proofs.Members.{there_is}
+use Rattle.scop_syntax.proofs.Common.{◌≡◌, ◌∙◌, ℕ, zero, suc, ◌+◌, ◌-◌, ◌<◌, ◌≤◌, List, [], ◌∷◌, length, get_or, Option}
+use Rattle.scop_syntax.proofs.Common.{Some, None, Bor, ap, sym, subst, refl, arith, ⊤, IsSome, MatchOption, nat_lt}
+use Rattle.scop_syntax.proofs.Common.{le-ltb, there_is}
 use Rattle.tile_events.specs.Core.{State, needed_by, seen_by, shut}
 use Rattle.tile_events.specs.Core as core
 use Rattle.tile_events.specs.Plan as events

@@ -1,12 +1,7 @@
 -- Sizes of tiles, and offsets of waves: a plan's tiles as a deal.
-use Rattle.std.proofs.Common.{◌≡◌, ℕ, zero, suc, ◌-◌, ◌+◌, ◌≤◌, ◌<◌, Bool, true, false, List, [], ◌∷◌, ◌++◌, length, Some}
-use Rattle.std.proofs.Common.{ap, sym}
-use Rattle.std.proofs.Common.{◌∙◌, arith}
-use Rattle.std.specs.Prelude.{slice_get, nat_lt, if◌then◌else◌}
-use Rattle.std.specs.Option.{option_map}
-use Rattle.std.proofs.lemmas.List.{length-map}
-use Rattle.std.proofs.lemmas.Option.{slice_get-map, slice_get-get_or, get_or_from_slice_get}
-use Rattle.scop_syntax.proofs.Members.{nat_cases}
+use Rattle.scop_syntax.proofs.Common.{◌≡◌, ℕ, zero, suc, ◌-◌, ◌+◌, ◌≤◌, ◌<◌, Bool, true, false, List, [], ◌∷◌, ◌++◌}
+use Rattle.scop_syntax.proofs.Common.{length, Some, ap, sym, ◌∙◌, arith, slice_get, nat_lt, if◌then◌else◌, option_map}
+use Rattle.scop_syntax.proofs.Common.{length-map, slice_get-map, slice_get-get_or, get_or_from_slice_get, nat_cases}
 use Rattle.expansions.proofs.Firsts.{at_back, at_front}
 use Rattle.tile_list.specs.Tiles.{waves_in}
 use Rattle.tile_list.specs.TilesView.{waves_of}

@@ -1,21 +1,10 @@
 -- What an instance of a plan touches and stores, by its place in the walk.
-use Rattle.std.proofs.Common.{◌≡◌, Bool, true, false, drop, ℕ, zero, suc, ◌≤◌, ◌<◌, ℤ, List, [], ◌∷◌, length, map, get_or, Some, ap}
-use Rattle.std.proofs.Common.{sym, refl}
-use Rattle.std.proofs.Common.{◌∙◌, arith}
-use Rattle.std.specs.Prelude.{slice_get, if◌then◌else◌}
-use Rattle.std.specs.Option.{option_map}
-use Rattle.std.proofs.lemmas.List.{length-drop, length-map}
-use Rattle.std.proofs.lemmas.Option.{slice_get-map, slice_get_within}
-use Rattle.scop_syntax.specs.Cells.{cell_of, reads}
-use Rattle.scop_syntax.specs.Execution.{cell_number}
-use Rattle.scop_syntax.specs.Kernel.{IsKernel, IsPlaced, ranks_of}
-use Rattle.scop_syntax.specs.Members.{In}
-use Rattle.scop_syntax.specs.Reductions.{is_marked, loads}
-use Rattle.scop_syntax.specs.Statements.{Placed, Runs, statements_of, visit_of}
-use Rattle.scop_syntax.specs.Tree.{Access, Program}
-use Rattle.scop_syntax.specs.Walk.{Instance, Visit, instance, walk_of}
-use Rattle.scop_syntax.proofs.Members.{in_from_place, place_of, there_is}
-use Rattle.scop_syntax.proofs.SortedLists.{StandOnce}
+use Rattle.scop_syntax.proofs.Common.{◌≡◌, Bool, true, false, drop, ℕ, zero, suc, ◌≤◌, ◌<◌, ℤ, List, [], ◌∷◌, length}
+use Rattle.scop_syntax.proofs.Common.{map, get_or, Some, ap, sym, refl, ◌∙◌, arith, slice_get, if◌then◌else◌}
+use Rattle.scop_syntax.proofs.Common.{option_map, length-drop, length-map, slice_get-map, slice_get_within, cell_of}
+use Rattle.scop_syntax.proofs.Common.{reads, cell_number, IsKernel, IsPlaced, ranks_of, In, is_marked, loads, Placed}
+use Rattle.scop_syntax.proofs.Common.{Runs, statements_of, visit_of, Access, Program, Instance, Visit, instance}
+use Rattle.scop_syntax.proofs.Common.{walk_of, in_from_place, place_of, there_is, StandOnce}
 use Rattle.tile_table.specs.Instances.{IsVisitOf}
 use Rattle.tile_table.specs.Tables.{touched}
 use Rattle.tile_events.specs.Flat.{read_by, written_by}

@@ -1,10 +1,6 @@
 -- What holds between two events of a run whose tiles are released one by one, from the laws of such plans.
-use Rattle.std.proofs.Common.{◌≡◌, ◌⊎◌, ℕ, suc, ◌+◌, ◌<◌, ◌≤◌, false, true, List, [], length, get_or, Some, Bor}
-use Rattle.std.proofs.Common.{refl, subst, arith}
-use Rattle.std.proofs.lemmas.Option.{slice_get_within}
-use Rattle.scop_syntax.specs.Cells.{PlacesConflict}
-use Rattle.scop_syntax.specs.Writers.{last_of}
-use Rattle.scop_syntax.proofs.Members.{nat_cases}
+use Rattle.scop_syntax.proofs.Common.{◌≡◌, ◌⊎◌, ℕ, suc, ◌+◌, ◌<◌, ◌≤◌, false, true, List, [], length, get_or, Some, Bor}
+use Rattle.scop_syntax.proofs.Common.{refl, subst, arith, slice_get_within, PlacesConflict, last_of, nat_cases}
 use Rattle.tile_events.specs.Core.{State, needed_by, seen_by}
 use Rattle.tile_events.specs.Covers.{ArePairsOf}
 use Rattle.tile_events.specs.Plan as events

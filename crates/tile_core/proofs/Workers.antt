@@ -1,16 +1,10 @@
 -- Where a worker stands: before a tile, at its first instance, at the next one.
-use Rattle.std.proofs.Common.{◌≡◌, ℕ, zero, suc, ◌+◌, ◌<◌, List, [], ◌∷◌, ◌++◌, drop, length, Option, Some, None}
-use Rattle.std.proofs.Common.{ap, ap₂, map, sym, subst, refl}
-use Rattle.std.proofs.Common.{◌∙◌, Bor, arith}
-use Rattle.std.specs.Prelude.{All, replicate, slice_get, slice_index_or, IsNone, MatchOption}
-use Rattle.std.specs.Option.{option_copied}
-use Rattle.std.proofs.lemmas.List.{map-append, replicate-append-replicate}
-use Rattle.std.proofs.lemmas.List.Elements.{All-push}
-use Rattle.std.proofs.lemmas.Option.{slice_get_within}
-use Rattle.scop_syntax.specs.View.{instance_of}
-use Rattle.scop_syntax.specs.Walk.{Instance}
+use Rattle.scop_syntax.proofs.Common.{◌≡◌, ℕ, zero, suc, ◌+◌, ◌<◌, List, [], ◌∷◌, ◌++◌, drop, length, Option, Some}
+use Rattle.scop_syntax.proofs.Common.{None, ap, ap₂, map, sym, subst, refl, ◌∙◌, Bor, arith, All, replicate, slice_get}
+use Rattle.scop_syntax.proofs.Common.{slice_index_or, IsNone, MatchOption, option_copied, map-append, All-push}
+use Rattle.scop_syntax.proofs.Common.{slice_get_within, instance_of, Instance, in_from_place, there_is}
+use Rattle.std.proofs.lemmas.List.{replicate-append-replicate}
 use Rattle.scop_syntax.specs.declared.instance.Instance.{Instance as CodeInstance}
-use Rattle.scop_syntax.proofs.Members.{in_from_place, there_is}
 use Rattle.loop_tree.specs.SpotView.{IsSpotOf, found_in, to_come}
 use Rattle.loop_tree.specs.View.{trees_in}
 use Rattle.loop_tree.specs.declared.spot.Spot.{Spot}

@@ -22,9 +22,9 @@ use arrayvec::ArrayVec;
 use loop_tree::{Braid, Spot, Stretch};
 use scop_syntax::instance::Instance;
 use std::alloc::{AllocError, Global};
+use tile_list::laws::tiles_stand_one_behind_another;
 use tile_table::desk::Desk;
 use tile_table::table::Table;
-use tile_list::laws::tiles_stand_one_behind_another;
 
 /// Reads that a statement may have.
 pub const MAX_READS: usize = 16;

@@ -1,18 +1,10 @@
 -- Along a stretch: what is left so many instances on, which tile holds them, and how a pass goes on by them.
-use Rattle.std.proofs.Common.{◌≡◌, ◌≤◌, ◌<◌, ◌+◌, ◌-◌, ℕ, zero, suc, ℤ, pos, Bool, List, [], ◌∷◌, ◌++◌, ap, ap₂, sym}
-use Rattle.std.proofs.Common.{refl, ◌∙◌, subst, Some, inr, arith, length, take, get_or, drop, map}
-use Rattle.std.specs.Prelude.{◌+ℤ◌, ◌*ℤ◌, All, slice_get}
-use Rattle.std.proofs.lemmas.Int.{ints}
+use Rattle.scop_syntax.proofs.Common.{◌≡◌, ◌≤◌, ◌<◌, ◌+◌, ◌-◌, ℕ, zero, suc, ℤ, pos, Bool, List, [], ◌∷◌, ◌++◌, ap, ap₂}
+use Rattle.scop_syntax.proofs.Common.{sym, refl, ◌∙◌, subst, Some, inr, arith, length, take, get_or, drop, map, ◌+ℤ◌}
+use Rattle.scop_syntax.proofs.Common.{◌*ℤ◌, All, slice_get, ints, All-tail, slice_get_within, multiples, sums}
+use Rattle.scop_syntax.proofs.Common.{mul_distrib_right, mul_one_left, In, in_front, Program, instance_of, Instance}
+use Rattle.scop_syntax.proofs.Common.{instance, walk_of}
 use Rattle.std.proofs.lemmas.List.{length-append}
-use Rattle.std.proofs.lemmas.List.Elements.{All-tail}
-use Rattle.std.proofs.lemmas.Option.{slice_get_within}
-use Rattle.whole_numbers.specs.Lists.{multiples, sums}
-use Rattle.whole_numbers.proofs.Ring.{mul_distrib_right, mul_one_left}
-use Rattle.scop_syntax.specs.Members.{In}
-use Rattle.scop_syntax.proofs.Members.{in_front}
-use Rattle.scop_syntax.specs.Tree.{Program}
-use Rattle.scop_syntax.specs.View.{instance_of}
-use Rattle.scop_syntax.specs.Walk.{Instance, instance, walk_of}
 use Rattle.scop_syntax.specs.declared.instance.Instance.{Instance as CodeInstance}
 use Rattle.loop_tree.specs.Braids.{left_of_braid}
 use Rattle.loop_tree.specs.Conditions.{IsHeld}

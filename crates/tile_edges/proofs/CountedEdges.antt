@@ -1,15 +1,7 @@
 -- The pairs of tiles by their numbers in a list are those by waves and coordinates.
-use Rattle.std.proofs.Common.{◌≡◌, ℕ, ℤ, Bool, List, [], Option, Some, None, ap, ap₂, sym, refl, ◌∙◌, subst, arith}
-use Rattle.std.proofs.Common.{length, map}
-use Rattle.std.specs.Prelude.{slice_get}
-use Rattle.std.specs.Option.{option_map}
-use Rattle.std.proofs.lemmas.List.{length-map}
-use Rattle.std.proofs.lemmas.Option.{slice_get-map}
-use Rattle.scop_syntax.specs.Members.{In}
-use Rattle.scop_syntax.specs.Tree.{Program}
-use Rattle.scop_syntax.specs.View.{instance_of}
-use Rattle.scop_syntax.specs.Walk.{Visit, instance, walk_of}
-use Rattle.scop_syntax.proofs.Members.{in_from_place, in_map, in_map_from}
+use Rattle.scop_syntax.proofs.Common.{◌≡◌, ℕ, ℤ, Bool, List, [], Option, Some, None, ap, ap₂, sym, refl, ◌∙◌, subst}
+use Rattle.scop_syntax.proofs.Common.{arith, length, map, slice_get, option_map, length-map, slice_get-map, In, Program}
+use Rattle.scop_syntax.proofs.Common.{instance_of, Visit, instance, walk_of, in_from_place, in_map, in_map_from}
 use Rattle.loop_tree.specs.Plans.{AreInOrder}
 use Rattle.loop_tree.specs.Tiling.{Tiling, tile_of, wave_of}
 use Rattle.loop_tree.specs.Tree.{Trees}

@@ -1,17 +1,13 @@
 -- Instances and the tiles of a list that rises: by halving, and by the tile of the instance before.
-use Rattle.std.proofs.Common.{◌≡◌, ◌<◌, ◌≤◌, ℕ, zero, suc, ◌⊎◌, inl, inr, ⊎_elim, ℤ, Bool, true, false, List, [], ◌∷◌, ◌++◌}
-use Rattle.std.proofs.Common.{Some, ap, ap₂, sym, refl, ◌∙◌, subst, arith, length, get_or}
-use Rattle.std.specs.Prelude.{slice_get}
+use Rattle.scop_syntax.proofs.Common.{◌≡◌, ◌<◌, ◌≤◌, ℕ, zero, suc, ◌⊎◌, inl, inr, ⊎_elim, ℤ, Bool, true, false, List}
+use Rattle.scop_syntax.proofs.Common.{[], ◌∷◌, ◌++◌, Some, ap, ap₂, sym, refl, ◌∙◌, subst, arith, length, get_or}
+use Rattle.scop_syntax.proofs.Common.{slice_get, Ordering, Less, Greater, slice_get_within, get_or_from_slice_get}
+use Rattle.scop_syntax.proofs.Common.{LexLess, In, instance_of, Instance, in_append, in_front, in_back, in_from_place}
+use Rattle.scop_syntax.proofs.Common.{place_of, there_is, nat_cases, sorted_places}
 use Rattle.std.specs.Cmp.{int_cmp_is}
 use Rattle.std.specs.Cmp.Lexicographic.{slice_cmp}
 use Rattle.std.specs.Ordering.{int_cmp, match_ordering, ordering_then}
-use Rattle.std.proofs.Common.{Ordering, Less, Equal, Greater}
-use Rattle.std.proofs.lemmas.Option.{slice_get_within, get_or_from_slice_get}
-use Rattle.whole_numbers.specs.Lexicographic.{LexLess}
-use Rattle.scop_syntax.specs.Members.{In}
-use Rattle.scop_syntax.specs.View.{instance_of}
-use Rattle.scop_syntax.specs.Walk.{Instance}
-use Rattle.scop_syntax.proofs.Members.{in_append, in_front, in_back, in_from_place, place_of, there_is, nat_cases, sorted_places}
+use Rattle.std.proofs.Common.{Equal}
 use Rattle.loop_tree.specs.Tiling.{Tiling, tile_of, wave_of}
 use Rattle.loop_tree.specs.Tree.{Trees}
 use Rattle.loop_tree.specs.Walk.{visits}

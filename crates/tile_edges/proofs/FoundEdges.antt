@@ -1,15 +1,8 @@
 -- The pairs that a pass has found are those of places that wait for one another.
-use Rattle.std.proofs.Common.{◌≡◌, ◌<◌, ◌≤◌, ◌+◌, ℕ, zero, suc, ℤ, Bool, true, false, List, [], ◌∷◌, Some, ap, ap₂, sym}
-use Rattle.std.proofs.Common.{refl, ◌∙◌, subst, arith, length, get_or, ⊎_elim, inl, inr}
-use Rattle.std.specs.Prelude.{slice_get}
-use Rattle.std.proofs.lemmas.List.{length-map}
-use Rattle.std.proofs.lemmas.Option.{slice_get_within}
-use Rattle.scop_syntax.specs.Execution.{AreInside, IsInside, layout}
-use Rattle.scop_syntax.specs.Limits.{WithinLimits}
-use Rattle.scop_syntax.specs.Members.{In}
-use Rattle.scop_syntax.specs.Covers.{Cover}
-use Rattle.scop_syntax.specs.Tree.{Program}
-use Rattle.scop_syntax.specs.Walk.{Instance, Visit, instance, walk_of}
+use Rattle.scop_syntax.proofs.Common.{◌≡◌, ◌<◌, ◌≤◌, ◌+◌, ℕ, zero, suc, ℤ, Bool, true, false, List, [], ◌∷◌, Some, ap}
+use Rattle.scop_syntax.proofs.Common.{ap₂, sym, refl, ◌∙◌, subst, arith, length, get_or, ⊎_elim, inl, inr, slice_get}
+use Rattle.scop_syntax.proofs.Common.{length-map, slice_get_within, AreInside, IsInside, layout, WithinLimits, In}
+use Rattle.scop_syntax.proofs.Common.{Cover, Program, Instance, Visit, instance, walk_of}
 use Rattle.loop_tree.specs.Plans.{AreInOrder, walked}
 use Rattle.loop_tree.specs.Tiling.{Tiling, kept, tiled}
 use Rattle.loop_tree.specs.Tree.{Trees}

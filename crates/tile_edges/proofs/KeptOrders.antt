@@ -1,7 +1,6 @@
 -- The source's order has no pair of tiles.
-use Rattle.std.proofs.Common.{◌≡◌, ℕ, Bool, true, List, [], ◌∷◌, Option, Some, None, ap, sym, refl, ◌∙◌, arith, length}
-use Rattle.std.proofs.Common.{inl}
-use Rattle.scop_syntax.specs.Walk.{Visit}
+use Rattle.scop_syntax.proofs.Common.{◌≡◌, ℕ, Bool, true, List, [], ◌∷◌, Option, Some, None, ap, sym, refl, ◌∙◌, arith}
+use Rattle.scop_syntax.proofs.Common.{length, inl, Visit}
 use Rattle.loop_tree.specs.Tiling.{kept}
 use Rattle.tile_edges.specs.Counting.{AreEdgesBetween, IsEdge, IsReleaseOf, TileName}
 

@@ -1,8 +1,6 @@
 -- What is met and visited where room was made before.
-use Rattle.std.proofs.Common.{◌≡◌, ℕ, suc, ⊎_elim, inl, inr, Bool, true, false, List, [], ◌∷◌, ◌++◌, ap, ap₂, sym, refl}
-use Rattle.std.proofs.Common.{◌∙◌, subst, get_or}
-use Rattle.std.specs.Prelude.{nat_eq, if◌then◌else◌}
-use Rattle.scop_syntax.specs.Members.{In}
+use Rattle.scop_syntax.proofs.Common.{◌≡◌, ℕ, suc, ⊎_elim, inl, inr, Bool, true, false, List, [], ◌∷◌, ◌++◌, ap, ap₂}
+use Rattle.scop_syntax.proofs.Common.{sym, refl, ◌∙◌, subst, get_or, nat_eq, if◌then◌else◌, In}
 use Rattle.tile_edges.specs.steps.Touches.{KeepSame, marks_in, readers_in}
 use Rattle.tile_edges.specs.steps.Traces.{HasVisited, marked, met, met_at}
 use Rattle.tile_edges.specs.steps.Gains.{Gains}

@@ -1,18 +1,11 @@
 -- The last writers that a pass meets at what a place reads are those of the walk.
-use Rattle.std.proofs.Common.{◌≡◌, ◌<◌, ◌≤◌, ℕ, zero, suc, ℤ, Bool, true, false, List, [], Some, None, ap, ap₂, sym}
-use Rattle.std.proofs.Common.{refl, ◌∙◌, subst, arith, length, map, inr}
-use Rattle.std.specs.Prelude.{Option, option_and_then, nat_eq, slice_get, if◌then◌else◌}
-use Rattle.std.specs.Option.{option_map}
-use Rattle.std.proofs.lemmas.Bool.{eq-eqb, ne_eqb}
-use Rattle.std.proofs.lemmas.Option.{slice_get_within}
-use Rattle.scop_syntax.specs.Cells.{Cell, accesses, cell_of, reads, written}
-use Rattle.scop_syntax.specs.Execution.{IsCell, IsInside, cell_number, layout}
-use Rattle.scop_syntax.specs.Members.{In}
-use Rattle.scop_syntax.specs.Tree.{Access, Program}
-use Rattle.scop_syntax.specs.Walk.{Visit, walk_of}
-use Rattle.scop_syntax.specs.Writers.{last_of, last_writer, same_cell, writes}
-use Rattle.scop_syntax.proofs.Members.{in_from_place, in_map, in_map_from, place_of, there_is}
-use Rattle.scop_syntax.proofs.Writers.{cell_same, same_cells, written_inside}
+use Rattle.scop_syntax.proofs.Common.{◌≡◌, ◌<◌, ◌≤◌, ℕ, zero, suc, ℤ, Bool, true, false, List, [], Some, None, ap, ap₂}
+use Rattle.scop_syntax.proofs.Common.{sym, refl, ◌∙◌, subst, arith, length, map, inr, Option, option_and_then, nat_eq}
+use Rattle.scop_syntax.proofs.Common.{slice_get, if◌then◌else◌, option_map, eq-eqb, ne_eqb, slice_get_within, Cell}
+use Rattle.scop_syntax.proofs.Common.{accesses, cell_of, reads, written, IsCell, IsInside, cell_number, layout, In}
+use Rattle.scop_syntax.proofs.Common.{Access, Program, Visit, walk_of, last_of, last_writer, writes, in_from_place}
+use Rattle.scop_syntax.proofs.Common.{in_map, in_map_from, place_of, there_is, cell_same, same_cells, written_inside}
+use Rattle.scop_syntax.specs.Writers.{same_cell}
 use Rattle.tile_events.specs.Flat.{read_by, written_by}
 use Rattle.tile_events.specs.Plan.{Plan}
 use Rattle.tile_events.proofs.Flat.{AreApart}

@@ -1,19 +1,10 @@
 -- A pass over the walk goes on by one place.
-use Rattle.std.proofs.Common.{◌≡◌, ◌<◌, ◌≤◌, ◌^◌, ℕ, zero, suc, ℤ, Bool, List, [], ◌∷◌, ◌++◌, Some, ap, ap₂, sym, refl}
-use Rattle.std.proofs.Common.{◌∙◌, subst, arith, length, map, get_or, drop}
-use Rattle.std.specs.Prelude.{slice_get}
-use Rattle.std.specs.Option.{option_map}
-use Rattle.std.proofs.lemmas.List.{length-map}
-use Rattle.std.proofs.lemmas.Option.{slice_get-map, slice_get_within}
-use Rattle.whole_numbers.specs.Affine.{Affine, value_of}
-use Rattle.scop_syntax.specs.Cells.{Cell, accesses, cell_of, reads}
-use Rattle.scop_syntax.specs.Execution.{IsCell, cell_number, layout}
-use Rattle.scop_syntax.specs.Limits.{WithinLimits}
-use Rattle.scop_syntax.specs.Members.{In, Sorted}
-use Rattle.scop_syntax.specs.Tree.{Program, Statement}
-use Rattle.scop_syntax.specs.Values.{wrapped}
-use Rattle.scop_syntax.specs.Walk.{Instance, Visit, instance, walk_of}
-use Rattle.scop_syntax.proofs.Members.{in_from_place, in_map, there_is}
+use Rattle.scop_syntax.proofs.Common.{◌≡◌, ◌<◌, ◌≤◌, ◌^◌, ℕ, zero, suc, ℤ, Bool, List, [], ◌∷◌, ◌++◌, Some, ap, ap₂}
+use Rattle.scop_syntax.proofs.Common.{sym, refl, ◌∙◌, subst, arith, length, map, get_or, drop, slice_get, option_map}
+use Rattle.scop_syntax.proofs.Common.{length-map, slice_get-map, slice_get_within, Affine, value_of, Cell, accesses}
+use Rattle.scop_syntax.proofs.Common.{cell_of, reads, IsCell, cell_number, layout, WithinLimits, In, Sorted, Program}
+use Rattle.scop_syntax.proofs.Common.{Statement, wrapped, Instance, Visit, instance, walk_of, in_from_place, in_map}
+use Rattle.scop_syntax.proofs.Common.{there_is}
 use Rattle.tile_table.specs.declared.table.Row.{Row}
 use Rattle.tile_table.specs.declared.table.Table.{Table}
 use Rattle.tile_table.proofs.Visits.{HasRow, WalkLaws, cell_told, row_of}

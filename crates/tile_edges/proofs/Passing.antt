@@ -1,10 +1,8 @@
 -- A pass over the places meets at each place those that it covers, or the last writers of what it reads.
-use Rattle.std.proofs.Common.{◌≡◌, ℕ, zero, suc, ◌<◌, ◌≢◌, ◌⊎◌, inl, inr, ⊎_elim, Bool, true, false, List, [], ◌∷◌}
-use Rattle.std.proofs.Common.{◌++◌, Some, None, ap, sym, refl, ◌∙◌, subst, arith}
-use Rattle.std.specs.Prelude.{Option, nat_eq, if◌then◌else◌}
-use Rattle.std.proofs.lemmas.Bool.{eqb-true, eqb-false, eq-eqb, ne_eqb}
-use Rattle.scop_syntax.specs.Members.{In}
-use Rattle.scop_syntax.proofs.Members.{nat_cases, in_append, in_front, in_back}
+use Rattle.scop_syntax.proofs.Common.{◌≡◌, ℕ, zero, suc, ◌<◌, ◌≢◌, ◌⊎◌, inl, inr, ⊎_elim, Bool, true, false, List, []}
+use Rattle.scop_syntax.proofs.Common.{◌∷◌, ◌++◌, Some, None, ap, sym, refl, ◌∙◌, subst, arith, Option, nat_eq}
+use Rattle.scop_syntax.proofs.Common.{if◌then◌else◌, eqb-true, eqb-false, eq-eqb, ne_eqb, In, nat_cases, in_append}
+use Rattle.scop_syntax.proofs.Common.{in_front, in_back}
 use Rattle.tile_events.specs.Plan.{Plan}
 use Rattle.tile_events.specs.Covers.{AreFree, Covers}
 use Rattle.tile_edges.specs.steps.Passing.{is_in, last_at, readers_at, listed, lasts_at, sources_at}

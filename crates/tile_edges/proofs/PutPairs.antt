@@ -1,14 +1,13 @@
 -- Pairs that are put into rows of tiles.
-use Rattle.std.proofs.Common.{◌≡◌, ◌≢◌, ◌<◌, ◌+◌, ◌-◌, ℕ, zero, suc, ◌⊎◌, inl, inr, ⊎_elim, Bool, true, false, List, [], ◌∷◌, ◌++◌}
-use Rattle.std.proofs.Common.{ap, sym, refl, ◌∙◌, subst, arith, length, map, get_or, take}
-use Rattle.std.specs.Prelude.{slice_set, nat_lt, ◌==◌}
+use Rattle.scop_syntax.proofs.Common.{◌≡◌, ◌≢◌, ◌<◌, ◌+◌, ◌-◌, ℕ, zero, suc, ◌⊎◌, inl, inr, ⊎_elim, Bool, true, false}
+use Rattle.scop_syntax.proofs.Common.{List, [], ◌∷◌, ◌++◌, ap, sym, refl, ◌∙◌, subst, arith, length, map, get_or, take}
+use Rattle.scop_syntax.proofs.Common.{slice_set, nat_lt, ◌==◌, eqb-true, eqb-false, ltb-true, ltb-false}
+use Rattle.scop_syntax.proofs.Common.{get_or-set_same, get_or-set_other, get_or_default, length-set, length-map}
+use Rattle.scop_syntax.proofs.Common.{map-append, In, Sorted, in_append, in_front, in_back, nat_cases}
 use Rattle.std.specs.BTreeSet.{insert_key}
 use Rattle.std.specs.Ordering.{nat_cmp}
-use Rattle.std.proofs.lemmas.Bool.{eqb-true, eqb-false, ltb-true, ltb-false}
-use Rattle.std.proofs.lemmas.List.{get_or-set_same, get_or-set_other, get_or_default, length-append, length-set}
-use Rattle.std.proofs.lemmas.List.{length-map, map-append, append_assoc}
-use Rattle.scop_syntax.specs.Members.{In, Sorted}
-use Rattle.scop_syntax.proofs.Members.{in_append, in_front, in_back, nat_cases}
+use Rattle.std.proofs.lemmas.List.{length-append}
+use Rattle.std.proofs.lemmas.List.{append_assoc}
 use Rattle.tile_edges.specs.steps.Gains.{Gains}
 use Rattle.tile_edges.specs.steps.Rows.{AreKept, joined, rows_in}
 use Rattle.tile_edges.specs.steps.Traces.{marked}

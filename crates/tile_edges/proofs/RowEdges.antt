@@ -1,12 +1,10 @@
 -- Rows that rise, one behind another, are edges, and tell which pairs there are.
-use Rattle.std.proofs.Common.{◌≡◌, ◌<◌, ◌≤◌, ◌+◌, ◌-◌, ℕ, zero, suc, List, [], ◌∷◌, ◌++◌, ap, sym, refl, ◌∙◌, subst, arith}
-use Rattle.std.proofs.Common.{length, get_or, ◌⊎◌, inl, inr}
+use Rattle.scop_syntax.proofs.Common.{◌≡◌, ◌<◌, ◌≤◌, ◌+◌, ◌-◌, ℕ, zero, suc, List, [], ◌∷◌, ◌++◌, ap, sym, refl, ◌∙◌}
+use Rattle.scop_syntax.proofs.Common.{subst, arith, length, get_or, ◌⊎◌, inl, inr, get_or_append_left, slice_get_within}
+use Rattle.scop_syntax.proofs.Common.{get_or_from_slice_get, In, Sorted, in_at, nat_cases, place_of}
 use Rattle.std.proofs.Math.ListN.{get_or-eq_default}
 use Rattle.std.proofs.Math.Seq.{get_or-append_right as append_right}
-use Rattle.std.proofs.lemmas.List.{length-append, get_or_append_left}
-use Rattle.std.proofs.lemmas.Option.{slice_get_within, get_or_from_slice_get}
-use Rattle.scop_syntax.specs.Members.{In, Sorted}
-use Rattle.scop_syntax.proofs.Members.{in_at, nat_cases, place_of}
+use Rattle.std.proofs.lemmas.List.{length-append}
 use Rattle.tile_events.specs.Deal.{tile_at}
 use Rattle.tile_events.specs.Releases.{AreEdges, Edges}
 use Rattle.tile_events.proofs.Deals.{rises, tile_at_is, tile_at_one}

@@ -1,9 +1,8 @@
 -- Rows put one behind another, with where each begins, and how often a number is among them.
-use Rattle.std.proofs.Common.{◌≡◌, ◌<◌, ◌≤◌, ◌+◌, ℕ, zero, suc, Bool, true, false, List, [], ◌∷◌, ◌++◌, ap, sym, refl, ◌∙◌}
-use Rattle.std.proofs.Common.{arith, length, map, get_or, drop}
-use Rattle.std.specs.Prelude.{slice_set, nat_eq, if◌then◌else◌}
-use Rattle.std.proofs.lemmas.Bool.{eqb-true, eqb-false}
-use Rattle.std.proofs.lemmas.List.{length-append, append_assoc, append-nil, get_or-set_same, get_or-set_other}
+use Rattle.scop_syntax.proofs.Common.{◌≡◌, ◌<◌, ◌≤◌, ◌+◌, ℕ, zero, suc, Bool, true, false, List, [], ◌∷◌, ◌++◌, ap, sym}
+use Rattle.scop_syntax.proofs.Common.{refl, ◌∙◌, arith, length, map, get_or, drop, slice_set, nat_eq, if◌then◌else◌}
+use Rattle.scop_syntax.proofs.Common.{eqb-true, eqb-false, get_or-set_same, get_or-set_other}
+use Rattle.std.proofs.lemmas.List.{length-append, append_assoc, append-nil}
 use Rattle.tile_events.specs.Plan.{count_of}
 use Rattle.tile_edges.specs.steps.Rows.{joined, starts_from}
 

@@ -1,11 +1,7 @@
 -- A list gone through element by element.
-use Rattle.std.proofs.Common.{◌≡◌, ◌<◌, ◌+◌, ℕ, List, [], ◌∷◌, ◌++◌, length, map, get_or, take, sym, ap, ◌∙◌}
-use Rattle.std.proofs.lemmas.List.{take_more, get_or-map, map-set, map-append}
-use Rattle.std.proofs.lemmas.Grind.{get_or_default_zero}
-use Rattle.std.proofs.Common.{Some}
-use Rattle.std.specs.Prelude.{slice_get, slice_set}
-use Rattle.std.proofs.lemmas.Option.{get_or_from_slice_get}
-use Rattle.scop_syntax.proofs.Members.{there_is}
+use Rattle.scop_syntax.proofs.Common.{◌≡◌, ◌<◌, ◌+◌, ℕ, List, [], ◌∷◌, ◌++◌, length, map, get_or, take, sym, ap, ◌∙◌}
+use Rattle.scop_syntax.proofs.Common.{take_more, get_or-map, map-set, map-append, get_or_default_zero, Some, slice_get}
+use Rattle.scop_syntax.proofs.Common.{slice_set, get_or_from_slice_get, there_is}
 
 -- one more is taken
 pub taken_more : {A : Type 0} (xs : List A) (k : ℕ) (x : A) → k < length xs → x ≡ get_or xs k x

@@ -1,10 +1,7 @@
 -- Marks and readers of the places so far, and of one place more.
-use Rattle.std.proofs.Common.{◌≡◌, ◌≢◌, ℕ, suc, ◌⊎◌, inl, inr, ⊎_elim, Bool, true, false, List, [], ◌∷◌, ◌++◌}
-use Rattle.std.proofs.Common.{Some, None, sym, refl, subst, arith, get_or}
-use Rattle.std.specs.Prelude.{Option, nat_eq, if◌then◌else◌}
-use Rattle.std.proofs.lemmas.Bool.{eqb-true, eqb-false, ne_eqb}
-use Rattle.scop_syntax.specs.Members.{In}
-use Rattle.scop_syntax.proofs.Members.{in_append, in_front, in_back, nat_cases}
+use Rattle.scop_syntax.proofs.Common.{◌≡◌, ◌≢◌, ℕ, suc, ◌⊎◌, inl, inr, ⊎_elim, Bool, true, false, List, [], ◌∷◌, ◌++◌}
+use Rattle.scop_syntax.proofs.Common.{Some, None, sym, refl, subst, arith, get_or, Option, nat_eq, if◌then◌else◌}
+use Rattle.scop_syntax.proofs.Common.{eqb-true, eqb-false, ne_eqb, In, in_append, in_front, in_back, nat_cases}
 use Rattle.tile_events.specs.Plan.{Plan}
 use Rattle.tile_edges.specs.steps.Gains.{Gains}
 use Rattle.tile_edges.specs.steps.Passing.{is_in, last_at, readers_at, listed, lasts_at, sources_at}

@@ -1,12 +1,10 @@
 -- What a visit changes of marks and readers.
-use Rattle.std.proofs.Common.{◌≡◌, ◌≢◌, ◌<◌, ◌≤◌, ◌+◌, ℕ, zero, suc, ◌⊎◌, inl, inr, ⊎_elim, Bool, true, false, List, [], ◌∷◌}
-use Rattle.std.proofs.Common.{◌++◌, ap, sym, refl, ◌∙◌, subst, arith, length, map, get_or, take}
-use Rattle.std.specs.Prelude.{slice_set, nat_eq, if◌then◌else◌}
-use Rattle.std.proofs.lemmas.Bool.{eqb-true, eqb-false}
-use Rattle.std.proofs.lemmas.List.{get_or-set_same, get_or-set_other, length-set, length-map, take_all}
+use Rattle.scop_syntax.proofs.Common.{◌≡◌, ◌≢◌, ◌<◌, ◌≤◌, ◌+◌, ℕ, zero, suc, ◌⊎◌, inl, inr, ⊎_elim, Bool, true, false}
+use Rattle.scop_syntax.proofs.Common.{List, [], ◌∷◌, ◌++◌, ap, sym, refl, ◌∙◌, subst, arith, length, map, get_or, take}
+use Rattle.scop_syntax.proofs.Common.{slice_set, nat_eq, if◌then◌else◌, eqb-true, eqb-false, get_or-set_same}
+use Rattle.scop_syntax.proofs.Common.{get_or-set_other, length-set, length-map, take_all, In, in_append, in_front}
+use Rattle.scop_syntax.proofs.Common.{in_back, nat_cases}
 use Rattle.std.proofs.lemmas.List.{append_assoc, append-nil}
-use Rattle.scop_syntax.specs.Members.{In}
-use Rattle.scop_syntax.proofs.Members.{in_append, in_front, in_back, nat_cases}
 use Rattle.tile_edges.specs.steps.Touches.{HasTile, HasEntered, HasRoom, KeepSame}
 use Rattle.tile_edges.specs.declared.touching.Traces.{Traces}
 use Rattle.tile_edges.specs.steps.Gains.{Gains}

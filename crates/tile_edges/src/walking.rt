@@ -28,9 +28,9 @@ use scop_syntax::limit_laws::cells_lie_within_22_bits;
 use scop_syntax::tree::Kernel;
 use scop_syntax::walk_laws::{instances_are_those_of_statements, statements_are_numbered};
 use std::alloc::{AllocError, Global};
+use tile_list::TileList;
 use tile_table::desk::Desk;
 use tile_table::table::{Row, Table};
-use tile_list::TileList;
 
 /// As many pairs as there may be.
 pub const MOST: usize = 4194304;

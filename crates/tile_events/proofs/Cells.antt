@@ -1,11 +1,8 @@
 -- What the cells hold where some places are done.
-use Rattle.std.proofs.Common.{◌≡◌, ℕ, zero, suc, ◌+◌, ◌%◌, ◌^◌, ◌<◌, ◌≤◌, ◌≢◌, inl, inr, ⊎_elim, ◌&&◌, Bool, true}
-use Rattle.std.proofs.Common.{false, ap, ap₂, sym, refl, ◌∙◌, subst, arith}
-use Rattle.std.specs.Prelude.{nat_eq, if◌then◌else◌}
-use Rattle.std.proofs.lemmas.Bool.{eqb-true, eq-eqb, lt-ltb, le-ltb, cases_lt}
+use Rattle.scop_syntax.proofs.Common.{◌≡◌, ℕ, zero, suc, ◌+◌, ◌%◌, ◌^◌, ◌<◌, ◌≤◌, ◌≢◌, inl, inr, ⊎_elim, ◌&&◌, Bool}
+use Rattle.scop_syntax.proofs.Common.{true, false, ap, ap₂, sym, refl, ◌∙◌, subst, arith, nat_eq, if◌then◌else◌}
+use Rattle.scop_syntax.proofs.Common.{eqb-true, eq-eqb, lt-ltb, le-ltb, cases_lt, In, nat_cases}
 use Rattle.std.proofs.Math.Nat.{mod-add-mod}
-use Rattle.scop_syntax.specs.Members.{In}
-use Rattle.scop_syntax.proofs.Members.{nat_cases}
 use Rattle.tile_events.specs.Plan.{Plan, updated, before, stored, words_of}
 use Rattle.tile_events.specs.steps.Ready.{up_to, IsReady}
 

@@ -1,11 +1,7 @@
 -- One worker changes, and the state stays sound (`Change`, one record for each event).
-use Rattle.std.proofs.Common.{◌≡◌, ℕ, ◌+◌, ◌<◌, ◌≤◌, ◌≢◌, ⊎_elim, ◌&&◌, Bool, true, min, List, get_or, set, ap, sym}
-use Rattle.std.proofs.Common.{refl, ◌∙◌, subst, arith}
-use Rattle.std.specs.Prelude.{nat_lt}
-use mathlib.Core.Option.{some, some-injective}
-use lib.ListN.{get_elem?}
+use Rattle.scop_syntax.proofs.Common.{◌≡◌, ℕ, ◌+◌, ◌<◌, ◌≤◌, ◌≢◌, ⊎_elim, ◌&&◌, Bool, true, min, List, get_or, set, ap}
+use Rattle.scop_syntax.proofs.Common.{sym, refl, ◌∙◌, subst, arith, nat_lt, some, some-injective, get_elem?, nat_cases}
 use Rattle.atomic_table.proofs.Lists.{at_set, set_else}
-use Rattle.scop_syntax.proofs.Members.{nat_cases}
 use Rattle.tile_events.specs.Plan.{Plan, Gate, waves, counters, words_of}
 use Rattle.tile_events.specs.Core.{Worker, ended, holding, working, State}
 use Rattle.tile_events.specs.Sound.{Holds, total, one_if_held, passed, is_done, IsFinished, IsBegun, AreOpened, Sound}

@@ -1,12 +1,9 @@
 -- What steps, cuts and joins of seats do to their clocks, and what clocks tell.
-use Rattle.std.proofs.Common.{◌≡◌, ℕ, zero, suc, ◌+◌, ◌<◌, ◌≤◌, ◌≢◌, ◌⊎◌, ⊎_elim, inl, inr, Bool, true, false, List}
-use Rattle.std.proofs.Common.{[], ◌∷◌, ◌++◌, set, ap, sym, refl, ◌∙◌, subst, arith}
-use Rattle.std.specs.Prelude.{nat_lt, slice_index, slice_set, if◌then◌else◌}
-use Rattle.std.proofs.lemmas.Bool.{ltb-true, ltb-false}
-use mathlib.Core.Option.{some, some-injective}
-use lib.ListN.{get_elem?}
+use Rattle.scop_syntax.proofs.Common.{◌≡◌, ℕ, zero, suc, ◌+◌, ◌<◌, ◌≤◌, ◌≢◌, ◌⊎◌, ⊎_elim, inl, inr, Bool, true, false}
+use Rattle.scop_syntax.proofs.Common.{List, [], ◌∷◌, ◌++◌, set, ap, sym, refl, ◌∙◌, subst, arith, nat_lt, slice_index}
+use Rattle.scop_syntax.proofs.Common.{slice_set, if◌then◌else◌, ltb-true, ltb-false, some, some-injective, get_elem?}
+use Rattle.scop_syntax.proofs.Common.{nat_cases}
 use Rattle.atomic_table.proofs.Lists.{at_set, at_snoc, at_longer, set_else}
-use Rattle.scop_syntax.proofs.Members.{nat_cases}
 use Rattle.tile_events.specs.Plan.{Plan}
 use Rattle.tile_events.specs.Sound.{total}
 use Rattle.tile_events.specs.Opening.{AreOpeningWords}

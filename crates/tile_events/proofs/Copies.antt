@@ -1,10 +1,8 @@
 -- Reads from copies give what reads of the cells give.
-use Rattle.std.proofs.Common.{◌≡◌, ℕ, zero, suc, ◌+◌, ◌<◌, ◌≤◌, ◌≢◌, ◌⊎◌, ◌&&◌, Bool, true, false, List, [], ◌∷◌}
-use Rattle.std.proofs.Common.{map, inl, inr, ⊎_elim, ap, ap₂, sym, refl, ◌∙◌, subst, arith}
-use Rattle.std.specs.Prelude.{Option, Some, None, nat_eq, if◌then◌else◌}
-use Rattle.std.proofs.lemmas.Bool.{lt-ltb, le-ltb, eq-eqb, ne_eqb, and_right}
-use Rattle.scop_syntax.specs.Members.{In}
-use Rattle.scop_syntax.proofs.Members.{nat_cases}
+use Rattle.scop_syntax.proofs.Common.{◌≡◌, ℕ, zero, suc, ◌+◌, ◌<◌, ◌≤◌, ◌≢◌, ◌⊎◌, ◌&&◌, Bool, true, false, List, []}
+use Rattle.scop_syntax.proofs.Common.{◌∷◌, map, inl, inr, ⊎_elim, ap, ap₂, sym, refl, ◌∙◌, subst, arith, Option, Some}
+use Rattle.scop_syntax.proofs.Common.{None, nat_eq, if◌then◌else◌, lt-ltb, le-ltb, eq-eqb, ne_eqb, In, nat_cases}
+use Rattle.std.proofs.lemmas.Bool.{and_right}
 use Rattle.tile_events.specs.Plan.{Plan, waves, before, stored, values_read, words_of, Touch, Ordered}
 use Rattle.tile_events.specs.Plan.{GoodPlan, IsDealt, IsGated}
 use Rattle.tile_events.proofs.Covers.{ordered_by_waves}

@@ -1,7 +1,6 @@
 -- How many numbers pass a test.
-use Rattle.std.proofs.Common.{◌≡◌, ℕ, zero, suc, ◌+◌, ◌<◌, ◌≤◌, Bool, true, false, ap, refl, ◌∙◌, sym, arith}
-use Rattle.std.specs.Prelude.{if◌then◌else◌}
-use Rattle.scop_syntax.proofs.Members.{nat_cases}
+use Rattle.scop_syntax.proofs.Common.{◌≡◌, ℕ, zero, suc, ◌+◌, ◌<◌, ◌≤◌, Bool, true, false, ap, refl, ◌∙◌, sym, arith}
+use Rattle.scop_syntax.proofs.Common.{if◌then◌else◌, nat_cases}
 use Rattle.tile_events.specs.Plan.{count_of}
 
 pub count_within : (f : ℕ → Bool) (n : ℕ) → count_of f n ≤ n

@@ -1,7 +1,5 @@
 -- Where a counter holds as much as there are places that count for a tile, all of these are done.
-use Rattle.std.proofs.Common.{◌≡◌, ℕ, ◌^◌, ◌<◌, ◌≤◌, ◌&&◌, true, get_or, arith}
-use Rattle.std.specs.Prelude.{nat_eq}
-use Rattle.std.proofs.lemmas.Bool.{eq-eqb, and_parts}
+use Rattle.scop_syntax.proofs.Common.{◌≡◌, ℕ, ◌^◌, ◌<◌, ◌≤◌, ◌&&◌, true, get_or, arith, nat_eq, eq-eqb, and_parts}
 use Rattle.std.proofs.Math.Nat.{mod-le}
 use Rattle.tile_events.specs.Plan.{Plan, values_read, count_of, IsCounted}
 use Rattle.tile_events.specs.Core.{State}

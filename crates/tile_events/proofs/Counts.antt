@@ -1,12 +1,9 @@
 -- An event leaves as many workers as there were, and each claim took a tile or ended a worker.
-use Rattle.std.proofs.Common.{◌≡◌, ◌⊎◌, ⊎_elim, inl, inr, ◌&&◌, Bool, true, false, ℕ, suc, ◌≤◌, List, [], ◌∷◌, ◌++◌}
-use Rattle.std.proofs.Common.{length, set, refl, arith}
-use Rattle.std.specs.Prelude.{nat_lt, nat_le, nat_eq, get_or, if◌then◌else◌}
-use Rattle.std.proofs.lemmas.Bool.{ltb-true}
-use Rattle.std.proofs.lemmas.List.{length-set}
-use mathlib.Core.Option.{some, none}
+use Rattle.scop_syntax.proofs.Common.{◌≡◌, ◌⊎◌, ⊎_elim, inl, inr, ◌&&◌, Bool, true, false, ℕ, suc, ◌≤◌, List, [], ◌∷◌}
+use Rattle.scop_syntax.proofs.Common.{◌++◌, length, set, refl, arith, nat_lt, nat_le, nat_eq, get_or, if◌then◌else◌}
+use Rattle.scop_syntax.proofs.Common.{ltb-true, length-set, some, get_elem?}
+use mathlib.Core.Option.{none}
 use mathlib.Core.Option as plain
-use lib.ListN.{get_elem?}
 use Rattle.tile_events.specs.Plan.{Plan}
 use Rattle.tile_events.specs.Core.{Worker, idle, ended, holding, working, State, Seen, Event, claim}
 use Rattle.tile_events.specs.Core.{open_tile, load, store, add, release, finish, cell_read, acts, step, step_of}

@@ -1,10 +1,7 @@
 -- Chains of covers join all that touch, and in a plan by waves they are chains of pairs of tiles.
-use Rattle.std.proofs.Common.{◌≡◌, ℕ, zero, suc, ◌+◌, ◌-◌, ◌<◌, ◌≤◌, ◌≢◌, ◌⊎◌, inl, inr, ⊎_elim, Bool, true, false}
-use Rattle.std.proofs.Common.{List, [], ◌∷◌, ap, sym, refl, ◌∙◌, subst, arith}
-use Rattle.std.specs.Prelude.{nat_eq}
-use Rattle.std.proofs.lemmas.Bool.{eqb-true, eqb-false}
-use Rattle.scop_syntax.specs.Members.{In}
-use Rattle.scop_syntax.proofs.Members.{nat_cases}
+use Rattle.scop_syntax.proofs.Common.{◌≡◌, ℕ, zero, suc, ◌+◌, ◌-◌, ◌<◌, ◌≤◌, ◌≢◌, ◌⊎◌, inl, inr, ⊎_elim, Bool, true}
+use Rattle.scop_syntax.proofs.Common.{false, List, [], ◌∷◌, ap, sym, refl, ◌∙◌, subst, arith, nat_eq, eqb-true}
+use Rattle.scop_syntax.proofs.Common.{eqb-false, In, nat_cases}
 use Rattle.tile_events.specs.Plan.{Plan, waves, Awaits, Ordered, IsByWaves, Through, Touch, GoodPlan}
 use Rattle.tile_events.specs.Releases.{Edges, Leads, Precedes, Chain, AreCovered}
 use Rattle.tile_events.specs.Covers.{AreFree, Meet, Covers, ArePairsOf, Covered}

@@ -1,9 +1,8 @@
 -- A scan cut into tiles deals each place once.
-use Rattle.std.proofs.Common.{◌≡◌, ℕ, zero, suc, ◌+◌, ◌-◌, ◌<◌, ◌≤◌, Bool, true, false, List, ap, sym, refl, ◌∙◌, arith}
-use Rattle.std.specs.Prelude.{nat_le, nat_lt, if◌then◌else◌}
-use Rattle.std.proofs.lemmas.Bool.{leb-true, leb-false, ltb-true, ltb-false, le-leb, lt-leb}
-use Rattle.scop_syntax.specs.Members.{In}
-use Rattle.scop_syntax.proofs.Members.{nat_cases}
+use Rattle.scop_syntax.proofs.Common.{◌≡◌, ℕ, zero, suc, ◌+◌, ◌-◌, ◌<◌, ◌≤◌, Bool, true, false, List, ap, sym, refl}
+use Rattle.scop_syntax.proofs.Common.{◌∙◌, arith, nat_le, nat_lt, if◌then◌else◌, leb-true, ltb-true, ltb-false, le-leb}
+use Rattle.scop_syntax.proofs.Common.{lt-leb, In, nat_cases}
+use Rattle.std.proofs.lemmas.Bool.{leb-false}
 use Rattle.tile_events.specs.Plan.{IsDealt}
 use Rattle.tile_events.specs.Deal.{Deal, IsScan, tile_at, offset_to, dealt}
 

@@ -1,17 +1,10 @@
 -- What a cell holds where some places are done, in the words of the walk's own execution.
-use Rattle.std.proofs.Common.{◌≡◌, ◌≢◌, ℕ, zero, suc, ◌<◌, ◌&&◌, Bool, true, false, List, length, Some, ap, sym}
-use Rattle.std.proofs.Common.{refl, ◌∙◌, subst, arith}
-use Rattle.std.specs.Prelude.{drop, map, slice_get, nat_eq, if◌then◌else◌}
-use Rattle.std.proofs.lemmas.Bool.{eq-eqb, ne_eqb}
-use Rattle.std.proofs.lemmas.Option.{slice_get_within}
-use Rattle.scop_syntax.specs.Cells.{Cell, cell_of, reads, written}
-use Rattle.scop_syntax.specs.Execution.{AreInside, IsCell, IsShaped, before_place, cell_number, held, value_stored_by}
-use Rattle.scop_syntax.specs.Reductions.{AreMarked, added_by, is_marked}
-use Rattle.scop_syntax.specs.Tree.{Access}
-use Rattle.scop_syntax.specs.Values.{stored_by}
-use Rattle.scop_syntax.specs.Walk.{Visit}
-use Rattle.scop_syntax.proofs.Members.{nat_cases}
-use Rattle.scop_syntax.proofs.Writers.{visit_at, written_inside}
+use Rattle.scop_syntax.proofs.Common.{◌≡◌, ◌≢◌, ℕ, zero, suc, ◌<◌, ◌&&◌, Bool, true, false, List, length, Some, ap, sym}
+use Rattle.scop_syntax.proofs.Common.{refl, ◌∙◌, subst, arith, drop, map, slice_get, nat_eq, if◌then◌else◌, eq-eqb}
+use Rattle.scop_syntax.proofs.Common.{ne_eqb, slice_get_within, Cell, cell_of, reads, written, AreInside, IsCell}
+use Rattle.scop_syntax.proofs.Common.{IsShaped, before_place, cell_number, held, value_stored_by, AreMarked, added_by}
+use Rattle.scop_syntax.proofs.Common.{is_marked, Access, stored_by, Visit, nat_cases, written_inside}
+use Rattle.scop_syntax.proofs.Writers.{visit_at}
 use Rattle.tile_events.specs.DonePlaces.{HasNoWriter, IsLastWriter}
 use Rattle.tile_events.specs.Flat.{IsWalk, value_by, written_by}
 use Rattle.tile_events.specs.Plan.{Plan, stored, values_read, words_of}

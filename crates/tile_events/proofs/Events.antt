@@ -1,15 +1,11 @@
 -- Each event keeps what holds between events.
-use Rattle.std.proofs.Common.{◌≡◌, ℕ, suc, ◌<◌, ◌≤◌, ◌≢◌, ⊎_elim, Bool, true, false, not}
-use Rattle.std.proofs.Common.{List, [], ◌∷◌, ◌++◌, length, take, get_or, set, ap, ap₂, sym, refl, ◌∙◌, subst, arith}
-use Rattle.std.specs.Prelude.{⊤, nat_eq, nat_lt, if◌then◌else◌}
-use Rattle.std.proofs.lemmas.Bool.{eqb-true, eqb-false, ltb-true, lt-ltb, le-ltb, cases_lt, and_parts}
-use Rattle.std.proofs.Math.Seq.{take-suc, take-length}
-use Rattle.std.proofs.lemmas.List.{get_or-map, get_or-set_same, get_or-set_other, length-append, length-set, length-map}
-use mathlib.Core.Option.{some}
-use lib.ListN.{get_elem?}
+use Rattle.scop_syntax.proofs.Common.{◌≡◌, ℕ, suc, ◌<◌, ◌≤◌, ◌≢◌, ⊎_elim, Bool, true, false, not, List, [], ◌∷◌, ◌++◌}
+use Rattle.scop_syntax.proofs.Common.{length, take, get_or, set, ap, ap₂, sym, refl, ◌∙◌, subst, arith, ⊤, nat_eq}
+use Rattle.scop_syntax.proofs.Common.{nat_lt, if◌then◌else◌, eqb-true, eqb-false, ltb-true, lt-ltb, le-ltb, cases_lt}
+use Rattle.scop_syntax.proofs.Common.{and_parts, take-suc, take-length, get_or-map, get_or-set_same, get_or-set_other}
+use Rattle.scop_syntax.proofs.Common.{length-set, length-map, some, get_elem?, In, nat_cases, in_at}
+use Rattle.std.proofs.lemmas.List.{length-append}
 use Rattle.atomic_table.proofs.Lists.{at_set}
-use Rattle.scop_syntax.specs.Members.{In}
-use Rattle.scop_syntax.proofs.Members.{nat_cases, in_at}
 use Rattle.tile_events.specs.Plan.{Plan, Gate, waves, counters, updated, GoodPlan, IsDealt, IsGated, before, stored}
 use Rattle.tile_events.specs.Plan.{values_read, words_of}
 use Rattle.tile_events.specs.Core.{Worker, idle, ended, holding, working, State, after_claim, after_last, with_worker}

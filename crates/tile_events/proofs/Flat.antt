@@ -1,25 +1,19 @@
 -- A plan whose places are the visits of a walk executes as they do, over the row of all arrays' cells.
-use Rattle.std.proofs.Common.{◌≡◌, ℕ, zero, suc, ◌+◌, ◌-◌, ◌^◌, ◌<◌, ◌≤◌, inl, inr, Bool, true, false, ℤ, List, []}
-use Rattle.std.proofs.Common.{◌∷◌, ◌++◌, map, length, take, drop, get_or, Some, ap, ap₂, sym, refl, ◌∙◌, subst, arith}
-use Rattle.std.specs.Prelude.{slice_get, nat_eq, if◌then◌else◌}
-use Rattle.std.proofs.lemmas.Bool.{eqb-true, eqb-false}
-use Rattle.std.proofs.lemmas.List.{get_or-append-add}
-use Rattle.std.proofs.Math.ListN.{get_or-append}
+use Rattle.scop_syntax.proofs.Common.{◌≡◌, ℕ, zero, suc, ◌+◌, ◌-◌, ◌^◌, ◌<◌, ◌≤◌, inl, inr, Bool, true, false, ℤ, List}
+use Rattle.scop_syntax.proofs.Common.{[], ◌∷◌, ◌++◌, map, length, take, drop, get_or, Some, ap, ap₂, sym, refl, ◌∙◌}
+use Rattle.scop_syntax.proofs.Common.{subst, arith, slice_get, nat_eq, if◌then◌else◌, eqb-true, eqb-false}
+use Rattle.scop_syntax.proofs.Common.{get_or-append-add, get_or-append, take-length, Visit, Access, plus, minus, Right}
+use Rattle.scop_syntax.proofs.Common.{assigned, combined, Statement, Cell, cell_of, reads, reads_with, accesses}
+use Rattle.scop_syntax.proofs.Common.{written, Conflict, stored_by, value_on, In, cell_count, total_cells, offset_of}
+use Rattle.scop_syntax.proofs.Common.{cell_number, held, value_stored_by, performed_all, before_place, IsCell}
+use Rattle.scop_syntax.proofs.Common.{AreInside, IsShaped, offset_below, in_map_from, in_from_place, place_of}
+use Rattle.scop_syntax.proofs.Common.{shape_before, written_inside, AreMarked, added_by, is_marked, loads}
 use Rattle.std.proofs.Math.Nat.{add-mod-mod}
-use Rattle.std.proofs.Math.Seq.{take-length}
-use Rattle.scop_syntax.specs.Walk.{Visit}
-use Rattle.scop_syntax.specs.Tree.{Access, plus, minus, Right, assigned, combined, Statement}
-use Rattle.scop_syntax.specs.Cells.{Cell, cell_of, reads, reads_with, accesses, written, Conflict}
-use Rattle.scop_syntax.specs.Values.{stored_by, value_on}
-use Rattle.scop_syntax.specs.Members.{In}
-use Rattle.scop_syntax.specs.Execution.{cell_count, total_cells, offset_of, cell_number, held}
-use Rattle.scop_syntax.specs.Execution.{value_stored_by, performed, performed_all, before_place, IsCell, AreInside}
-use Rattle.scop_syntax.specs.Execution.{IsShaped}
-use Rattle.scop_syntax.proofs.Memory.{held_stored, held_other, offset_below}
-use Rattle.scop_syntax.proofs.Members.{in_map_from, in_from_place, place_of}
-use Rattle.scop_syntax.proofs.Writers.{before_next, visit_at, shape_before, written_inside}
+use Rattle.scop_syntax.specs.Execution.{performed}
+use Rattle.scop_syntax.proofs.Memory.{held_stored, held_other}
+use Rattle.scop_syntax.proofs.Writers.{before_next, visit_at}
 use Rattle.tile_events.specs.Plan.{Plan, updated, before, values_read, Touch}
-use Rattle.scop_syntax.specs.Reductions.{AreMarked, IsSum, added_by, is_marked, loads}
+use Rattle.scop_syntax.specs.Reductions.{IsSum}
 use Rattle.tile_events.specs.Flat.{IsWalk, flat, read_by, value_by, written_by}
 
 map_held : (es rows : List (List ℕ)) (f : ℕ → ℕ) (point : List ℤ) (touched : List Access)

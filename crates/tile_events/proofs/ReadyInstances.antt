@@ -1,10 +1,7 @@
 -- The next instance of a worker in an opened tile is ready: what it touches before it is done, what comes after it not.
-use Rattle.std.proofs.Common.{◌≡◌, ℕ, ◌<◌, ◌≤◌, ⊎_elim, Bool, true, List, [], ◌∷◌, sym, refl, ◌∙◌, subst, arith}
-use Rattle.std.specs.Prelude.{nat_lt, if◌then◌else◌}
-use Rattle.std.proofs.lemmas.Bool.{eq-eqb, ltb-true, lt-ltb, false_from_ne_true, and_parts}
-use mathlib.Core.Option.{some, some-injective}
-use lib.ListN.{get_elem?}
-use Rattle.scop_syntax.proofs.Members.{nat_cases}
+use Rattle.scop_syntax.proofs.Common.{◌≡◌, ℕ, ◌<◌, ◌≤◌, ⊎_elim, Bool, true, List, [], ◌∷◌, sym, refl, ◌∙◌, subst, arith}
+use Rattle.scop_syntax.proofs.Common.{nat_lt, if◌then◌else◌, eq-eqb, ltb-true, lt-ltb, false_from_ne_true, and_parts}
+use Rattle.scop_syntax.proofs.Common.{some, some-injective, get_elem?, nat_cases}
 use Rattle.tile_events.specs.Plan.{Plan, Gate, waves, counters, Awaits, Ordered, Through, GoodPlan, IsDealt}
 use Rattle.tile_events.specs.Core.{Worker, holding, working, State}
 use Rattle.tile_events.specs.Sound.{passed, all_passed, is_done, IsFinished, IsBegun, AreOpened, Sound}

@@ -1,11 +1,9 @@
 -- A plan with releases deals each place once, counts what its tiles wait for, and keeps the order of the pairs.
-use Rattle.std.proofs.Common.{◌≡◌, ℕ, zero, suc, ◌+◌, ◌-◌, ◌<◌, ◌≤◌, ◌⊎◌, inl, inr, ⊎_elim, Bool, true, false, List, []}
-use Rattle.std.proofs.Common.{◌∷◌, ◌&&◌, ◌%◌, ◌^◌, map, get_or, ap, ap₂, sym, refl, ◌∙◌, subst, arith}
-use Rattle.std.specs.Prelude.{nat_eq, nat_lt, if◌then◌else◌}
-use Rattle.std.proofs.lemmas.Bool.{lt-ltb, le-ltb, eqb-true, eqb-false, eq-eqb, ne_eqb, cases_lt, and_from, and_right}
-use Rattle.std.proofs.Math.Nat.{mod-eq_of_lt}
-use Rattle.scop_syntax.specs.Members.{In}
-use Rattle.scop_syntax.proofs.Members.{nat_cases}
+use Rattle.scop_syntax.proofs.Common.{◌≡◌, ℕ, zero, suc, ◌+◌, ◌-◌, ◌<◌, ◌≤◌, ◌⊎◌, inl, inr, ⊎_elim, Bool, true, false}
+use Rattle.scop_syntax.proofs.Common.{List, [], ◌∷◌, ◌&&◌, ◌%◌, ◌^◌, map, get_or, ap, ap₂, sym, refl, ◌∙◌, subst, arith}
+use Rattle.scop_syntax.proofs.Common.{nat_eq, nat_lt, if◌then◌else◌, lt-ltb, le-ltb, eqb-true, eqb-false, eq-eqb}
+use Rattle.scop_syntax.proofs.Common.{ne_eqb, cases_lt, and_from, mod-eq_of_lt, In, nat_cases}
+use Rattle.std.proofs.lemmas.Bool.{and_right}
 use Rattle.tile_events.specs.Plan.{Plan, updated, IsDealt, IsCounted, count_of, before, values_read, stored, words_of}
 use Rattle.tile_events.specs.Plan.{Touch, Ordered, Through, GoodPlan}
 use Rattle.tile_events.specs.Deal.{tile_at}

@@ -1,12 +1,10 @@
 -- Every list of events keeps what holds between events; at the start it holds, and at the end the cells are those of
 -- execution.
-use Rattle.std.proofs.Common.{◌≡◌, ℕ, zero, suc, ◌<◌, ◌&&◌, Bool, true, false, List, [], ◌∷◌, ◌++◌, length, get_or}
-use Rattle.std.proofs.Common.{ap, sym, refl, ◌∙◌, subst, arith}
-use Rattle.std.specs.Prelude.{nat_eq, nat_lt, nat_le, if◌then◌else◌}
-use Rattle.std.proofs.lemmas.Bool.{eqb-true, ltb-true, ltb-false, leb-true, le-ltb, and_parts}
-use mathlib.Core.Option.{some, none}
+use Rattle.scop_syntax.proofs.Common.{◌≡◌, ℕ, zero, suc, ◌<◌, ◌&&◌, Bool, true, false, List, [], ◌∷◌, ◌++◌, length}
+use Rattle.scop_syntax.proofs.Common.{get_or, ap, sym, refl, ◌∙◌, subst, arith, nat_eq, nat_lt, nat_le, if◌then◌else◌}
+use Rattle.scop_syntax.proofs.Common.{eqb-true, ltb-true, ltb-false, leb-true, le-ltb, and_parts, some, get_elem?}
+use mathlib.Core.Option.{none}
 use mathlib.Core.Option as plain
-use lib.ListN.{get_elem?}
 use Rattle.tile_events.specs.Plan.{Plan, Gate, waves, counters, GoodPlan, IsDealt, before, words_of}
 use Rattle.tile_events.specs.Core.{Worker, idle, ended, holding, working, State, Event, claim, open_tile, load, store}
 use Rattle.tile_events.specs.Core.{add, release, seen_by, needed_by, last_act, is_last_act}

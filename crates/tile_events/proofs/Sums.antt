@@ -1,9 +1,7 @@
 -- A cell to which its writers add holds what it held at first and their addends, modulo 2^64.
-use Rattle.std.proofs.Common.{◌≡◌, ℕ, zero, suc, ◌+◌, ◌%◌, ◌^◌, ◌<◌, ◌&&◌, Bool, true, false, get_or, ap, sym, refl}
-use Rattle.std.proofs.Common.{◌∙◌, arith}
-use Rattle.std.specs.Prelude.{nat_eq, if◌then◌else◌}
-use Rattle.std.proofs.lemmas.Bool.{eqb-true}
-use Rattle.std.proofs.Math.Nat.{mod-add-mod, mod-eq_of_lt}
+use Rattle.scop_syntax.proofs.Common.{◌≡◌, ℕ, zero, suc, ◌+◌, ◌%◌, ◌^◌, ◌<◌, ◌&&◌, Bool, true, false, get_or, ap, sym}
+use Rattle.scop_syntax.proofs.Common.{refl, ◌∙◌, arith, nat_eq, if◌then◌else◌, eqb-true, mod-eq_of_lt}
+use Rattle.std.proofs.Math.Nat.{mod-add-mod}
 use Rattle.tile_events.specs.Plan.{Plan, updated, stored, words_of, count_of}
 use Rattle.tile_events.specs.Core.{State}
 use Rattle.tile_events.specs.Sound.{is_done, Sound}

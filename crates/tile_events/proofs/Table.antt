@@ -1,15 +1,11 @@
 -- Each step on the table is an event of the core, and keeps the table's rule.
-use Rattle.std.proofs.Common.{◌≡◌, ℕ, zero, suc, ◌+◌, ◌%◌, ◌^◌, ◌<◌, ◌≤◌, ◌≢◌, ◌⊎◌, ⊎_elim, Bool, true, false, List}
-use Rattle.std.proofs.Common.{[], ◌∷◌, ◌++◌, length, drop, get_or, map, set, ap, sym, refl, ◌∙◌, subst, arith}
-use Rattle.std.specs.Prelude.{min, slice_index, slice_set}
-use Rattle.std.proofs.lemmas.Bool.{cases_lt}
-use Rattle.std.proofs.lemmas.List.{map-set, length-set, length-drop, get_or-set_same}
-use mathlib.Core.Option.{some, some-injective, some-ne-none}
-use lib.ListN.{get_elem?}
+use Rattle.scop_syntax.proofs.Common.{◌≡◌, ℕ, zero, suc, ◌+◌, ◌%◌, ◌^◌, ◌<◌, ◌≤◌, ◌≢◌, ◌⊎◌, ⊎_elim, Bool, true, false}
+use Rattle.scop_syntax.proofs.Common.{List, [], ◌∷◌, ◌++◌, length, drop, get_or, map, set, ap, sym, refl, ◌∙◌, subst}
+use Rattle.scop_syntax.proofs.Common.{arith, min, slice_index, slice_set, cases_lt, map-set, length-set, length-drop}
+use Rattle.scop_syntax.proofs.Common.{get_or-set_same, some, some-injective, some-ne-none, get_elem?, nat_cases}
 use Rattle.atomic_table.specs.Table as table
 use Rattle.atomic_table.specs.Table.{Me, keeps, stepped, Allows, Splits, Joins}
 use Rattle.atomic_table.proofs.Lists.{at_map, at_set, at_snoc, set_else, set_again}
-use Rattle.scop_syntax.proofs.Members.{nat_cases}
 use Rattle.tile_events.specs.Plan.{Plan, Gate, waves, counters, updated, before, values_read}
 use Rattle.tile_events.specs.Core.{Worker, idle, ended, holding, working, State, with_worker, cell_read, after_write}
 use Rattle.tile_events.specs.Core.{written_to, seen_by, needed_by}

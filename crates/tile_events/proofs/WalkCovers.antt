@@ -1,20 +1,12 @@
 -- Covers of a plan of a walk are those of the walk's visits.
-use Rattle.std.proofs.Common.{◌≡◌, ℕ, zero, suc, ◌<◌, ◌≤◌, ◌⊎◌, inl, inr, true, false, List, []}
-use Rattle.std.proofs.Common.{map, length, Some, None, ap, sym, refl, ◌∙◌, subst, arith}
-use Rattle.std.specs.Prelude.{slice_get, Option, option_and_then}
-use Rattle.std.specs.Option.{option_map}
-use Rattle.std.proofs.lemmas.Bool.{false_from_ne_true}
-use Rattle.std.proofs.lemmas.Option.{slice_get_within}
-use Rattle.scop_syntax.specs.Walk.{Visit}
-use Rattle.scop_syntax.specs.Tree.{Access}
-use Rattle.scop_syntax.specs.Cells.{Cell, cell_of, cell_at, reads, accesses, written}
-use Rattle.scop_syntax.specs.Covers.{Cover}
-use Rattle.scop_syntax.specs.Members.{In}
-use Rattle.scop_syntax.specs.Execution.{cell_number, IsCell, AreInside}
-use Rattle.scop_syntax.specs.Writers.{writes, last_writer, next_writer, last_of}
-use Rattle.scop_syntax.proofs.Members.{nat_cases, in_map, in_map_from, in_from_place, place_of, there_is}
-use Rattle.scop_syntax.proofs.Writers.{same_cells, last_is, none_writes, next_is, none_behind, written_inside}
-use Rattle.scop_syntax.proofs.Writers.{writer_of}
+use Rattle.scop_syntax.proofs.Common.{◌≡◌, ℕ, zero, suc, ◌<◌, ◌≤◌, ◌⊎◌, inl, inr, true, false, List, [], map, length}
+use Rattle.scop_syntax.proofs.Common.{Some, None, ap, sym, refl, ◌∙◌, subst, arith, slice_get, Option, option_and_then}
+use Rattle.scop_syntax.proofs.Common.{option_map, false_from_ne_true, slice_get_within, Visit, Access, Cell, cell_of}
+use Rattle.scop_syntax.proofs.Common.{cell_at, reads, accesses, written, Cover, In, cell_number, IsCell, AreInside}
+use Rattle.scop_syntax.proofs.Common.{writes, last_writer, next_writer, last_of, nat_cases, in_map, in_map_from}
+use Rattle.scop_syntax.proofs.Common.{in_from_place, place_of, there_is, same_cells, last_is, none_writes, next_is}
+use Rattle.scop_syntax.proofs.Common.{written_inside, writer_of}
+use Rattle.scop_syntax.proofs.Writers.{none_behind}
 use Rattle.tile_events.specs.Plan.{Plan}
 use Rattle.tile_events.specs.Flat.{IsWalk, written_by, read_by}
 use Rattle.tile_events.specs.Covers.{AreFree, Meet, Covers}

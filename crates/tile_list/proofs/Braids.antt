@@ -1,13 +1,9 @@
 -- Lists that give their firsts in turn give all that they have where the first has at most one more than the last; so do
 -- the strands of a braid of whole rounds.
-use Rattle.std.proofs.Common.{◌≡◌, ◌∙◌, ◌≤◌, ◌+◌, ◌*◌, ℕ, zero, suc, List, [], ◌∷◌, ◌++◌, length, map, take, drop}
-use Rattle.std.proofs.Common.{inl, inr, refl, ap, subst, sym, arith, append-nil, set, get_or}
-use Rattle.std.specs.Prelude.{All}
-use Rattle.std.proofs.lemmas.List.{length-map}
-use Rattle.std.proofs.lemmas.List.Elements.{All-nil}
-use Rattle.scop_syntax.specs.Members.{In, Sorted}
-use Rattle.scop_syntax.specs.Walk.{Instance}
-use Rattle.scop_syntax.proofs.Members.{all_in, in_at, in_append, in_back, in_front, in_map, in_map_from, sorted_append}
+use Rattle.scop_syntax.proofs.Common.{◌≡◌, ◌∙◌, ◌≤◌, ◌+◌, ◌*◌, ℕ, zero, suc, List, [], ◌∷◌, ◌++◌, length, map, take}
+use Rattle.scop_syntax.proofs.Common.{drop, inl, inr, refl, ap, subst, sym, arith, append-nil, set, get_or, All}
+use Rattle.scop_syntax.proofs.Common.{length-map, All-nil, In, Sorted, Instance, all_in, in_at, in_append, in_back}
+use Rattle.scop_syntax.proofs.Common.{in_front, in_map, in_map_from, sorted_append}
 use Rattle.loop_tree.specs.Braids.{IsBraid, left_of_braid, taking, together, woven}
 use Rattle.loop_tree.specs.Conditions.{IsHeld}
 use Rattle.loop_tree.specs.Stretches.{left_of}

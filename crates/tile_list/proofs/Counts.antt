@@ -1,15 +1,9 @@
 -- How many tiles and waves a list of tiles has: as many as it has tiles, and as many as the numbers of waves tell. How
 -- many values a function has on lists with the same values.
-use Rattle.std.proofs.Common.{◌≡◌, ◌∙◌, ℕ, zero, suc, ◌+◌, ℤ, List, [], ◌∷◌, length, map, inl, inr, refl, ap}
-use Rattle.std.proofs.Common.{Some, sym, subst, arith, ap₂, ◌-◌}
-use Rattle.std.specs.Prelude.{⊤, slice_get, slice_index_or}
-use Rattle.std.proofs.lemmas.List.{length-map}
-use Rattle.whole_numbers.specs.Lexicographic.{LexLess}
-use Rattle.whole_numbers.proofs.Lexicographic.{LexLess-irrefl, LexLess-trans}
-use Rattle.scop_syntax.specs.Members.{In, Sorted}
-use Rattle.scop_syntax.specs.View.{instance_of}
-use Rattle.scop_syntax.specs.Walk.{Instance}
-use Rattle.scop_syntax.proofs.Members.{in_append, in_back, in_from_place, in_front, in_map, in_map_from}
+use Rattle.scop_syntax.proofs.Common.{◌≡◌, ◌∙◌, ℕ, zero, suc, ◌+◌, ℤ, List, [], ◌∷◌, length, map, inl, inr, refl, ap}
+use Rattle.scop_syntax.proofs.Common.{Some, sym, subst, arith, ap₂, ◌-◌, ⊤, slice_get, slice_index_or, length-map}
+use Rattle.scop_syntax.proofs.Common.{LexLess, LexLess-irrefl, LexLess-trans, In, Sorted, instance_of, Instance}
+use Rattle.scop_syntax.proofs.Common.{in_append, in_back, in_from_place, in_front, in_map, in_map_from}
 use Rattle.loop_tree.specs.Tiling.{Tiling, tile_of, wave_of}
 use Rattle.loop_tree.specs.Tree.{Trees}
 use Rattle.loop_tree.specs.Walk.{visits}

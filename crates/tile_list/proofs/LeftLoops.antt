@@ -1,12 +1,9 @@
 -- What loops still had to come is in the current tile where its last is: all that stands between two instances of one
 -- tile lies in it.
-use Rattle.std.proofs.Common.{◌≡◌, ◌∙◌, ℕ, ℤ, List, [], ◌∷◌, ◌++◌, length, inl, inr, refl, ap, subst, sym, arith}
-use Rattle.std.specs.Prelude.{◌⊎◌}
-use Rattle.std.proofs.lemmas.List.{append_assoc, length-append, length-map}
-use Rattle.scop_syntax.specs.Members.{In, Sorted}
-use Rattle.scop_syntax.specs.View.{instance_of}
-use Rattle.scop_syntax.specs.Walk.{Instance}
-use Rattle.scop_syntax.proofs.Members.{in_append, in_back, in_front}
+use Rattle.scop_syntax.proofs.Common.{◌≡◌, ◌∙◌, ℕ, ℤ, List, [], ◌∷◌, ◌++◌, length, inl, inr, refl, ap, subst, sym}
+use Rattle.scop_syntax.proofs.Common.{arith, ◌⊎◌, length-map, In, Sorted, instance_of, Instance, in_append, in_back}
+use Rattle.scop_syntax.proofs.Common.{in_front}
+use Rattle.std.proofs.lemmas.List.{append_assoc, length-append}
 use Rattle.loop_tree.specs.Passed.{AreRun, HasLeft}
 use Rattle.loop_tree.specs.Spot.{Mark}
 use Rattle.loop_tree.specs.SpotView.{IsSpotOf, StandAlike, mark_of, to_come}

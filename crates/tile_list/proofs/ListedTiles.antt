@@ -1,11 +1,8 @@
 -- The code's tiles stand for parts, one after another.
-use Rattle.std.proofs.Common.{◌≡◌, ◌∙◌, ℕ, zero, suc, ◌<◌, ◌≤◌, List, [], ◌∷◌, ◌++◌}
-use Rattle.std.proofs.Common.{length, refl, subst, sym, arith}
-use Rattle.std.proofs.Common.{ℤ, Some, inl, inr}
-use Rattle.std.specs.Prelude.{◌⊎◌, slice_get, slice_index_or}
-use Rattle.std.proofs.Math.Seq.{get_or-append_seam, take-append_seam}
-use Rattle.std.proofs.lemmas.List.{get_or_append_left, length-append, take-append-le}
-use Rattle.scop_syntax.specs.Walk.{Instance}
+use Rattle.scop_syntax.proofs.Common.{◌≡◌, ◌∙◌, ℕ, zero, suc, ◌<◌, ◌≤◌, List, [], ◌∷◌, ◌++◌, length, refl, subst, sym}
+use Rattle.scop_syntax.proofs.Common.{arith, ℤ, Some, inl, inr, ◌⊎◌, slice_get, slice_index_or, get_or-append_seam}
+use Rattle.scop_syntax.proofs.Common.{take-append_seam, get_or_append_left, take-append-le, Instance}
+use Rattle.std.proofs.lemmas.List.{length-append}
 use Rattle.loop_tree.specs.Tree.{Trees}
 use Rattle.tile_list.specs.Tiles.{joined, start_of}
 use Rattle.tile_list.specs.TilesView.{IsTile}

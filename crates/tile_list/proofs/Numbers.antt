@@ -1,11 +1,7 @@
 -- What the numbers of waves tell of the waves.
-use Rattle.std.proofs.Common.{◌≡◌, ◌∙◌, ℕ, zero, suc, ◌<◌, ◌≤◌, List, [], ◌∷◌, inl, inr}
-use Rattle.std.proofs.Common.{refl, ap, Some, sym, subst, arith}
-use Rattle.std.specs.Prelude.{◌⊎◌, slice_get}
-use Rattle.whole_numbers.specs.Lexicographic.{LexLess}
-use Rattle.whole_numbers.proofs.Lexicographic.{LexLess-asym, LexLess-irrefl, LexLess-trans}
-use Rattle.scop_syntax.specs.Walk.{Instance}
-use Rattle.scop_syntax.proofs.Members.{nat_cases}
+use Rattle.scop_syntax.proofs.Common.{◌≡◌, ◌∙◌, ℕ, zero, suc, ◌<◌, ◌≤◌, List, [], ◌∷◌, inl, inr, refl, ap, Some, sym}
+use Rattle.scop_syntax.proofs.Common.{subst, arith, ◌⊎◌, slice_get, LexLess, LexLess-asym, LexLess-irrefl}
+use Rattle.scop_syntax.proofs.Common.{LexLess-trans, Instance, nat_cases}
 use Rattle.loop_tree.specs.Tiling.{Tiling, wave_of}
 use Rattle.tile_list.specs.Tiles.{AreNextWaves, AreWaves, IsNextWave}
 

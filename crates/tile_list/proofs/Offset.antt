@@ -1,9 +1,7 @@
 -- Offsets of waves whose numbers rise from 0 one by one.
-use Rattle.std.proofs.Common.{◌≡◌, ℕ, zero, suc, ◌+◌, ◌<◌, ◌≤◌, true, false, List, [], ◌∷◌, length, inl, inr}
-use Rattle.std.proofs.Common.{Some, ap, subst, arith}
-use Rattle.std.specs.Prelude.{◌⊎◌, if◌then◌else◌, max, nat_le, slice_get, ⊤}
-use Rattle.std.proofs.lemmas.Bool.Decides.{nat_tests}
-use Rattle.scop_syntax.specs.Walk.{Instance}
+use Rattle.scop_syntax.proofs.Common.{◌≡◌, ℕ, zero, suc, ◌+◌, ◌<◌, ◌≤◌, true, false, List, [], ◌∷◌, length, inl, inr}
+use Rattle.scop_syntax.proofs.Common.{Some, ap, subst, arith, ◌⊎◌, if◌then◌else◌, max, nat_le, slice_get, ⊤, nat_tests}
+use Rattle.scop_syntax.proofs.Common.{Instance}
 use Rattle.loop_tree.specs.Tiling.{Tiling}
 use Rattle.tile_list.specs.Tiles.{AreNextWaves, AreOffsets, AreWaves, waves_in}
 use Rattle.tile_list.specs.steps.Offsets.{offsets_from}

@@ -1,10 +1,6 @@
 -- The order of tiles: by wave, then by coordinates.
-use Rattle.std.proofs.Common.{◌≡◌, ◌∙◌, List, [], ◌∷◌, ◌++◌, inl, inr, refl, subst, sym}
-use Rattle.std.specs.Prelude.{◌⊎◌}
-use Rattle.whole_numbers.specs.Lexicographic.{LexLess}
-use Rattle.whole_numbers.proofs.Lexicographic.{LexLess-irrefl, LexLess-trans}
-use Rattle.scop_syntax.specs.Members.{In, Sorted}
-use Rattle.scop_syntax.specs.Walk.{Instance}
+use Rattle.scop_syntax.proofs.Common.{◌≡◌, ◌∙◌, List, [], ◌∷◌, ◌++◌, inl, inr, refl, subst, sym, ◌⊎◌, LexLess}
+use Rattle.scop_syntax.proofs.Common.{LexLess-irrefl, LexLess-trans, In, Sorted, Instance}
 use Rattle.loop_tree.specs.Tiling.{Tiling, tile_of, wave_of}
 use Rattle.tile_list.specs.Tiles.{InOneTile, TileBefore}
 

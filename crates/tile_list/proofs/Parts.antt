@@ -1,11 +1,7 @@
 -- Instances that rise by tile are cut into parts, one instance after another.
-use Rattle.std.proofs.Common.{◌≡◌, ◌∙◌, suc, ◌≤◌, List, [], ◌∷◌, ◌++◌, length, inl, inr, refl, ap, subst, sym, arith}
-use Rattle.std.proofs.Common.{append-nil}
-use Rattle.std.specs.Prelude.{◌⊎◌}
+use Rattle.scop_syntax.proofs.Common.{◌≡◌, ◌∙◌, suc, ◌≤◌, List, [], ◌∷◌, ◌++◌, length, inl, inr, refl, ap, subst, sym}
+use Rattle.scop_syntax.proofs.Common.{arith, append-nil, ◌⊎◌, In, Sorted, Instance, in_append, in_back, sorted_append}
 use Rattle.std.proofs.lemmas.List.{append_assoc}
-use Rattle.scop_syntax.specs.Members.{In, Sorted}
-use Rattle.scop_syntax.specs.Walk.{Instance}
-use Rattle.scop_syntax.proofs.Members.{in_append, in_back, sorted_append}
 use Rattle.loop_tree.specs.Tiling.{Tiling}
 use Rattle.tile_list.specs.Tiles.{AreTiles, InOneTile, PartBefore, RiseByTile, TileBefore, joined}
 use Rattle.tile_list.specs.steps.Cutting.{IsCut}

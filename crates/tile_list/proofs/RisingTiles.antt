@@ -1,11 +1,7 @@
 -- Instances in a plan's order rise by tile.
-use Rattle.std.proofs.Common.{◌≡◌, ℕ, ◌-◌, ℤ, pos, List, [], ◌∷◌, ◌++◌, length, inl, inr, refl}
-use Rattle.std.specs.Prelude.{◌⊎◌}
-use Rattle.whole_numbers.specs.Lists.{zeros}
+use Rattle.scop_syntax.proofs.Common.{◌≡◌, ℕ, ◌-◌, ℤ, pos, List, [], ◌∷◌, ◌++◌, length, inl, inr, refl, ◌⊎◌, zeros, In}
+use Rattle.scop_syntax.proofs.Common.{Sorted, Program, Instance}
 use Rattle.whole_numbers.proofs.Lexicographic.{LexLess-append}
-use Rattle.scop_syntax.specs.Members.{In, Sorted}
-use Rattle.scop_syntax.specs.Tree.{Program}
-use Rattle.scop_syntax.specs.Walk.{Instance}
 use Rattle.loop_tree.specs.Plans.{AreInOrder, Precedes}
 use Rattle.loop_tree.specs.Tiling.{Items, Tiling, kept, tiled, item_values, items_at, tile_of, wave_of}
 use Rattle.tile_list.specs.Tiles.{HaveOneLength, InOneTile, RiseByTile, TileBefore}

@@ -1,11 +1,8 @@
 -- Where parts begin.
-use Rattle.std.proofs.Common.{◌≡◌, ◌∙◌, ℕ, zero, suc, ◌+◌, ◌<◌, List, [], ◌∷◌, ◌++◌}
-use Rattle.std.proofs.Common.{length, take, ap, subst, arith}
-use Rattle.std.specs.Prelude.{slice_get, slice_index_or}
-use Rattle.std.proofs.Math.Seq.{take-length}
+use Rattle.scop_syntax.proofs.Common.{◌≡◌, ◌∙◌, ℕ, zero, suc, ◌+◌, ◌<◌, List, [], ◌∷◌, ◌++◌, length, take, ap, subst}
+use Rattle.scop_syntax.proofs.Common.{arith, slice_get, slice_index_or, take-length, get_behind, Instance}
 use Rattle.std.proofs.lemmas.List.{length-append}
-use Rattle.whole_numbers.proofs.Entries.{get_front, get_behind}
-use Rattle.scop_syntax.specs.Walk.{Instance}
+use Rattle.whole_numbers.proofs.Entries.{get_front}
 use Rattle.loop_tree.specs.Tiling.{Tiling}
 use Rattle.tile_list.specs.Tiles.{AreTiles, joined, start_of}
 

@@ -1,23 +1,16 @@
 -- Along a stretch forms go by constant steps: floors that are one at both ends are one between, and so are tiles; the
 -- instance so many steps on.
-use Rattle.std.proofs.Common.{◌≡◌, ◌∙◌, ◌≤◌, ◌<◌, ◌+◌, ◌%◌, ◌^◌, ℕ, zero, suc, ℤ, pos}
-use Rattle.std.proofs.Common.{List, [], ◌∷◌, ◌++◌, length, map, take}
-use Rattle.std.proofs.Common.{inl, inr, refl, ap, ap₂, sym, subst, arith, to_z, of_z}
-use Rattle.std.specs.Prelude.{◌+ℤ◌, ◌*ℤ◌, ◌≤ℤ◌, ◌<ℤ◌, All, FitsSigned, if◌then◌else◌}
-use Rattle.std.specs.Int.{cast_signed, int_wrap, w64}
-use Rattle.std.proofs.lemmas.Int.{int_wrap-add_right, int_wrap-mul_right, int_wrap_fits, ints, to_z-of_z}
-use Rattle.std.proofs.lemmas.List.{append_cancel_left}
-use Rattle.whole_numbers.specs.Affine.{Affine, value_of}
-use Rattle.whole_numbers.specs.Floor.{floor}
-use Rattle.whole_numbers.specs.Lists.{dot, multiples, sums}
-use Rattle.whole_numbers.proofs.Dot.{dot-multiples_right, dot-sums, dot_comm}
-use Rattle.whole_numbers.proofs.Floors.{floor_greatest, floor_is}
-use Rattle.whole_numbers.proofs.Order.{le_or_lt, mul_le, mul_le_turned, mul_not_negative, mul_opposite}
-use Rattle.whole_numbers.proofs.Ring.{mul_comm_int, mul_distrib_right, mul_one_left}
-use Rattle.scop_syntax.specs.Members.{In}
-use Rattle.scop_syntax.specs.View.{instance_of}
-use Rattle.scop_syntax.specs.Walk.{Instance}
-use Rattle.scop_syntax.proofs.Members.{all_in}
+use Rattle.scop_syntax.proofs.Common.{◌≡◌, ◌∙◌, ◌≤◌, ◌<◌, ◌+◌, ◌%◌, ◌^◌, ℕ, zero, suc, ℤ, pos, List, [], ◌∷◌, ◌++◌}
+use Rattle.scop_syntax.proofs.Common.{length, map, take, inl, inr, refl, ap, ap₂, sym, subst, arith, to_z, of_z, ◌+ℤ◌}
+use Rattle.scop_syntax.proofs.Common.{◌*ℤ◌, ◌≤ℤ◌, ◌<ℤ◌, All, FitsSigned, if◌then◌else◌, cast_signed, w64}
+use Rattle.scop_syntax.proofs.Common.{int_wrap-add_right, int_wrap_fits, ints, to_z-of_z, append_cancel_left, Affine}
+use Rattle.scop_syntax.proofs.Common.{value_of, floor, dot, multiples, sums, dot-multiples_right, dot-sums, dot_comm}
+use Rattle.scop_syntax.proofs.Common.{floor_is, le_or_lt, mul_le, mul_le_turned, mul_not_negative, mul_comm_int}
+use Rattle.scop_syntax.proofs.Common.{mul_distrib_right, mul_one_left, In, instance_of, Instance, all_in}
+use Rattle.std.specs.Int.{int_wrap}
+use Rattle.std.proofs.lemmas.Int.{int_wrap-mul_right}
+use Rattle.whole_numbers.proofs.Floors.{floor_greatest}
+use Rattle.whole_numbers.proofs.Order.{mul_opposite}
 use Rattle.loop_tree.specs.Conditions.{IsHeld}
 use Rattle.loop_tree.specs.Stretches.{following, left_of}
 use Rattle.loop_tree.specs.Tiling.{TileRow, Tiling, kept, tiled, coordinates, items_at, wave_sum}

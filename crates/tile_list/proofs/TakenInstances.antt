@@ -1,14 +1,8 @@
 -- What is cut off grows instance by instance.
-use Rattle.std.proofs.Common.{◌≡◌, ◌∙◌, ℕ, suc, ◌+◌, ℤ, List, [], ◌∷◌, ◌++◌, length, drop, inl, inr, refl, ap, ap₂}
-use Rattle.std.proofs.Common.{subst, sym, arith}
-use Rattle.std.specs.Prelude.{Some}
-use Rattle.std.proofs.lemmas.List.{length-append, map-append}
-use Rattle.std.proofs.lemmas.List.Elements.{All-nil}
-use Rattle.whole_numbers.specs.Lexicographic.{LexLess}
-use Rattle.whole_numbers.proofs.Lexicographic.{LexLess-irrefl}
-use Rattle.scop_syntax.specs.Members.{In}
-use Rattle.scop_syntax.specs.View.{instance_of}
-use Rattle.scop_syntax.specs.Walk.{Instance}
+use Rattle.scop_syntax.proofs.Common.{◌≡◌, ◌∙◌, ℕ, suc, ◌+◌, ℤ, List, [], ◌∷◌, ◌++◌, length, drop, inl, inr, refl, ap}
+use Rattle.scop_syntax.proofs.Common.{ap₂, subst, sym, arith, Some, map-append, All-nil, LexLess, LexLess-irrefl, In}
+use Rattle.scop_syntax.proofs.Common.{instance_of, Instance}
+use Rattle.std.proofs.lemmas.List.{length-append}
 use Rattle.scop_syntax.specs.declared.instance.Instance.{Instance as CodeInstance}
 use Rattle.loop_tree.specs.Braids.{IsBraid, left_of_braid}
 use Rattle.loop_tree.specs.Conditions.{IsHeld}

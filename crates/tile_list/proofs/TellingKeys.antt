@@ -1,15 +1,9 @@
 -- Keys tell tiles and waves: instances of one tile have one key, and one key is that of one tile. A coordinate tells an
 -- interval.
-use Rattle.std.proofs.Common.{◌≡◌, ◌∙◌, ◌≤◌, ℕ, ℤ, pos, List, [], ◌∷◌, ◌++◌, length, map}
-use Rattle.std.proofs.Common.{refl, ap, ap₂, subst, sym, arith}
-use Rattle.std.specs.Prelude.{◌+ℤ◌, ◌*ℤ◌, ◌≤ℤ◌, ◌<ℤ◌, if◌then◌else◌}
-use Rattle.std.proofs.lemmas.Int.{ints}
-use Rattle.std.proofs.lemmas.List.{append_cancel_left, length-append}
-use Rattle.whole_numbers.specs.Affine.{value_of}
-use Rattle.whole_numbers.specs.Division.{IsFloor}
-use Rattle.whole_numbers.specs.Floor.{floor}
-use Rattle.whole_numbers.proofs.Floors.{floor_is, floor_unique}
-use Rattle.scop_syntax.specs.Walk.{Instance}
+use Rattle.scop_syntax.proofs.Common.{◌≡◌, ◌∙◌, ◌≤◌, ℕ, ℤ, pos, List, [], ◌∷◌, ◌++◌, length, map, refl, ap, ap₂, subst}
+use Rattle.scop_syntax.proofs.Common.{sym, arith, ◌+ℤ◌, ◌*ℤ◌, ◌≤ℤ◌, ◌<ℤ◌, if◌then◌else◌, ints, append_cancel_left}
+use Rattle.scop_syntax.proofs.Common.{value_of, IsFloor, floor, floor_is, floor_unique, Instance}
+use Rattle.std.proofs.lemmas.List.{length-append}
 use Rattle.loop_tree.specs.Tiling.{Items, TileRow, Tiling, kept, tiled, coordinates, items_at, wave_of, wave_sum}
 use Rattle.tile_list.specs.Tiles.{InOneTile}
 use Rattle.tile_list.specs.steps.Keys.{HaveOneWave, IsKeyOf, carried}

@@ -1,8 +1,6 @@
 -- Instances have one list of tiles.
-use Rattle.std.proofs.Common.{◌≡◌, ◌∙◌, ◌≤◌, List, [], ◌∷◌, ◌++◌, length, inl, inr, refl, ap₂, sym, subst, arith}
-use Rattle.scop_syntax.specs.Members.{In, Sorted}
-use Rattle.scop_syntax.specs.Walk.{Instance}
-use Rattle.scop_syntax.proofs.Members.{in_append}
+use Rattle.scop_syntax.proofs.Common.{◌≡◌, ◌∙◌, ◌≤◌, List, [], ◌∷◌, ◌++◌, length, inl, inr, refl, ap₂, sym, subst}
+use Rattle.scop_syntax.proofs.Common.{arith, In, Sorted, Instance, in_append}
 use Rattle.loop_tree.specs.Tiling.{Tiling}
 use Rattle.tile_list.specs.Tiles.{AreTiles, InOneTile, PartBefore, TileBefore, joined}
 use Rattle.tile_list.proofs.Order.{before-irrefl}

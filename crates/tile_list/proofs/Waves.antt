@@ -1,6 +1,5 @@
 -- The numbers of waves, one tile after another.
-use Rattle.std.proofs.Common.{ℕ, List, [], ◌∷◌, ◌++◌}
-use Rattle.scop_syntax.specs.Walk.{Instance}
+use Rattle.scop_syntax.proofs.Common.{ℕ, List, [], ◌∷◌, ◌++◌, Instance}
 use Rattle.loop_tree.specs.Tiling.{Tiling}
 use Rattle.tile_list.specs.Tiles.{AreNextWaves, AreWaves, IsNextWave}
 

@@ -1,11 +1,8 @@
 -- From the first instance to the whole list.
-use Rattle.std.proofs.Common.{◌≡◌, ℕ, ℤ, List, [], ◌∷◌, ◌++◌, inl, inr, refl, ap, subst, sym}
-use Rattle.std.proofs.lemmas.List.{append_assoc, map-append}
-use Rattle.scop_syntax.specs.Members.{In}
-use Rattle.scop_syntax.specs.View.{instance_of}
-use Rattle.scop_syntax.specs.Walk.{Instance}
+use Rattle.scop_syntax.proofs.Common.{◌≡◌, ℕ, ℤ, List, [], ◌∷◌, ◌++◌, inl, inr, refl, ap, subst, sym, map-append, In}
+use Rattle.scop_syntax.proofs.Common.{instance_of, Instance, in_back, in_front}
+use Rattle.std.proofs.lemmas.List.{append_assoc}
 use Rattle.scop_syntax.specs.declared.instance.Instance.{Instance as CodeInstance}
-use Rattle.scop_syntax.proofs.Members.{in_back, in_front}
 use Rattle.loop_tree.specs.Braids.{left_of_braid}
 use Rattle.loop_tree.specs.Spot.{rest_of}
 use Rattle.loop_tree.specs.SpotView.{marks_in, to_come}

@@ -1,7 +1,6 @@
 -- Cells that hold what execution leaves, as those of a sound state at the end of a run (`sound_end`, `quiet_end`).
-use Rattle.std.proofs.Common.{◌≡◌, ◌∙◌, ◌<◌, ℕ, true, List, [], length, refl, subst, sym, arith}
-use Rattle.std.proofs.lemmas.Bool.{lt-ltb}
-use mathlib.Core.Option.{some-ne-none}
+use Rattle.scop_syntax.proofs.Common.{◌≡◌, ◌∙◌, ◌<◌, ℕ, true, List, [], length, refl, subst, sym, arith, lt-ltb}
+use Rattle.scop_syntax.proofs.Common.{some-ne-none}
 use Rattle.tile_events.specs.Core.{State, working, ended}
 use Rattle.tile_events.specs.Flat.{flat}
 use Rattle.tile_events.specs.Opening.{IsQuiet}

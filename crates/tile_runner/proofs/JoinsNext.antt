@@ -1,6 +1,6 @@
 -- What the steps of an instance ask at which the lanes of a join stand.
-use Rattle.std.proofs.Common.{◌≡◌, ◌+◌, ◌<◌, Bool, ℕ, ℤ, List, [], ◌∷◌, ◌++◌, Some, length, refl, subst, sym, arith}
-use Rattle.std.specs.Prelude.{slice_get}
+use Rattle.scop_syntax.proofs.Common.{◌≡◌, ◌+◌, ◌<◌, Bool, ℕ, ℤ, List, [], ◌∷◌, ◌++◌, Some, length, refl, subst, sym}
+use Rattle.scop_syntax.proofs.Common.{arith, slice_get}
 use Rattle.atomic_table.specs.declared.shared.Seat.{Seat}
 use Rattle.tile_table.specs.Codes.{leaves_at}
 use Rattle.tile_table.specs.Joins.{IsJoinAt, joined_by}

@@ -1,13 +1,7 @@
 -- What the steps of instances that are laid on a desk ask, and what is left of these behind each.
-use Rattle.std.proofs.Common.{◌≡◌, ◌∙◌, ◌+◌, ◌-◌, ◌<◌, ◌≤◌, ℕ, suc, ℤ, List, [], Some, length, get_or, ap, ap₂, subst, sym}
-use Rattle.std.proofs.Common.{arith}
-use Rattle.std.proofs.Common.{take}
-use Rattle.std.specs.Prelude.{Option, slice_get}
+use Rattle.scop_syntax.proofs.Common.{◌≡◌, ◌∙◌, ◌+◌, ◌-◌, ◌<◌, ◌≤◌, ℕ, suc, ℤ, List, [], Some, length, get_or, ap, ap₂}
+use Rattle.scop_syntax.proofs.Common.{subst, sym, arith, take, Option, slice_get, sums, In, instance_of, Instance}
 use Rattle.atomic_table.specs.declared.shared.Seat.{Seat}
-use Rattle.whole_numbers.specs.Lists.{sums}
-use Rattle.scop_syntax.specs.Members.{In}
-use Rattle.scop_syntax.specs.View.{instance_of}
-use Rattle.scop_syntax.specs.Walk.{Instance}
 use Rattle.scop_syntax.specs.declared.instance.Instance.{Instance as CodeInstance}
 use Rattle.tile_table.specs.Codes.{value_by}
 use Rattle.tile_table.specs.Desks.{HasSameRoom, IsLaid}

@@ -1,6 +1,5 @@
 -- What the loads and the store of an instance ask where each instance has a copy of its own.
-use Rattle.std.proofs.Common.{◌≡◌, ◌∙◌, ◌<◌, ℕ, true, false, List, length, get_or, ap, subst}
-use Rattle.std.proofs.Common.{arith, sym}
+use Rattle.scop_syntax.proofs.Common.{◌≡◌, ◌∙◌, ◌<◌, ℕ, true, false, List, length, get_or, ap, subst, arith, sym}
 use Rattle.scop_syntax.specs.declared.instance.Instance.{Instance}
 use Rattle.tile_events.specs.Plan as events
 use Rattle.tile_core.specs.Plans.{IsPlan, extents_in, is_expanded, place_of, walk_plan, walk_shape}

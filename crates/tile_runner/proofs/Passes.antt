@@ -1,6 +1,6 @@
 -- Passes before and after a run.
-use Rattle.std.proofs.Common.{◌≡◌, ◌∙◌, ◌<◌, ℕ, suc, List, [], ◌∷◌, ◌++◌, take, drop, All, length, ap, refl, sym}
-use Rattle.std.proofs.Common.{subst, arith}
+use Rattle.scop_syntax.proofs.Common.{◌≡◌, ◌∙◌, ◌<◌, ℕ, suc, List, [], ◌∷◌, ◌++◌, take, drop, All, length, ap, refl}
+use Rattle.scop_syntax.proofs.Common.{sym, subst, arith}
 use Rattle.tile_events.specs.Sound.{Holds, total}
 use Rattle.tile_core.specs.Passes.{IsPass}
 use Rattle.tile_core.specs.Plans.{shape_of}

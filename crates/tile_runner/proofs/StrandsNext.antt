@@ -1,7 +1,6 @@
 -- What a round of a braid's strands asks of their desks, and where whole rounds stand in the tile.
-use Rattle.std.proofs.Common.{◌≡◌, ◌∙◌, ◌+◌, ◌-◌, ◌*◌, ◌<◌, ◌≤◌, ℕ, suc, List, Some, ap, ap₂, arith, get_or, subst, take}
-use Rattle.std.specs.Prelude.{Option, slice_get}
-use Rattle.scop_syntax.specs.Members.{In}
+use Rattle.scop_syntax.proofs.Common.{◌≡◌, ◌∙◌, ◌+◌, ◌-◌, ◌*◌, ◌<◌, ◌≤◌, ℕ, suc, List, Some, ap, ap₂, arith, get_or}
+use Rattle.scop_syntax.proofs.Common.{subst, take, Option, slice_get, In}
 use Rattle.scop_syntax.specs.declared.instance.Instance.{Instance}
 use Rattle.tile_table.specs.declared.desk.Desk.{Desk}
 use Rattle.tile_table.specs.declared.table.Row.{Row}

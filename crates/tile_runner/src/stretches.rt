@@ -18,13 +18,13 @@ use crate::joins::{do_joins, lay_join};
 use array_words::{add_at, load_at, store_at};
 use atomic_table::Seat;
 use scop_syntax::instance::MAX_LOOPS;
-use tile_table::desk::Desk;
-use tile_table::table::Row;
 use tile_core::plan::Plan;
 use tile_core::plan_laws::{rows_tell_instances, walks_are_dealt};
 use tile_core::view::View;
 use tile_core::words::Words;
 use tile_core::worker::Worker;
+use tile_table::desk::Desk;
+use tile_table::table::Row;
 
 /// The first steps.
 pub(crate) fn first_steps(steps: &[i64; MAX_LOOPS], loops: usize) -> &[i64]

@@ -1,24 +1,17 @@
 -- The cells of all arrays in one row, each of a number below the total; the arrays that a row holds; execution keeps
 -- the shape.
-use Rattle.std.proofs.Common.{◌≡◌, ◌∙◌, ℕ, zero, suc, ◌+◌, ◌*◌, ◌-◌, ◌/◌}
-use Rattle.std.proofs.Common.{◌%◌, ◌<◌, ◌≤◌, ℤ, pos, List, [], ◌∷◌, ◌++◌, length}
-use Rattle.std.proofs.Common.{map, take, drop, get_or, set, ap, ap₂, sym, refl, subst, arith, add-one, drop-cons}
-use Rattle.std.proofs.Common.{append_assoc, add-mul, mul_assoc, mul-le-mul_right}
-use Rattle.std.proofs.Common.{length-append, length-drop, drop-drop, append-nil}
+use Rattle.scop_syntax.proofs.Common.{◌≡◌, ◌∙◌, ℕ, zero, suc, ◌+◌, ◌*◌, ◌-◌, ◌/◌, ◌%◌, ◌<◌, ◌≤◌, ℤ, pos, List, [], ◌∷◌}
+use Rattle.scop_syntax.proofs.Common.{◌++◌, length, map, take, drop, get_or, set, ap, ap₂, sym, refl, subst, arith}
+use Rattle.scop_syntax.proofs.Common.{add-one, drop-cons, append_assoc, add-mul, mul_assoc, mul-le-mul_right}
+use Rattle.scop_syntax.proofs.Common.{length-append, append-nil, ints, get_or-map, length-map, length-take-le, take_all}
+use Rattle.scop_syntax.proofs.Common.{drop-append_seam, map-set_same, take-append_seam, take-length, Cell, AreWithin}
+use Rattle.scop_syntax.proofs.Common.{IsCell, IsShaped, cell_count, cell_number, exec, held, layout, performed_all}
+use Rattle.scop_syntax.proofs.Common.{offset_from, total_cells, Program, walk_of, nat_cases, shape_before}
+use Rattle.std.proofs.Common.{length-drop, drop-drop}
 use Rattle.std.proofs.lemmas.Grind.{same_number_lists}
-use Rattle.std.proofs.lemmas.Int.{ints}
-use Rattle.std.proofs.lemmas.List.{drop-set-lt, get_or-map, length-map, length-take-le, take_all, take_more_set}
+use Rattle.std.proofs.lemmas.List.{drop-set-lt, take_more_set}
 use Rattle.std.proofs.Math.ListN.{drop_of_length-le}
 use Rattle.std.proofs.Math.Nat.{div-add-mod}
-use Rattle.std.proofs.Math.Seq.{drop-append_seam, map-set_same, take-append_seam, take-length}
-use Rattle.scop_syntax.specs.Cells.{Cell}
-use Rattle.scop_syntax.specs.Execution.{AreWithin, IsCell, IsShaped, cell_count}
-use Rattle.scop_syntax.specs.Execution.{cell_number, exec, held, layout, performed_all}
-use Rattle.scop_syntax.specs.Execution.{offset_from, total_cells}
-use Rattle.scop_syntax.specs.Tree.{Program}
-use Rattle.scop_syntax.specs.Walk.{walk_of}
-use Rattle.scop_syntax.proofs.Members.{nat_cases}
-use Rattle.scop_syntax.proofs.Writers.{shape_before}
 use Rattle.tile_events.specs.Flat.{flat}
 use Rattle.tile_events.proofs.Flat.{flat_holds}
 

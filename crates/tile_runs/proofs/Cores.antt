@@ -1,6 +1,6 @@
 -- Steps of a core that has one worker, from one core to a later one (`IsLater`, `by_first`).
-use Rattle.std.proofs.Common.{◌≡◌, ◌∙◌, ℕ, suc, ◌+◌, ◌<◌, ◌≤◌, List, [], Bor, Option, None, Some, ap, arith, sym}
-use Rattle.std.proofs.Common.{subst, refl}
+use Rattle.scop_syntax.proofs.Common.{◌≡◌, ◌∙◌, ℕ, suc, ◌+◌, ◌<◌, ◌≤◌, List, [], Bor, Option, None, Some, ap, arith}
+use Rattle.scop_syntax.proofs.Common.{sym, subst, refl}
 use Rattle.tile_edges.specs.declared.waiting.TileEdges.{TileEdges}
 use Rattle.tile_events.specs.Core.{Event, Seen, State, holding, needed_by, release, seen_by, step, working}
 use Rattle.tile_events.specs.Plan.{waves}

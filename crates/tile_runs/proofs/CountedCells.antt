@@ -1,8 +1,8 @@
 -- How many cells arrays have, one array behind another; and which arrays a row of cells holds.
-use Rattle.std.proofs.Common.{◌≡◌, ◌∙◌, ℕ, suc, ◌+◌, ◌-◌, ◌<◌, ◌^◌, List, [], ◌∷◌, ◌++◌, length, take, drop}
-use Rattle.std.proofs.Common.{get_or, min, add-one, ap, ap₂, arith, drop-cons, length-append, length-drop, refl, sym}
-use Rattle.std.proofs.lemmas.List.{length-take-le, take-append-drop}
-use Rattle.scop_syntax.specs.Execution.{IsShaped, cell_count, total_cells}
+use Rattle.scop_syntax.proofs.Common.{◌≡◌, ◌∙◌, ℕ, suc, ◌+◌, ◌-◌, ◌<◌, ◌^◌, List, [], ◌∷◌, ◌++◌, length, take, drop}
+use Rattle.scop_syntax.proofs.Common.{get_or, min, add-one, ap, ap₂, arith, drop-cons, length-append, refl, sym}
+use Rattle.scop_syntax.proofs.Common.{length-take-le, take-append-drop, IsShaped, cell_count, total_cells}
+use Rattle.std.proofs.Common.{length-drop}
 use Rattle.tile_events.specs.Flat.{flat}
 
 -- the cells of the arrays that are gone through, and of those that are to come, are all, where these are not too many

@@ -1,9 +1,8 @@
 -- A row with zeros behind the cells of all arrays, for copies and counters.
-use Rattle.std.proofs.Common.{◌≡◌, ◌∙◌, ◌+◌, ◌≤◌, ℕ, zero, suc, List, [], ◌∷◌, ◌++◌, ap, arith, get_or, length}
-use Rattle.std.proofs.Common.{append_assoc, length-append, refl, replicate, sym}
-use Rattle.std.proofs.lemmas.List.{length-replicate, replicate-append-replicate}
-use Rattle.std.proofs.Math.ListN.{get_or-append}
-use Rattle.scop_syntax.proofs.Members.{nat_cases}
+use Rattle.scop_syntax.proofs.Common.{◌≡◌, ◌∙◌, ◌+◌, ◌≤◌, ℕ, zero, suc, List, [], ◌∷◌, ◌++◌, ap, arith, get_or, length}
+use Rattle.scop_syntax.proofs.Common.{append_assoc, length-append, refl, replicate, sym, length-replicate}
+use Rattle.scop_syntax.proofs.Common.{get_or-append, nat_cases}
+use Rattle.std.proofs.lemmas.List.{replicate-append-replicate}
 use Rattle.tile_core.specs.Plans.{HasRest, HoldsContents, plain_shape}
 use Rattle.tile_core.specs.declared.plan.Plan.{Plan}
 use Rattle.tile_events.specs.Flat.{flat}

@@ -1,11 +1,8 @@
 -- What the cells are at the end of a plan's run.
-use Rattle.std.proofs.Common.{◌≡◌, ◌∙◌, ◌+◌, ◌<◌, ◌≤◌, ℕ, ℤ, List, Bool, true, false, Bor, Option, None, Some, ap₂}
-use Rattle.std.proofs.Common.{arith, get_or, length, refl, subst, sym, take}
-use Rattle.std.specs.Prelude.{is_some}
-use Rattle.std.proofs.lemmas.List.{get_or-take, length-take-le}
-use Rattle.scop_syntax.specs.Cells.{Cell}
-use Rattle.scop_syntax.specs.Tree.{Program}
-use Rattle.scop_syntax.specs.Execution.{IsCell, IsShaped, cell_number, exec, held, total_cells, value_stored_at}
+use Rattle.scop_syntax.proofs.Common.{◌≡◌, ◌∙◌, ◌+◌, ◌<◌, ◌≤◌, ℕ, ℤ, List, Bool, true, false, Bor, Option, None, Some}
+use Rattle.scop_syntax.proofs.Common.{ap₂, arith, get_or, length, refl, subst, sym, take, is_some, get_or-take}
+use Rattle.scop_syntax.proofs.Common.{length-take-le, Cell, Program, IsCell, IsShaped, cell_number, exec, held}
+use Rattle.scop_syntax.proofs.Common.{total_cells, value_stored_at}
 use Rattle.tile_core.specs.Boards.{IsRun}
 use Rattle.tile_core.specs.Cores.{plan_in, state_in}
 use Rattle.tile_core.specs.Plans.{HoldsContents, IsPlan, extents_in, is_expanded, plain_shape, plan_of, program_in}

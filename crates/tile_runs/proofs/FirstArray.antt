@@ -1,7 +1,6 @@
 -- Arrays whose first one stands in front of a row with the others' cells behind it.
-use Rattle.std.proofs.Common.{◌≡◌, ◌∙◌, ℕ, ◌≤◌, List, [], ◌∷◌, ◌++◌, length, map, take, drop, get_or, set}
-use Rattle.std.proofs.Common.{ap, ap₂, sym, refl, arith, length-append}
-use Rattle.std.proofs.Math.Seq.{drop-append_seam, take-append_seam}
+use Rattle.scop_syntax.proofs.Common.{◌≡◌, ◌∙◌, ℕ, ◌≤◌, List, [], ◌∷◌, ◌++◌, length, map, take, drop, get_or, set, ap}
+use Rattle.scop_syntax.proofs.Common.{ap₂, sym, refl, arith, length-append, drop-append_seam, take-append_seam}
 use Rattle.tile_events.specs.Flat.{flat}
 
 -- the first one, and the others behind it, are all

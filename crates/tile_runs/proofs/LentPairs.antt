@@ -1,9 +1,7 @@
 -- What is known of what may be there, as the pairs of tiles or an expansion: of a reference to it; and how many pairs
 -- there are.
-use Rattle.std.proofs.Common.{◌≡◌, ◌≤◌, ℕ, List, Bool, true, false, Bor, Option, None, Some, ap, subst, sym}
-use Rattle.std.specs.Prelude.{⊤, MatchOption, is_some}
-use Rattle.std.specs.Option.{option_copied}
-use Rattle.scop_syntax.specs.Walk.{Visit}
+use Rattle.scop_syntax.proofs.Common.{◌≡◌, ◌≤◌, ℕ, List, Bool, true, false, Bor, Option, None, Some, ap, subst, sym, ⊤}
+use Rattle.scop_syntax.proofs.Common.{MatchOption, is_some, option_copied, Visit}
 use Rattle.loop_tree.specs.Tiling.{Tiling}
 use Rattle.tile_edges.specs.Counting.{HasEdges, HasMoreEdges, IsReleaseOf}
 

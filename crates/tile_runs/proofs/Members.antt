@@ -1,8 +1,5 @@
 -- From the visits of a plan's trees to the walked instances.
-use Rattle.std.proofs.Common.{ℕ, ℤ, List, refl, subst, sym}
-use Rattle.scop_syntax.specs.Members.{In}
-use Rattle.scop_syntax.specs.Tree.{Program}
-use Rattle.scop_syntax.specs.Walk.{Instance}
+use Rattle.scop_syntax.proofs.Common.{ℕ, ℤ, List, refl, subst, sym, In, Program, Instance}
 use Rattle.loop_tree.specs.Plans.{AreInOrder, walked}
 use Rattle.loop_tree.specs.Tiling.{Tiling, kept, tiled}
 use Rattle.tile_list.specs.Counting.{HasValues}

@@ -1,8 +1,5 @@
 -- Trees by which a run goes, whether or not each instance has a copy of its own (`HaveTrees`).
-use Rattle.std.proofs.Common.{ℕ, ℤ, List, Option, None, Some}
-use Rattle.std.specs.Prelude.{MatchOption}
-use Rattle.scop_syntax.specs.Limits.{HasParameters}
-use Rattle.scop_syntax.specs.Tree.{Program}
+use Rattle.scop_syntax.proofs.Common.{ℕ, ℤ, List, Option, None, Some, MatchOption, HasParameters, Program}
 use Rattle.loop_tree.specs.Tiling.{IsFlowPlan, IsGoodFor, Tiling}
 use Rattle.loop_tree.specs.Tree.{Trees}
 use Rattle.planned_trees.specs.Trees.{AreFlowTreesOf, AreTreesOf}

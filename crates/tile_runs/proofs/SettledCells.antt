@@ -1,18 +1,13 @@
 -- A row in which the copies of a walk's places are put, one after another, into the cells that these places write: its
 -- front then has the arrays as the kernel's own execution leaves them (`none_settled`, `one_settled`, `all_settled`).
-use Rattle.std.proofs.Common.{◌≡◌, ◌∙◌, ℕ, zero, suc, ◌+◌, ◌<◌, ◌≤◌, List, [], ◌∷◌, ◌++◌, length, map, take, get_or}
-use Rattle.std.proofs.Common.{set, Some, ap, ap₂, arith, refl, sym}
-use Rattle.std.specs.Prelude.{slice_get}
-use Rattle.std.proofs.lemmas.List.{length-map, length-set, take_all}
-use Rattle.std.proofs.lemmas.Option.{slice_get_within}
-use Rattle.scop_syntax.specs.Cells.{Cell, written}
-use Rattle.scop_syntax.specs.Execution.{AreInside, IsCell, IsShaped, before_place, cell_count, cell_number, offset_of}
-use Rattle.scop_syntax.specs.Execution.{performed_all, stored, total_cells, value_stored, value_stored_at}
-use Rattle.scop_syntax.specs.Walk.{Instance, Visit, instance}
-use Rattle.scop_syntax.proofs.Memory.{offset_below}
-use Rattle.scop_syntax.proofs.Writers.{before_next, shape_before, written_inside}
-use Rattle.scop_syntax.proofs.Members.{there_is}
-use Rattle.scop_syntax.proofs.SortedLists.{StandOnce, walked_distinct}
+use Rattle.scop_syntax.proofs.Common.{◌≡◌, ◌∙◌, ℕ, zero, suc, ◌+◌, ◌<◌, ◌≤◌, List, [], ◌∷◌, ◌++◌, length, map, take}
+use Rattle.scop_syntax.proofs.Common.{get_or, set, Some, ap, ap₂, arith, refl, sym, slice_get, length-map, length-set}
+use Rattle.scop_syntax.proofs.Common.{take_all, slice_get_within, Cell, written, AreInside, IsCell, IsShaped}
+use Rattle.scop_syntax.proofs.Common.{before_place, cell_count, cell_number, offset_of, performed_all, total_cells}
+use Rattle.scop_syntax.proofs.Common.{value_stored, value_stored_at, Instance, Visit, instance, offset_below}
+use Rattle.scop_syntax.proofs.Common.{shape_before, written_inside, there_is, StandOnce, walked_distinct}
+use Rattle.scop_syntax.specs.Execution.{stored}
+use Rattle.scop_syntax.proofs.Writers.{before_next}
 use Rattle.tile_core.specs.Plans.{extents_in, places_in, plain_shape, program_in, walk_in}
 use Rattle.tile_core.specs.Ranks.{place_in}
 use Rattle.tile_core.specs.declared.plan.Plan.{Plan}

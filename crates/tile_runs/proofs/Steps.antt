@@ -1,11 +1,7 @@
 -- What each event of the only worker leaves.
-use Rattle.std.proofs.Common.{◌≡◌, ◌∙◌, ◌+◌, Bool, true, false, ℕ, zero, suc, ◌<◌, ◌≤◌, [], ◌∷◌, length}
-use Rattle.std.proofs.Common.{set, ap, sym, subst, arith}
-use Rattle.std.specs.Prelude.{nat_eq, nat_lt, nat_le, ◌&&◌, if◌then◌else◌}
-use Rattle.std.proofs.lemmas.Bool.{le-leb, lt-ltb}
-use mathlib.Core.Option.{some, some-injective, some-ne-none}
-use lib.ListN.{get_elem?}
-use Rattle.scop_syntax.proofs.Members.{nat_cases}
+use Rattle.scop_syntax.proofs.Common.{◌≡◌, ◌∙◌, ◌+◌, Bool, true, false, ℕ, zero, suc, ◌<◌, ◌≤◌, [], ◌∷◌, length, set}
+use Rattle.scop_syntax.proofs.Common.{ap, sym, subst, arith, nat_eq, nat_lt, nat_le, ◌&&◌, if◌then◌else◌, le-leb}
+use Rattle.scop_syntax.proofs.Common.{lt-ltb, some, some-injective, some-ne-none, get_elem?, nat_cases}
 use Rattle.tile_events.specs.Core.{Event, Seen, State, Worker, acts, claim, holding, idle}
 use Rattle.tile_events.specs.Core.{is_counted, open_tile, put, release, step, step_of, working, needed_by, seen_by}
 use Rattle.tile_events.specs.Opening.{IsQuiet}

@@ -18,9 +18,9 @@ use loop_tree::Tree;
 use planned_trees::laws::trees_of_plans_can_be_walked;
 use scop_syntax::tree::Kernel;
 use std::alloc::{AllocError, Global};
-use tile_table::table::Table;
 use tile_core::expansion::Expansion;
 use tile_list::TileList;
+use tile_table::table::Table;
 
 /// Of each read of each place of a kernel's walk the place whose value it takes.
 ///

@@ -1,10 +1,7 @@
 -- The scan sets of a schedule are alike: one number of dimensions, one mark; rows of the first band with their marks.
-use Rattle.std.proofs.Common.{◌≡◌, ℕ, zero, suc, ◌+◌, ◌≤◌, ℤ, List, [], ◌∷◌, refl, sym, ◌∙◌, ap, subst}
-use Rattle.std.proofs.Common.{arith, length, inl, inr}
-use Rattle.std.specs.Prelude.{not, max, slice_get, Some}
+use Rattle.scop_syntax.proofs.Common.{◌≡◌, ℕ, zero, suc, ◌+◌, ◌≤◌, ℤ, List, [], ◌∷◌, refl, sym, ◌∙◌, ap, subst, arith}
+use Rattle.scop_syntax.proofs.Common.{length, inl, inr, not, max, slice_get, Some, In, in_map_from}
 use Rattle.std.proofs.lemmas.List.{length-append}
-use Rattle.scop_syntax.specs.Members.{In}
-use Rattle.scop_syntax.proofs.Members.{in_map_from}
 use Rattle.integer_sets.specs.Scanned.{Scanned}
 use Rattle.iteration_domains.specs.Model.{Modelled, KernelModel}
 use Rattle.loop_tree.specs.Tiling.{TileRow}

@@ -1,19 +1,12 @@
 -- The values of composed forms at points of fractions, and how large they are.
-use Rattle.std.proofs.Common.{◌≡◌, ℕ, zero, suc, ◌+◌, ◌*◌, ◌<◌, ◌≤◌, ℤ, pos, List, [], ◌∷◌, ◌++◌, length, map, get_or}
-use Rattle.std.proofs.Common.{ap, ap₂, ◌∙◌, refl, arith, mul-le-mul}
-use Rattle.std.specs.Prelude.{◌+ℤ◌, ◌*ℤ◌, unsigned_abs}
-use Rattle.std.proofs.lemmas.Int.{ints, unsigned_abs-mul}
-use Rattle.std.proofs.lemmas.List.{map-append}
-use Rattle.whole_numbers.specs.Lists.{dot, zeros}
-use Rattle.whole_numbers.specs.Affine.{Affine, form_of, sum_of_forms, multiple_of_form, plus_combination, composed}
-use Rattle.whole_numbers.proofs.Ring.{mul_zero_left}
-use Rattle.whole_numbers.proofs.Dot.{dot-unit, dot-zeros}
-use Rattle.whole_numbers.proofs.Sizes.{abs_sum}
+use Rattle.scop_syntax.proofs.Common.{◌≡◌, ℕ, zero, suc, ◌+◌, ◌*◌, ◌<◌, ◌≤◌, ℤ, pos, List, [], ◌∷◌, ◌++◌, length, map}
+use Rattle.scop_syntax.proofs.Common.{get_or, ap, ap₂, ◌∙◌, refl, arith, mul-le-mul, ◌+ℤ◌, ◌*ℤ◌, unsigned_abs, ints}
+use Rattle.scop_syntax.proofs.Common.{unsigned_abs-mul, map-append, dot, zeros, Affine, form_of, sum_of_forms}
+use Rattle.scop_syntax.proofs.Common.{multiple_of_form, plus_combination, composed, mul_zero_left, dot-unit, dot-zeros}
+use Rattle.scop_syntax.proofs.Common.{abs_sum, Head, IsForm, size}
 use Rattle.fractions.specs.Fractions.{value_over}
 use Rattle.fractions.proofs.PointValues.{value_over-sum, value_over-multiple}
-use Rattle.scop_syntax.specs.Tree.{Head}
-use Rattle.scop_syntax.specs.Kernel.{IsForm}
-use Rattle.scop_syntax.proofs.Limits.{size, dot_size}
+use Rattle.scop_syntax.proofs.Limits.{dot_size}
 use Rattle.iteration_domains.specs.Rows.{variable, variables, iterator, within_loop}
 use Rattle.iteration_domains.proofs.RowLaws.{GoesOn}
 

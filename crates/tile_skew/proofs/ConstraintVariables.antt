@@ -1,11 +1,7 @@
 -- All constraints of a scan set speak of all its variables.
-use Rattle.std.proofs.Common.{◌≡◌, ℕ, suc, ◌+◌, ◌≤◌, ℤ, pos, List, [], ◌∷◌, ◌++◌, sym, ◌∙◌, arith, length}
-use Rattle.std.proofs.Common.{map, subst, ap}
-use Rattle.std.specs.Prelude.{All, neg_ℤ}
-use Rattle.std.proofs.lemmas.List.Elements.{All-nil, All-cons, All-head, All-tail, All-append, All-map}
-use Rattle.whole_numbers.specs.Affine.{Affine}
-use Rattle.whole_numbers.specs.Lists.{multiples}
-use Rattle.whole_numbers.proofs.Dot.{length-sums, length-multiples}
+use Rattle.scop_syntax.proofs.Common.{◌≡◌, ℕ, suc, ◌+◌, ◌≤◌, ℤ, pos, List, [], ◌∷◌, ◌++◌, sym, ◌∙◌, arith, length, map}
+use Rattle.scop_syntax.proofs.Common.{subst, ap, All, neg_ℤ, All-nil, All-cons, All-head, All-tail, All-append, All-map}
+use Rattle.scop_syntax.proofs.Common.{Affine, multiples, length-sums, length-multiples}
 use Rattle.affine_forms.specs.Parts.{variables_of}
 use Rattle.iteration_domains.specs.Rows.{variable, variables}
 use Rattle.iteration_domains.proofs.Surroundings.{length-variable, sized-variables}

@@ -1,14 +1,8 @@
 -- How many statements and loops a kernel has, and how many items and dimensions the scan sets of its schedules.
-use Rattle.std.proofs.Common.{◌≡◌, ℕ, zero, suc, List, [], ◌∷◌, refl, sym, ap}
-use Rattle.std.proofs.Common.{subst, inl, inr, arith, length, map}
-use Rattle.std.specs.Prelude.{◌≤◌}
-use Rattle.std.proofs.lemmas.List.{length-append, length-map}
-use Rattle.scop_syntax.specs.Kernel.{IsKernel}
-use Rattle.scop_syntax.specs.Members.{In}
-use Rattle.scop_syntax.specs.Statements.{in_guard_of, placed_all, statements_of}
-use Rattle.scop_syntax.specs.Tree.{guard, Program}
-use Rattle.scop_syntax.proofs.Members.{in_map_from}
-use Rattle.scop_syntax.proofs.Statements.{length-placed}
+use Rattle.scop_syntax.proofs.Common.{◌≡◌, ℕ, zero, suc, List, [], ◌∷◌, refl, sym, ap, subst, inl, inr, arith, length}
+use Rattle.scop_syntax.proofs.Common.{map, ◌≤◌, length-map, IsKernel, In, in_guard_of, placed_all, statements_of, guard}
+use Rattle.scop_syntax.proofs.Common.{Program, in_map_from, length-placed}
+use Rattle.std.proofs.lemmas.List.{length-append}
 use Rattle.iteration_domains.specs.Model.{Modelled, modelled, model_of}
 use Rattle.schedule_rows.specs.Items.{Marked, Block, scalar, band}
 use Rattle.schedule_rows.specs.Outcomes.{items_in}

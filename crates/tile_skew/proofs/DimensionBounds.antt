@@ -1,15 +1,10 @@
 -- Each dimension of a scan set lies within 2^64 over fractions, where the turns lie within 2^46.
-use Rattle.std.proofs.Common.{◌≡◌, ℕ, zero, suc, ◌+◌, ◌-◌, ◌*◌, ◌^◌, ◌<◌, ◌≤◌, ℤ, pos, List, [], ◌∷◌, ◌++◌, sym}
-use Rattle.std.proofs.Common.{◌∙◌, ap, subst, inl, inr, arith, length, map, take, drop, get_or, mul-le-mul}
-use Rattle.std.specs.Prelude.{◌+ℤ◌, ◌-ℤ◌, ◌*ℤ◌, ◌≤ℤ◌, ◌<ℤ◌, unsigned_abs, All}
-use Rattle.std.proofs.lemmas.Int.{ints}
-use Rattle.std.proofs.lemmas.List.Elements.{All-nil, All-cons, All-head, All-tail, All-append, All-map, All-weaker}
-use Rattle.whole_numbers.specs.Affine.{Affine, form_of}
-use Rattle.whole_numbers.specs.Lists.{dot, zeros}
-use Rattle.whole_numbers.proofs.Dot.{dot-zeros}
-use Rattle.whole_numbers.proofs.Order.{le_or_lt, mul_le, mul_le_left, mul_le_turned}
-use Rattle.whole_numbers.proofs.Ring.{mul_comm_int, mul_one_left, mul_one_right, mul_zero_left}
-use Rattle.whole_numbers.proofs.Sizes.{abs_low, abs_high, abs_at_most}
+use Rattle.scop_syntax.proofs.Common.{◌≡◌, ℕ, zero, suc, ◌+◌, ◌-◌, ◌*◌, ◌^◌, ◌<◌, ◌≤◌, ℤ, pos, List, [], ◌∷◌, ◌++◌, sym}
+use Rattle.scop_syntax.proofs.Common.{◌∙◌, ap, subst, inl, inr, arith, length, map, take, drop, get_or, mul-le-mul}
+use Rattle.scop_syntax.proofs.Common.{◌+ℤ◌, ◌-ℤ◌, ◌*ℤ◌, ◌≤ℤ◌, ◌<ℤ◌, unsigned_abs, All, ints, All-nil, All-cons}
+use Rattle.scop_syntax.proofs.Common.{All-head, All-tail, All-append, All-map, All-weaker, Affine, form_of, dot, zeros}
+use Rattle.scop_syntax.proofs.Common.{dot-zeros, le_or_lt, mul_le, mul_le_left, mul_le_turned, mul_comm_int}
+use Rattle.scop_syntax.proofs.Common.{mul_one_left, mul_one_right, mul_zero_left, abs_low, abs_high, abs_at_most}
 use Rattle.null_space.specs.Sizes.{IsWithin, AreWithin}
 use Rattle.null_space.proofs.Sizes.{within_add, within_mul, are_within_more}
 use Rattle.fractions.specs.Fractions.{value_over, HoldsOver}

@@ -1,20 +1,13 @@
 -- The points of a statement's scan set against the instances of the walk.
-use Rattle.std.proofs.Common.{◌≡◌, ℕ, ◌+◌, ◌-◌, ◌≤◌, Bool, true, false, ℤ, pos, List, [], ◌∷◌, ◌++◌, refl, sym, ◌∙◌, ap}
-use Rattle.std.proofs.Common.{ap₂, subst, arith, length, map, take, drop}
-use Rattle.std.specs.Prelude.{◌≤ℤ◌, ◌<ℤ◌, not, if◌then◌else◌}
-use Rattle.std.proofs.lemmas.Int.{ints}
-use Rattle.std.proofs.lemmas.List.{append_assoc, length-append, length-map, length-drop, length-take-le}
-use Rattle.std.proofs.lemmas.List.{take-append-drop}
-use Rattle.std.proofs.lemmas.List.Elements.{All-weaker}
-use Rattle.whole_numbers.specs.Affine.{value_of}
-use Rattle.whole_numbers.specs.Floor.{floor}
-use Rattle.whole_numbers.specs.Lists.{zeros, NotNegative}
-use Rattle.whole_numbers.proofs.Dot.{length-zeros}
-use Rattle.whole_numbers.proofs.Floors.{floor_greatest, floor_is}
-use Rattle.whole_numbers.proofs.Lists.{dot_not_negative, not_negative_all}
-use Rattle.whole_numbers.proofs.Ring.{mul_zero_left}
+use Rattle.scop_syntax.proofs.Common.{◌≡◌, ℕ, ◌+◌, ◌-◌, ◌≤◌, Bool, true, false, ℤ, pos, List, [], ◌∷◌, ◌++◌, refl, sym}
+use Rattle.scop_syntax.proofs.Common.{◌∙◌, ap, ap₂, subst, arith, length, map, take, drop, ◌≤ℤ◌, ◌<ℤ◌, not}
+use Rattle.scop_syntax.proofs.Common.{if◌then◌else◌, ints, length-map, length-drop, length-take-le, take-append-drop}
+use Rattle.scop_syntax.proofs.Common.{All-weaker, value_of, floor, zeros, NotNegative, length-zeros, floor_is}
+use Rattle.scop_syntax.proofs.Common.{not_negative_all, mul_zero_left, In}
+use Rattle.std.proofs.lemmas.List.{append_assoc, length-append}
+use Rattle.whole_numbers.proofs.Floors.{floor_greatest}
+use Rattle.whole_numbers.proofs.Lists.{dot_not_negative}
 use Rattle.integer_sets.specs.Points.{Satisfies}
-use Rattle.scop_syntax.specs.Members.{In}
 use Rattle.scop_syntax.proofs.Members.{place_of as place_in}
 use Rattle.stmt_graph.proofs.Reachability.{in_all}
 use Rattle.iteration_domains.specs.Model.{Modelled, KernelModel}

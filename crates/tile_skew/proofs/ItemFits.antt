@@ -1,7 +1,5 @@
 -- The items of a schedule's statements fit: a coefficient for each loop, and small numbers.
-use Rattle.std.proofs.Common.{ℕ, List, [], ◌∷◌, arith}
-use Rattle.std.specs.Prelude.{All}
-use Rattle.std.proofs.lemmas.List.Elements.{All-nil, All-cons, All-append}
+use Rattle.scop_syntax.proofs.Common.{ℕ, List, [], ◌∷◌, arith, All, All-nil, All-cons, All-append}
 use Rattle.stmt_graph.specs.Graph.{number_in}
 use Rattle.loop_tree.specs.Tiling.{TileRow, row, scalar as number}
 use Rattle.schedule_rows.specs.Items.{Row, Marked, Block, scalar, band, part_of}

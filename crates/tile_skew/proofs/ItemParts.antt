@@ -1,9 +1,8 @@
 -- A schedule's items fall into the leading scalars, the rows of the first band and the items behind it.
-use Rattle.std.proofs.Common.{◌≡◌, ℕ, suc, ◌+◌, ◌-◌, ◌<◌, ◌≤◌, Bool, List, [], ◌∷◌, ◌++◌, refl, sym, ◌∙◌, ap, ap₂}
-use Rattle.std.proofs.Common.{subst, arith, length, map, take, drop}
-use Rattle.std.specs.Prelude.{All, not}
-use Rattle.std.proofs.lemmas.List.{length-map, length-append, map-append, drop_at}
-use Rattle.std.proofs.lemmas.List.Elements.{All-nil, All-cons, All-append}
+use Rattle.scop_syntax.proofs.Common.{◌≡◌, ℕ, suc, ◌+◌, ◌-◌, ◌<◌, ◌≤◌, Bool, List, [], ◌∷◌, ◌++◌, refl, sym, ◌∙◌, ap}
+use Rattle.scop_syntax.proofs.Common.{ap₂, subst, arith, length, map, take, drop, All, not, length-map, map-append}
+use Rattle.scop_syntax.proofs.Common.{drop_at, All-nil, All-cons, All-append}
+use Rattle.std.proofs.lemmas.List.{length-append}
 use Rattle.stmt_graph.specs.Graph.{number_in}
 use Rattle.loop_tree.specs.Tiling.{TileRow, Items}
 use Rattle.loop_tree.specs.Tiling as tiling

@@ -1,11 +1,8 @@
 -- The steps of the loops that read a statement's items off a schedule's.
-use Rattle.std.proofs.Common.{◌≡◌, ℕ, zero, suc, ◌+◌, ◌-◌, ◌<◌, ◌≤◌, Bool, ℤ, pos, List, [], ◌∷◌, ◌++◌, refl, sym, ◌∙◌}
-use Rattle.std.proofs.Common.{ap, ap₂, append-nil}
-use Rattle.std.proofs.Common.{arith, length, map, take, drop, get_or}
-use Rattle.std.specs.Prelude.{slice_get, Some}
-use Rattle.std.proofs.lemmas.List.{append_assoc, drop_more, take_rest, length-map}
-use Rattle.whole_numbers.specs.Affine.{Affine}
-use Rattle.whole_numbers.specs.Lists.{zeros}
+use Rattle.scop_syntax.proofs.Common.{◌≡◌, ℕ, zero, suc, ◌+◌, ◌-◌, ◌<◌, ◌≤◌, Bool, ℤ, pos, List, [], ◌∷◌, ◌++◌, refl}
+use Rattle.scop_syntax.proofs.Common.{sym, ◌∙◌, ap, ap₂, append-nil, arith, length, map, take, drop, get_or, slice_get}
+use Rattle.scop_syntax.proofs.Common.{Some, drop_more, length-map, Affine, zeros}
+use Rattle.std.proofs.lemmas.List.{append_assoc, take_rest}
 use Rattle.iteration_domains.specs.Rows.{variable}
 use Rattle.conflict_deps.specs.Conflicts.{spread, difference_of_forms}
 use Rattle.conflict_deps.proofs.Shapes.{spread_parts}

@@ -1,10 +1,7 @@
 -- How many pairs of statements dependences join: no more where they are restricted, fewer where some are cut.
-use Rattle.std.proofs.Common.{◌≡◌, ℕ, zero, suc, ◌+◌, ◌*◌, ◌<◌, ◌≤◌, Bool, true, false, List, [], ◌∷◌, inl, inr, ap}
-use Rattle.std.proofs.Common.{ap₂, sym, ◌∙◌, subst, refl, arith, length}
-use Rattle.std.specs.Prelude.{nat_eq, if◌then◌else◌}
-use Rattle.std.proofs.lemmas.Bool.{eq-eqb, eqb-true}
-use Rattle.scop_syntax.specs.Members.{In}
-use Rattle.scop_syntax.proofs.Members.{in_map, in_map_from, nat_cases}
+use Rattle.scop_syntax.proofs.Common.{◌≡◌, ℕ, zero, suc, ◌+◌, ◌*◌, ◌<◌, ◌≤◌, Bool, true, false, List, [], ◌∷◌, inl, inr}
+use Rattle.scop_syntax.proofs.Common.{ap, ap₂, sym, ◌∙◌, subst, refl, arith, length, nat_eq, if◌then◌else◌, eq-eqb}
+use Rattle.scop_syntax.proofs.Common.{eqb-true, In, in_map, in_map_from, nat_cases}
 use Rattle.stmt_graph.specs.Graph.{number_in}
 use Rattle.iteration_domains.specs.Dependence.{Dependence}
 use Rattle.schedule_rows.specs.Dependences.{edge_of, edges_of, equal_at}

@@ -1,11 +1,9 @@
 -- A statement of a model, taken by its place.
-use Rattle.std.proofs.Common.{◌≡◌, ℕ, zero, suc, ◌<◌, ◌≤◌, List, [], ◌∷◌, sym, ap, ◌∙◌, arith, length, get_or}
-use Rattle.std.specs.Prelude.{slice_get, Some}
-use Rattle.scop_syntax.proofs.Members.{in_from_place}
+use Rattle.scop_syntax.proofs.Common.{◌≡◌, ℕ, zero, suc, ◌<◌, ◌≤◌, List, [], ◌∷◌, sym, ap, ◌∙◌, arith, length, get_or}
+use Rattle.scop_syntax.proofs.Common.{slice_get, Some, in_from_place, get_or-map}
 use Rattle.iteration_domains.specs.Model.{Modelled, KernelModel}
 use Rattle.tile_skew.specs.ScanSets.{most_iterators}
 use Rattle.tile_skew.proofs.AlikeSets.{within_most}
-use Rattle.std.proofs.lemmas.List.{get_or-map}
 use Rattle.schedule_rows.specs.Posed.{loops_of}
 use Rattle.schedule_rows.specs.Schedule.{loops_in}
 

@@ -1,8 +1,6 @@
 -- The numbers of a numbering of n statements are below n.
-use Rattle.std.proofs.Common.{◌≡◌, ℕ, zero, suc, ◌<◌, true, false, List, sym, ◌∙◌, ◌⊎◌, inl, inr, arith, nat_eq, nat_lt}
-use Rattle.std.specs.Prelude.{◌≤◌}
-use Rattle.std.proofs.lemmas.Bool.{eq-eqb, eqb-true, false≢true, cases_lt}
-use Rattle.std.proofs.lemmas.Bool.Decides.{nat_tests}
+use Rattle.scop_syntax.proofs.Common.{◌≡◌, ℕ, zero, suc, ◌<◌, true, false, List, sym, ◌∙◌, ◌⊎◌, inl, inr, arith, nat_eq}
+use Rattle.scop_syntax.proofs.Common.{nat_lt, ◌≤◌, eq-eqb, eqb-true, false≢true, cases_lt, nat_tests}
 use Rattle.stmt_graph.specs.Graph.{number_in, IsNumbering, Reaches}
 use Rattle.stmt_graph.proofs.Counts.{lt_or_eq, count, count_falls, count_within, found}
 

@@ -1,15 +1,9 @@
 -- The order of places is the order of the tiling.
-use Rattle.std.proofs.Common.{◌≡◌, ℕ, zero, suc, ◌+◌, ◌-◌, ◌<◌, ◌≤◌, ℤ, pos, List, [], ◌∷◌, ◌++◌, refl, sym, ◌∙◌, ap}
-use Rattle.std.proofs.Common.{subst, arith, length, map, inl, inr}
-use Rattle.std.specs.Prelude.{◌↔◌}
-use Rattle.std.proofs.lemmas.List.{append_assoc, length-append, length-map}
-use Rattle.whole_numbers.specs.Affine.{value_of}
-use Rattle.whole_numbers.specs.Floor.{floor}
-use Rattle.whole_numbers.specs.Lexicographic.{LexLess}
-use Rattle.whole_numbers.specs.Lists.{zeros}
-use Rattle.whole_numbers.proofs.Dot.{length-zeros}
-use Rattle.whole_numbers.proofs.Lexicographic.{LexLess-irrefl, LexLess-rest, LexLess-append_iff}
-use Rattle.scop_syntax.specs.Walk.{Instance}
+use Rattle.scop_syntax.proofs.Common.{◌≡◌, ℕ, zero, suc, ◌+◌, ◌-◌, ◌<◌, ◌≤◌, ℤ, pos, List, [], ◌∷◌, ◌++◌, refl, sym}
+use Rattle.scop_syntax.proofs.Common.{◌∙◌, ap, subst, arith, length, map, inl, inr, ◌↔◌, length-map, value_of, floor}
+use Rattle.scop_syntax.proofs.Common.{LexLess, zeros, length-zeros, LexLess-irrefl, LexLess-rest, Instance}
+use Rattle.std.proofs.lemmas.List.{append_assoc, length-append}
+use Rattle.whole_numbers.proofs.Lexicographic.{LexLess-append_iff}
 use Rattle.loop_tree.specs.Tiling.{TileRow, Items, item_values, coordinates, wave_sum, order_of}
 use Rattle.schedule_rows.specs.Items.{Marked, Block, scalar, band}
 use Rattle.schedule_rows.proofs.Tiling.{length-values}

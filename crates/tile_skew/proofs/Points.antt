@@ -1,13 +1,9 @@
 -- The whole points of a scan set are the places of its statement's instances, part by part (`tells`).
-use Rattle.std.proofs.Common.{◌≡◌, ℕ, zero, suc, ◌+◌, ◌≤◌, ℤ, pos, List, [], ◌∷◌, ◌++◌, refl, sym, ◌∙◌, ap, ap₂}
-use Rattle.std.proofs.Common.{subst, arith, length, map, take, drop, get_or}
-use Rattle.std.specs.Prelude.{◌≤ℤ◌, ◌<ℤ◌, All}
-use Rattle.std.proofs.lemmas.List.{append_assoc, length-append, length-map}
-use Rattle.std.proofs.lemmas.List.{map-append}
-use Rattle.std.proofs.lemmas.List.Elements.{All-nil, All-cons, All-head, All-tail, All-append}
-use Rattle.whole_numbers.specs.Affine.{Affine, value_of, values_of}
-use Rattle.whole_numbers.specs.Lists.{zeros}
-use Rattle.whole_numbers.proofs.Entries.{all_front, all_back}
+use Rattle.scop_syntax.proofs.Common.{◌≡◌, ℕ, zero, suc, ◌+◌, ◌≤◌, ℤ, pos, List, [], ◌∷◌, ◌++◌, refl, sym, ◌∙◌, ap, ap₂}
+use Rattle.scop_syntax.proofs.Common.{subst, arith, length, map, take, drop, get_or, ◌≤ℤ◌, ◌<ℤ◌, All, length-map}
+use Rattle.scop_syntax.proofs.Common.{map-append, All-nil, All-cons, All-head, All-tail, All-append, Affine, value_of}
+use Rattle.scop_syntax.proofs.Common.{values_of, zeros, all_front, all_back}
+use Rattle.std.proofs.lemmas.List.{append_assoc, length-append}
 use Rattle.integer_sets.specs.Points.{Satisfies}
 use Rattle.iteration_domains.specs.Model.{Modelled}
 use Rattle.iteration_domains.specs.Rows.{variable, variables}

@@ -1,13 +1,10 @@
 -- A schedule of statements with at most n loops has at most n rows; each of its scalars parts two statements that
 -- dependences have joined.
-use Rattle.std.proofs.Common.{◌≡◌, ℕ, suc, ◌+◌, ◌<◌, List, [], ◌∷◌, ◌++◌, sym, ◌∙◌, ap, ap₂, subst, ◌⊎◌}
-use Rattle.std.proofs.Common.{inl, inr, arith, length}
-use Rattle.std.specs.Prelude.{◌≤◌, ⊤}
-use Rattle.std.proofs.lemmas.List.{append-nil, length-append, nil_from_length}
-use Rattle.std.proofs.lemmas.Bool.{cases_lt}
+use Rattle.scop_syntax.proofs.Common.{◌≡◌, ℕ, suc, ◌+◌, ◌<◌, List, [], ◌∷◌, ◌++◌, sym, ◌∙◌, ap, ap₂, subst, ◌⊎◌, inl}
+use Rattle.scop_syntax.proofs.Common.{inr, arith, length, ◌≤◌, ⊤, nil_from_length, cases_lt, In}
+use Rattle.std.proofs.lemmas.List.{append-nil, length-append}
 use Rattle.null_space.specs.Narrowing.{narrowed_by, Grows}
 use Rattle.null_space.proofs.Sizes.{units_length}
-use Rattle.scop_syntax.specs.Members.{In}
 use Rattle.stmt_graph.specs.Graph.{number_in}
 use Rattle.iteration_domains.specs.Dependence.{Dependence}
 use Rattle.schedule_rows.specs.Dependences.{edges_of}

@@ -1,18 +1,13 @@
 -- The scan sets of a kernel's schedule: bounded, of few dimensions, in the order of their statements.
-use Rattle.std.proofs.Common.{◌≡◌, ℕ, suc, ◌+◌, ◌^◌, ◌<◌, ◌≤◌, pos, List, [], ◌∷◌, sym, ◌∙◌, ap, subst}
-use Rattle.std.proofs.Common.{refl, arith, length, Some}
-use Rattle.std.specs.Prelude.{◌≤ℤ◌, All, slice_get}
-use Rattle.std.proofs.lemmas.Int.{ints}
-use Rattle.std.proofs.lemmas.List.{length-append, length-map}
-use Rattle.std.proofs.lemmas.List.Elements.{All-nil, All-cons, All-append}
+use Rattle.scop_syntax.proofs.Common.{◌≡◌, ℕ, suc, ◌+◌, ◌^◌, ◌<◌, ◌≤◌, pos, List, [], ◌∷◌, sym, ◌∙◌, ap, subst, refl}
+use Rattle.scop_syntax.proofs.Common.{arith, length, Some, ◌≤ℤ◌, All, slice_get, ints, length-map, All-nil, All-cons}
+use Rattle.scop_syntax.proofs.Common.{All-append, IsKernel, In, Sorted, Placed, statements_of, Program, in_map_from}
+use Rattle.scop_syntax.proofs.Common.{sorted_map}
+use Rattle.std.proofs.lemmas.List.{length-append}
 use Rattle.fm_projection.specs.Alone.{IsBounded}
 use Rattle.integer_sets.specs.Scanned.{Scanned}
-use Rattle.scop_syntax.specs.Kernel.{IsKernel}
-use Rattle.scop_syntax.specs.Members.{In, Sorted}
 use Rattle.scop_syntax.specs.Statements as source
-use Rattle.scop_syntax.specs.Statements.{Placed, statements_of}
-use Rattle.scop_syntax.specs.Tree.{Program}
-use Rattle.scop_syntax.proofs.Members.{in_map_from, place_of as place_in, sorted_map}
+use Rattle.scop_syntax.proofs.Members.{place_of as place_in}
 use Rattle.stmt_graph.specs.Graph.{number_in}
 use Rattle.iteration_domains.specs.Model.{Modelled, modelled, model_of}
 use Rattle.iteration_domains.specs.Sizes.{IsKernelModel}

@@ -1,19 +1,14 @@
 -- The values of a scan set's forms at a point, whole or over a denominator (`AreValues`), and what its equalities and
 -- coordinate rows say there.
-use Rattle.std.proofs.Common.{◌≡◌, ℕ, suc, ◌+◌, ◌-◌, ◌<◌, ◌≤◌, Bool, true, false, ℤ, pos, negsuc, List, [], ◌∷◌, ◌++◌}
-use Rattle.std.proofs.Common.{refl, sym, ◌∙◌, ap, ap₂, subst, arith, length, map, take, drop, get_or}
-use Rattle.std.specs.Prelude.{◌+ℤ◌, ◌-ℤ◌, ◌*ℤ◌, ◌≤ℤ◌, ◌<ℤ◌, neg_ℤ, All, if◌then◌else◌, ⊤}
-use Rattle.std.proofs.lemmas.Int.{ints}
-use Rattle.std.proofs.lemmas.List.{map-append, length-map, drop_more, take_at, drop_at}
-use Rattle.std.proofs.lemmas.List.Elements.{All-nil, All-cons, All-head, All-tail}
-use Rattle.whole_numbers.specs.Affine.{Affine, value_of, values_of, sum_of_forms, multiple_of_form}
-use Rattle.whole_numbers.specs.Division.{IsFloor}
-use Rattle.whole_numbers.specs.Floor.{floor}
-use Rattle.whole_numbers.specs.Lists.{dot, zeros}
-use Rattle.whole_numbers.proofs.Ring.{mul_one_left, mul_one_right, mul_neg_left, mul_zero_left}
-use Rattle.whole_numbers.proofs.Dot.{dot-append, dot-zeros, dot-padded, dot-past, length-zeros}
-use Rattle.whole_numbers.proofs.Floors.{floor_is, floor_unique}
-use Rattle.whole_numbers.proofs.Values.{value_of-sum, value_of-multiple}
+use Rattle.scop_syntax.proofs.Common.{◌≡◌, ℕ, suc, ◌+◌, ◌-◌, ◌<◌, ◌≤◌, Bool, true, false, ℤ, pos, negsuc, List, [], ◌∷◌}
+use Rattle.scop_syntax.proofs.Common.{◌++◌, refl, sym, ◌∙◌, ap, ap₂, subst, arith, length, map, take, drop, get_or}
+use Rattle.scop_syntax.proofs.Common.{◌+ℤ◌, ◌-ℤ◌, ◌*ℤ◌, ◌≤ℤ◌, ◌<ℤ◌, neg_ℤ, All, if◌then◌else◌, ⊤, ints, map-append}
+use Rattle.scop_syntax.proofs.Common.{length-map, drop_more, drop_at, All-nil, All-cons, All-head, All-tail, Affine}
+use Rattle.scop_syntax.proofs.Common.{value_of, values_of, sum_of_forms, multiple_of_form, IsFloor, floor, dot, zeros}
+use Rattle.scop_syntax.proofs.Common.{mul_one_left, mul_one_right, mul_neg_left, mul_zero_left, dot-append, dot-zeros}
+use Rattle.scop_syntax.proofs.Common.{dot-padded, dot-past, length-zeros, floor_is, floor_unique, value_of-sum}
+use Rattle.scop_syntax.proofs.Common.{value_of-multiple}
+use Rattle.std.proofs.lemmas.List.{take_at}
 use Rattle.iteration_domains.specs.Rows.{variable}
 use Rattle.iteration_domains.proofs.RowLaws.{value_of-variable}
 use Rattle.conflict_deps.specs.Conflicts.{difference_of_forms, source_form}

@@ -1,12 +1,7 @@
 -- A schedule's tiling has the tiles, waves and orders of its blocks.
-use Rattle.std.proofs.Common.{◌≡◌, ℕ, zero, suc, ◌+◌, ◌<◌, Bool, true, false, ℤ, pos, List, [], ◌∷◌, ◌++◌, refl, ◌∙◌}
-use Rattle.std.proofs.Common.{ap, ap₂, arith, length, map}
-use Rattle.std.specs.Prelude.{◌+ℤ◌, ◌-◌, not, if◌then◌else◌, slice_index_or}
-use Rattle.std.proofs.lemmas.List.{map-append}
-use Rattle.whole_numbers.specs.Affine.{value_of}
-use Rattle.whole_numbers.specs.Floor.{floor}
-use Rattle.whole_numbers.specs.Lists.{zeros}
-use Rattle.scop_syntax.specs.Walk.{Instance}
+use Rattle.scop_syntax.proofs.Common.{◌≡◌, ℕ, zero, suc, ◌+◌, ◌<◌, Bool, true, false, ℤ, pos, List, [], ◌∷◌, ◌++◌, refl}
+use Rattle.scop_syntax.proofs.Common.{◌∙◌, ap, ap₂, arith, length, map, ◌+ℤ◌, ◌-◌, not, if◌then◌else◌, slice_index_or}
+use Rattle.scop_syntax.proofs.Common.{map-append, value_of, floor, zeros, Instance}
 use Rattle.loop_tree.specs.Tiling.{Items, item_value, item_values, coordinates, wave_sum, items_at, tiled, tile_of}
 use Rattle.loop_tree.specs.Tiling.{wave_of, order_of}
 use Rattle.schedule_rows.specs.Items.{Marked, Block, scalar, band, phi, values, band_values}

@@ -1,7 +1,5 @@
 -- Good pairs of a schedule are in order under its tiling.
-use Rattle.std.proofs.Common.{ℕ, ◌<◌, pos, List, sym, ◌∙◌, subst, inl, inr}
-use Rattle.whole_numbers.specs.Lexicographic.{LexLess}
-use Rattle.scop_syntax.specs.Walk.{Instance}
+use Rattle.scop_syntax.proofs.Common.{ℕ, ◌<◌, pos, List, sym, ◌∙◌, subst, inl, inr, LexLess, Instance}
 use Rattle.loop_tree.specs.Tiling.{IsInOrder, tiled, wave_of, order_of}
 use Rattle.schedule_rows.specs.Items.{Block}
 use Rattle.schedule_rows.specs.Tiles.{IsGoodPair}

@@ -1,25 +1,14 @@
 -- The turns of a statement's domain lie within 2^46 over fractions.
-use Rattle.std.proofs.Common.{◌≡◌, ℕ, ◌+◌, ◌*◌, ◌^◌, ◌≤◌, ℤ, pos, negsuc, List, [], ◌∷◌, ◌++◌, length}
-use Rattle.std.proofs.Common.{map, inl, inr, ap, subst, sym, ◌∙◌, refl, arith, mul-le-mul}
-use Rattle.std.proofs.Common.{length-append}
-use Rattle.std.specs.Prelude.{◌+ℤ◌, ◌-ℤ◌, ◌*ℤ◌, ◌≤ℤ◌, ◌<ℤ◌, ◌⊎◌, neg_ℤ, unsigned_abs, All}
-use Rattle.std.proofs.lemmas.Int.{ints}
-use Rattle.std.proofs.lemmas.List.{length-map}
-use Rattle.std.proofs.lemmas.List.Elements.{All-nil, All-cons, All-head, All-tail}
-use Rattle.whole_numbers.specs.Affine.{Affine, composed}
-use Rattle.whole_numbers.proofs.Ring.{mul_neg_left, mul_one_left}
-use Rattle.whole_numbers.proofs.Order.{mul_le}
-use Rattle.whole_numbers.proofs.Sizes.{abs_low, abs_high, abs_at_most}
-use Rattle.whole_numbers.proofs.Entries.{all_back}
+use Rattle.scop_syntax.proofs.Common.{◌≡◌, ℕ, ◌+◌, ◌*◌, ◌^◌, ◌≤◌, ℤ, pos, negsuc, List, [], ◌∷◌, ◌++◌, length, map, inl}
+use Rattle.scop_syntax.proofs.Common.{inr, ap, subst, sym, ◌∙◌, refl, arith, mul-le-mul, length-append, ◌+ℤ◌, ◌-ℤ◌}
+use Rattle.scop_syntax.proofs.Common.{◌*ℤ◌, ◌≤ℤ◌, ◌<ℤ◌, ◌⊎◌, neg_ℤ, unsigned_abs, All, ints, length-map, All-nil}
+use Rattle.scop_syntax.proofs.Common.{All-cons, All-head, All-tail, Affine, composed, mul_neg_left, mul_one_left}
+use Rattle.scop_syntax.proofs.Common.{mul_le, abs_low, abs_high, abs_at_most, all_back, Program, Head, In, own, IsHead}
+use Rattle.scop_syntax.proofs.Common.{IsKernel, AreScopes, Scope, round, under, Placed, loops_in, dot_last, size}
 use Rattle.fractions.specs.Fractions.{value_over, HoldsOver}
 use Rattle.fm_projection.specs.Alone.{AreInRangeOver}
-use Rattle.scop_syntax.specs.Tree.{Program, Head}
-use Rattle.scop_syntax.specs.Members.{In}
-use Rattle.scop_syntax.specs.Kernel.{own, IsHead, IsKernel, AreScopes}
-use Rattle.scop_syntax.specs.Statements.{Scope, round, under, Placed, loops_in}
-use Rattle.scop_syntax.proofs.Falls.{dot_last}
 use Rattle.scop_syntax.proofs.Kernels.{kernel_placed}
-use Rattle.scop_syntax.proofs.Limits.{size, grown, size-append, grown_up}
+use Rattle.scop_syntax.proofs.Limits.{grown, size-append, grown_up}
 use Rattle.scop_syntax.proofs.Limits.{five}
 use Rattle.iteration_domains.specs.Rows.{variable, composed_test, iterator, within_loop, rows_from, rows_of}
 use Rattle.iteration_domains.specs.Rows.{variables_of_statement, parameter_forms}

@@ -1,14 +1,8 @@
 -- The instances of a walk have numbers of statements of the model, and no negative turns.
-use Rattle.std.proofs.Common.{◌≡◌, ◌<◌, ℕ, ℤ, List, sym, ap, subst, arith, length, Some}
-use Rattle.std.specs.Prelude.{slice_get}
-use Rattle.std.proofs.lemmas.List.{length-map}
-use Rattle.std.proofs.lemmas.Option.{slice_get_within}
+use Rattle.scop_syntax.proofs.Common.{◌≡◌, ◌<◌, ℕ, ℤ, List, sym, ap, subst, arith, length, Some, slice_get, length-map}
+use Rattle.scop_syntax.proofs.Common.{slice_get_within, In, Placed, statements_of, Runs, visit_of, Program, Visit}
+use Rattle.scop_syntax.proofs.Common.{walk_of, place_of}
 use Rattle.fractions.specs.Farkas.{AreNotNegative}
-use Rattle.scop_syntax.specs.Members.{In}
-use Rattle.scop_syntax.specs.Statements.{Placed, statements_of, Runs, visit_of}
-use Rattle.scop_syntax.specs.Tree.{Program}
-use Rattle.scop_syntax.specs.Walk.{Visit, walk_of}
-use Rattle.scop_syntax.proofs.Members.{place_of}
 use Rattle.scop_syntax.proofs.Statements.{runs_not_negative}
 use Rattle.iteration_domains.specs.Model.{model_of, modelled}
 

@@ -1,15 +1,11 @@
 -- How many variables a scan set's forms have, and how large they are.
-use Rattle.std.proofs.Common.{◌≡◌, ℕ, suc, ◌+◌, ◌-◌, ◌*◌, ◌^◌, ◌<◌, ◌≤◌, Bool, true, false, ℤ, pos, negsuc, List, []}
-use Rattle.std.proofs.Common.{◌∷◌, ◌++◌, refl, sym, ◌∙◌, ap, subst, arith, length, mul-le-mul, length-append, to_z}
-use Rattle.std.proofs.Common.{of_z}
-use Rattle.std.specs.Prelude.{◌≤ℤ◌, ◌-ℤ◌, unsigned_abs, if◌then◌else◌, All, FitsSigned}
-use Rattle.std.specs.Int.{w64, w128}
-use Rattle.std.proofs.lemmas.Int.{ints, to_z-of_z, to_z_pos, fits_signed_from_abs}
-use Rattle.std.proofs.lemmas.List.Elements.{All-head, All-tail}
-use Rattle.whole_numbers.specs.Affine.{Affine, sum_of_forms, multiple_of_form}
-use Rattle.whole_numbers.specs.Lists.{zeros, multiples}
-use Rattle.whole_numbers.proofs.Dot.{length-zeros, length-sums, length-multiples}
-use Rattle.whole_numbers.proofs.Sizes.{abs_at_most}
+use Rattle.scop_syntax.proofs.Common.{◌≡◌, ℕ, suc, ◌+◌, ◌-◌, ◌*◌, ◌^◌, ◌<◌, ◌≤◌, Bool, true, false, ℤ, pos, negsuc}
+use Rattle.scop_syntax.proofs.Common.{List, [], ◌∷◌, ◌++◌, refl, sym, ◌∙◌, ap, subst, arith, length, mul-le-mul}
+use Rattle.scop_syntax.proofs.Common.{length-append, to_z, of_z, ◌≤ℤ◌, ◌-ℤ◌, unsigned_abs, if◌then◌else◌, All}
+use Rattle.scop_syntax.proofs.Common.{FitsSigned, w64, w128, ints, to_z-of_z, fits_signed_from_abs, All-head, All-tail}
+use Rattle.scop_syntax.proofs.Common.{Affine, sum_of_forms, multiple_of_form, zeros, multiples, length-zeros}
+use Rattle.scop_syntax.proofs.Common.{length-sums, length-multiples, abs_at_most}
+use Rattle.std.proofs.lemmas.Int.{to_z_pos}
 use Rattle.affine_forms.specs.Parts.{variables_of}
 use Rattle.iteration_domains.specs.Sizes.{size, form_size}
 use Rattle.iteration_domains.specs.Rows.{variable}

@@ -1,21 +1,15 @@
 -- Each access of a well-formed statement names an array.
-use Rattle.std.proofs.Common.{◌≡◌, ◌∙◌, ◌+◌, ◌<◌, inl, inr, ℕ, zero, suc, ℤ, Bool, true, false, List, [], ◌∷◌, length, map}
-use Rattle.std.proofs.Common.{Some, drop, refl, subst, sym, arith}
-use Rattle.std.specs.Prelude.{slice_get}
-use Rattle.std.proofs.lemmas.List.{length-map}
+use Rattle.scop_syntax.proofs.Common.{◌≡◌, ◌∙◌, ◌+◌, ◌<◌, inl, inr, ℕ, zero, suc, ℤ, Bool, true, false, List, [], ◌∷◌}
+use Rattle.scop_syntax.proofs.Common.{length, map, Some, drop, refl, subst, sym, arith, slice_get, length-map, accesses}
+use Rattle.scop_syntax.proofs.Common.{reads, reads_of, reads_with, values, layout, size_of, IsExpression, IsKernel}
+use Rattle.scop_syntax.proofs.Common.{IsPlaced, IsRight, IsStatement, ranks_of, WithinLimits, In, Placed, loops_in}
+use Rattle.scop_syntax.proofs.Common.{statements_of, Access, Expression, read, affine, negated, complemented, cast}
+use Rattle.scop_syntax.proofs.Common.{binary, shifted_left, shifted_right, narrowed, Right, assigned, combined}
+use Rattle.scop_syntax.proofs.Common.{moved_left, moved_right, combined_narrow, moved_left_narrow, Declaration, Program}
+use Rattle.scop_syntax.proofs.Common.{Statement, in_append, in_from_place, in_map_from, Standing, heads_in, standing}
+use Rattle.scop_syntax.proofs.Common.{standings_of, as_many_heads}
 use Rattle.scop_meaning.specs.Instances.{AreLayout}
-use Rattle.scop_syntax.specs.Cells.{accesses, reads, reads_of, reads_with, values}
-use Rattle.scop_syntax.specs.Execution.{layout, size_of}
-use Rattle.scop_syntax.specs.Kernel.{IsExpression, IsKernel, IsPlaced, IsRight, IsStatement, ranks_of}
-use Rattle.scop_syntax.specs.Limits.{WithinLimits}
-use Rattle.scop_syntax.specs.Members.{In}
-use Rattle.scop_syntax.specs.Statements.{Placed, loops_in, statements_of}
-use Rattle.scop_syntax.specs.Tree.{Access, Expression, read, constant, affine, negated, complemented, cast, binary}
-use Rattle.scop_syntax.specs.Tree.{shifted_left, shifted_right, narrowed, Right, assigned, combined, moved_left}
-use Rattle.scop_syntax.specs.Tree.{moved_right, combined_narrow, moved_left_narrow, Declaration, Program, Statement}
-use Rattle.scop_syntax.proofs.Members.{in_append, in_from_place, in_map_from}
-use Rattle.scop_syntax.specs.Standings.{Standing, heads_in, standing, standings_of}
-use Rattle.scop_syntax.proofs.Heads.{as_many_heads}
+use Rattle.scop_syntax.specs.Tree.{constant}
 use Rattle.tile_table.specs.Tables.{touched}
 use Rattle.tile_table.specs.steps.Forms.{CanForm}
 

@@ -1,9 +1,7 @@
 -- Straight-line code: what its steps make depends on the leaves and slots that they name alone.
-use Rattle.std.proofs.Common.{◌≡◌, ◌∙◌, ap, ap₂, refl, subst, ℕ, suc, ◌+◌, ◌-◌, ◌*◌, ◌/◌, ◌%◌, ◌^◌, ◌<◌, ◌≤◌}
-use Rattle.std.proofs.Common.{List, [], ◌∷◌, ◌++◌, length, get_or, arith}
-use Rattle.std.proofs.lemmas.List.{get_or_append_left, length_push}
-use Rattle.scop_syntax.specs.Values.{applied}
-use Rattle.scop_syntax.specs.View.{operator_of}
+use Rattle.scop_syntax.proofs.Common.{◌≡◌, ◌∙◌, ap, ap₂, refl, subst, ℕ, suc, ◌+◌, ◌-◌, ◌*◌, ◌/◌, ◌%◌, ◌^◌, ◌<◌, ◌≤◌}
+use Rattle.scop_syntax.proofs.Common.{List, [], ◌∷◌, ◌++◌, length, get_or, arith, get_or_append_left, length_push}
+use Rattle.scop_syntax.proofs.Common.{applied, operator_of}
 use Rattle.tile_table.specs.Codes.{AreSteps, IsStep, made, worked}
 use Rattle.tile_table.specs.declared.code.Step.{Step}
 use Rattle.tile_table.specs.declared.code.Step.TheVariants.{Constant, Affine, Negated, Complemented, Binary}

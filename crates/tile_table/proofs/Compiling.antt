@@ -1,17 +1,13 @@
 -- A code that grows step by step: slots keep their values, and each kind of node makes its value of those of its parts.
-use Rattle.std.proofs.Common.{◌≡◌, ◌∙◌, ap, ap₂, refl, sym, subst, ℕ, suc, ◌+◌, ◌<◌, ◌≤◌}
-use Rattle.std.proofs.Common.{ℤ, List, [], ◌∷◌, ◌++◌, length, map, drop, get_or, arith, length-append}
-use Rattle.std.proofs.lemmas.List.{get_or-drop, get_or_append_left, get_or_push, length-map, length_push}
-use Rattle.std.proofs.lemmas.List.{map-append}
-use Rattle.std.proofs.lemmas.Result.{IfOk-weaker}
-use Rattle.std.specs.Prelude.{IfOk, Result}
-use Rattle.whole_numbers.specs.Affine.{Affine, value_of}
-use Rattle.scop_syntax.specs.Cells.{reads_of, reads_with}
-use Rattle.scop_syntax.specs.Tree.{Access, Expression, Head, read, constant, affine}
-use Rattle.scop_syntax.specs.Tree.{binary, Right, combined}
+use Rattle.scop_syntax.proofs.Common.{◌≡◌, ◌∙◌, ap, ap₂, refl, sym, subst, ℕ, suc, ◌+◌, ◌<◌, ◌≤◌, ℤ, List, [], ◌∷◌}
+use Rattle.scop_syntax.proofs.Common.{◌++◌, length, map, drop, get_or, arith, length-append, get_or-drop}
+use Rattle.scop_syntax.proofs.Common.{get_or_append_left, length-map, length_push, map-append, IfOk-weaker, IfOk}
+use Rattle.scop_syntax.proofs.Common.{Result, Affine, value_of, reads_of, reads_with, Access, Expression, Head, read}
+use Rattle.scop_syntax.proofs.Common.{affine, binary, Right, combined, applied, stored_by, value_on, wrapped}
+use Rattle.scop_syntax.proofs.Common.{operator_of}
+use Rattle.std.proofs.lemmas.List.{get_or_push}
+use Rattle.scop_syntax.specs.Tree.{constant}
 use Rattle.scop_meaning.proofs.Chains.{chained_value}
-use Rattle.scop_syntax.specs.Values.{applied, stored_by, value_on, wrapped}
-use Rattle.scop_syntax.specs.View.{operator_of}
 use Rattle.scop_syntax.specs.declared.tree.Operator.{Operator as CodeOperator}
 use Rattle.tile_table.specs.Codes.{AreSteps, IsStep, leaves_at, made, worked}
 use Rattle.tile_table.specs.Points.{point_in}

@@ -1,17 +1,11 @@
 -- What numbers that are the same modulo 2^64 have in common.
-use Rattle.std.proofs.Common.{◌≡◌, ◌∙◌, ap, sym, refl, ℕ, suc, ◌<◌, ◌≤◌, List, [], ◌∷◌, ◌++◌, length, drop, get_or}
-use Rattle.std.proofs.Common.{arith}
-use Rattle.std.specs.Prelude.{ℤ, pos, ◌+ℤ◌, ◌*ℤ◌}
-use Rattle.std.specs.Int.{cast_unsigned, int_wrap, w64}
-use Rattle.std.proofs.lemmas.Int.{int_wrap-add_same, int_wrap-add_right, int_wrap-mul_right, int_wrap_fits, ints}
+use Rattle.scop_syntax.proofs.Common.{◌≡◌, ◌∙◌, ap, sym, refl, ℕ, suc, ◌<◌, ◌≤◌, List, [], ◌∷◌, ◌++◌, length, drop}
+use Rattle.scop_syntax.proofs.Common.{get_or, arith, ℤ, pos, ◌+ℤ◌, ◌*ℤ◌, cast_unsigned, w64, int_wrap-add_right}
+use Rattle.scop_syntax.proofs.Common.{int_wrap_fits, ints, Affine, value_of, dot, dot-nil, dot_comm, mul_zero_right}
+use Rattle.scop_syntax.proofs.Common.{values, wrapped, wrapped_is}
+use Rattle.std.specs.Int.{int_wrap}
+use Rattle.std.proofs.lemmas.Int.{int_wrap-add_same, int_wrap-mul_right}
 use Rattle.std.proofs.lemmas.Int.{SFits-int_wrap}
-use Rattle.whole_numbers.specs.Affine.{Affine, value_of}
-use Rattle.whole_numbers.specs.Lists.{dot}
-use Rattle.whole_numbers.proofs.Dot.{dot-nil, dot_comm}
-use Rattle.whole_numbers.proofs.Ring.{mul_zero_right}
-use Rattle.scop_syntax.specs.Cells.{values}
-use Rattle.scop_syntax.specs.Values.{wrapped}
-use Rattle.scop_syntax.proofs.WrappedSums.{wrapped_is}
 use Rattle.tile_table.specs.Numbers.{row_major}
 use Rattle.tile_table.specs.steps.Same.{AreSame, IsSame}
 

@@ -1,5 +1,5 @@
 -- Room on desks.
-use Rattle.std.proofs.Common.{◌∙◌, arith}
+use Rattle.scop_syntax.proofs.Common.{◌∙◌, arith}
 use Rattle.tile_table.specs.Desks.{HasRoom, HasRoomForAll, HasSameRoom}
 use Rattle.tile_table.specs.declared.desk.Desk.{Desk}
 use Rattle.tile_table.specs.declared.table.Row.{Row}

@@ -1,8 +1,6 @@
 -- Joins of three values read, and the lanes of a row side by side.
-use Rattle.std.proofs.Common.{◌≡◌, ◌∙◌, ◌<◌, ◌≤◌, ap₂, arith, get_or, length, refl, subst, sym, ℕ, zero, suc, ℤ, List, [], ◌∷◌}
-use Rattle.std.proofs.Common.{Some}
-use Rattle.std.specs.Prelude.{slice_get}
-use Rattle.whole_numbers.specs.Affine.{Affine}
+use Rattle.scop_syntax.proofs.Common.{◌≡◌, ◌∙◌, ◌<◌, ◌≤◌, ap₂, arith, get_or, length, refl, subst, sym, ℕ, zero, suc, ℤ}
+use Rattle.scop_syntax.proofs.Common.{List, [], ◌∷◌, Some, slice_get, Affine}
 use Rattle.tile_table.specs.Lanes.{AreLanes, IsLane}
 use Rattle.tile_table.specs.declared.lane.Lane.{Lane}
 

@@ -1,15 +1,12 @@
 -- Values of forms along turns that go on by equal steps, as numbers below 2^64.
-use Rattle.std.proofs.Common.{◌≡◌, ◌∙◌, ap, ap₂, subst, sym, refl, ℕ, suc, ◌+◌, ◌<◌, ◌≤◌, ◌%◌, ◌^◌, List}
-use Rattle.std.proofs.Common.{length, arith, inl, inr, Some, set, zero, ◌⊎◌, ◌≢◌, [], ◌∷◌}
-use Rattle.std.specs.Prelude.{ℤ, pos, negsuc, neg_ℤ, ◌+ℤ◌, ◌-ℤ◌, slice_get, map, take}
-use Rattle.std.specs.Int.{cast_signed, cast_unsigned, int_wrap, w64}
-use Rattle.std.proofs.lemmas.Int.{int_wrap-add_left, int_wrap-add_right, ints, of_z-to_z, to_z-of_z, wrapping_add-bits}
+use Rattle.scop_syntax.proofs.Common.{◌≡◌, ◌∙◌, ap, ap₂, subst, sym, refl, ℕ, suc, ◌+◌, ◌<◌, ◌≤◌, ◌%◌, ◌^◌, List}
+use Rattle.scop_syntax.proofs.Common.{length, arith, inl, inr, Some, set, zero, ◌⊎◌, ◌≢◌, [], ◌∷◌, ℤ, pos, negsuc}
+use Rattle.scop_syntax.proofs.Common.{neg_ℤ, ◌+ℤ◌, ◌-ℤ◌, slice_get, map, take, cast_signed, cast_unsigned, w64}
+use Rattle.scop_syntax.proofs.Common.{int_wrap-add_left, int_wrap-add_right, ints, to_z-of_z, Affine, value_of, dot}
+use Rattle.scop_syntax.proofs.Common.{sums, dot-sums, dot_comm, wrapped, wrapped_is}
+use Rattle.std.specs.Int.{int_wrap}
+use Rattle.std.proofs.lemmas.Int.{of_z-to_z, wrapping_add-bits}
 use Rattle.std.proofs.lemmas.Int.{SFits-int_wrap}
-use Rattle.whole_numbers.specs.Affine.{Affine, value_of}
-use Rattle.whole_numbers.specs.Lists.{dot, sums}
-use Rattle.whole_numbers.proofs.Dot.{dot-sums, dot_comm}
-use Rattle.scop_syntax.specs.Values.{wrapped}
-use Rattle.scop_syntax.proofs.WrappedSums.{wrapped_is}
 use Rattle.tile_table.specs.Lanes.{AreLanes, IsLane}
 use Rattle.tile_table.specs.declared.lane.Lane.{Lane}
 

@@ -1,18 +1,10 @@
 -- A point within loops, and the number of an access's cell there, as forms of the turns.
-use Rattle.std.proofs.Common.{◌≡◌, ◌∙◌, ap, ap₂, sym, refl, ℕ, suc, ◌+◌, ◌-◌, ◌<◌, ◌≤◌, List, [], ◌∷◌, ◌++◌, length}
-use Rattle.std.proofs.Common.{map}
-use Rattle.std.proofs.Common.{drop, get_or, set, arith, drop-cons, length-append}
-use Rattle.std.specs.Prelude.{ℤ, pos, ◌+ℤ◌, ◌*ℤ◌, slice_index_or, take}
-use Rattle.std.proofs.lemmas.Int.{ints}
-use Rattle.std.proofs.lemmas.List.{map-append, length-set}
-use Rattle.whole_numbers.specs.Affine.{Affine, composed, form_of, multiple_of_form, sum_of_forms, value_of, values_of}
-use Rattle.whole_numbers.specs.Lists.{dot, zeros}
-use Rattle.whole_numbers.proofs.Dot.{dot_comm, dot-padded, dot-unit, dot-zeros, length-zeros}
-use Rattle.whole_numbers.proofs.Values.{value_of-composed, value_of-multiple, value_of-sum}
-use Rattle.scop_syntax.specs.Cells.{values}
-use Rattle.scop_syntax.specs.Execution.{total_cells}
-use Rattle.scop_syntax.specs.Tree.{Access, Head}
-use Rattle.scop_syntax.specs.Walk.{turn_point}
+use Rattle.scop_syntax.proofs.Common.{◌≡◌, ◌∙◌, ap, ap₂, sym, refl, ℕ, suc, ◌+◌, ◌-◌, ◌<◌, ◌≤◌, List, [], ◌∷◌, ◌++◌}
+use Rattle.scop_syntax.proofs.Common.{length, map, drop, get_or, set, arith, drop-cons, length-append, ℤ, pos, ◌+ℤ◌}
+use Rattle.scop_syntax.proofs.Common.{◌*ℤ◌, slice_index_or, take, ints, map-append, length-set, Affine, composed}
+use Rattle.scop_syntax.proofs.Common.{form_of, multiple_of_form, sum_of_forms, value_of, values_of, dot, zeros}
+use Rattle.scop_syntax.proofs.Common.{dot_comm, dot-padded, dot-unit, dot-zeros, length-zeros, value_of-composed}
+use Rattle.scop_syntax.proofs.Common.{value_of-multiple, value_of-sum, values, total_cells, Access, Head, turn_point}
 use Rattle.tile_table.specs.Numbers.{number_at, row_major}
 use Rattle.tile_table.specs.Points.{point_in}
 use Rattle.tile_table.specs.steps.Forms.{constants, number_form, offset_form, point_forms, turn_form}

@@ -1,12 +1,8 @@
 -- Points within loops: the scopes round a statement, the turns that count, and numbers modulo 2^64.
-use Rattle.std.proofs.Common.{◌≡◌, ◌∙◌, ap, refl, subst, ℕ, ◌+◌, ◌≤◌, List, [], ◌∷◌, ◌++◌, drop, length, arith}
-use Rattle.std.specs.Prelude.{ℤ, ◌+ℤ◌, ◌*ℤ◌}
-use Rattle.std.specs.Int.{int_wrap, w64}
-use Rattle.whole_numbers.specs.Affine.{value_of}
-use Rattle.scop_syntax.specs.Statements.{Scope, point_of, round, under}
-use Rattle.scop_syntax.specs.Tree.{Head}
-use Rattle.scop_syntax.specs.Walk.{turn_point}
-use Rattle.scop_syntax.specs.Standings.{heads_in}
+use Rattle.scop_syntax.proofs.Common.{◌≡◌, ◌∙◌, ap, refl, subst, ℕ, ◌+◌, ◌≤◌, List, [], ◌∷◌, ◌++◌, drop, length, arith}
+use Rattle.scop_syntax.proofs.Common.{ℤ, ◌+ℤ◌, ◌*ℤ◌, w64, value_of, Scope, point_of, round, under, Head, turn_point}
+use Rattle.scop_syntax.proofs.Common.{heads_in}
+use Rattle.std.specs.Int.{int_wrap}
 use Rattle.tile_table.specs.Points.{point_in}
 use Rattle.tile_table.specs.steps.Same.{AreSame}
 use Rattle.tile_table.proofs.Congruences.{lists_same, pushed_same, same_chain, same_wrapped, sum_same, value_same}

@@ -1,11 +1,8 @@
 -- The number of an access's cell: modulo 2^64, and exactly where it lies in its array.
-use Rattle.std.proofs.Common.{◌≡◌, ◌∙◌, ap, refl, subst, ℕ, zero, suc, ◌+◌, ◌*◌, ◌≤◌, List, [], ◌∷◌, drop, length}
-use Rattle.std.proofs.Common.{min, arith}
-use Rattle.std.specs.Prelude.{ℤ, pos, negsuc, ◌+ℤ◌, ◌*ℤ◌, ◌≤ℤ◌, slice_index_or, take}
-use Rattle.std.proofs.lemmas.Int.{ints}
-use Rattle.scop_syntax.specs.Cells.{cell_of, values}
-use Rattle.scop_syntax.specs.Execution.{AreWithin, IsCell, cell_number, offset_from, size_of, total_cells}
-use Rattle.scop_syntax.specs.Tree.{Access}
+use Rattle.scop_syntax.proofs.Common.{◌≡◌, ◌∙◌, ap, refl, subst, ℕ, zero, suc, ◌+◌, ◌*◌, ◌≤◌, List, [], ◌∷◌, drop}
+use Rattle.scop_syntax.proofs.Common.{length, min, arith, ℤ, pos, negsuc, ◌+ℤ◌, ◌*ℤ◌, ◌≤ℤ◌, slice_index_or, take, ints}
+use Rattle.scop_syntax.proofs.Common.{cell_of, values, AreWithin, IsCell, cell_number, offset_from, size_of}
+use Rattle.scop_syntax.proofs.Common.{total_cells, Access}
 use Rattle.tile_table.specs.Numbers.{number_at, row_major}
 use Rattle.tile_table.specs.steps.Same.{AreSame, IsSame}
 use Rattle.tile_table.proofs.Congruences.{lists_same, offset_same, sum_same, values_same}

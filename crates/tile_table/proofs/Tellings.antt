@@ -1,18 +1,13 @@
 -- A form that was made of the numbers at no turns and at one turn of each loop tells the number at all turns; in a
 -- single row it tells the value of another form.
-use Rattle.std.proofs.Common.{◌≡◌, ◌∙◌, ap, sym, ℕ, zero, suc, ◌+◌, ◌<◌, ◌≤◌, ◌^◌, List, [], ◌∷◌, ◌++◌, length}
-use Rattle.std.proofs.Common.{get_or, set}
-use Rattle.std.proofs.Common.{All, arith}
-use Rattle.std.specs.Prelude.{ℤ, pos, neg_ℤ, ◌+ℤ◌, ◌-ℤ◌, ◌*ℤ◌}
-use Rattle.std.specs.Int.{int_wrap, w64}
-use Rattle.std.proofs.lemmas.Int.{int_wrap-add_left, int_wrap-sub_right, ints}
-use Rattle.std.proofs.lemmas.List.{get_or_append_left, get_or_push}
-use Rattle.whole_numbers.specs.Affine.{Affine, value_of}
-use Rattle.whole_numbers.specs.Lists.{zeros}
+use Rattle.scop_syntax.proofs.Common.{◌≡◌, ◌∙◌, ap, sym, ℕ, zero, suc, ◌+◌, ◌<◌, ◌≤◌, ◌^◌, List, [], ◌∷◌, ◌++◌, length}
+use Rattle.scop_syntax.proofs.Common.{get_or, set, All, arith, ℤ, pos, neg_ℤ, ◌+ℤ◌, ◌-ℤ◌, ◌*ℤ◌, w64, int_wrap-add_left}
+use Rattle.scop_syntax.proofs.Common.{ints, get_or_append_left, Affine, value_of, zeros, Access, Head, wrapped}
+use Rattle.scop_syntax.proofs.Common.{nat_cases}
+use Rattle.std.specs.Int.{int_wrap}
+use Rattle.std.proofs.lemmas.Int.{int_wrap-sub_right}
+use Rattle.std.proofs.lemmas.List.{get_or_push}
 use Rattle.scop_meaning.specs.Instances.{AreLayout}
-use Rattle.scop_syntax.specs.Tree.{Access, Head}
-use Rattle.scop_syntax.specs.Values.{wrapped}
-use Rattle.scop_syntax.proofs.Members.{nat_cases}
 use Rattle.tile_table.specs.Numbers.{number_at}
 use Rattle.tile_table.specs.Points.{point_in}
 use Rattle.tile_table.specs.Tables.{Tells}

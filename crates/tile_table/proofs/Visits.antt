@@ -1,22 +1,11 @@
 -- The row of a visit's statement, and what it tells at the visit.
-use Rattle.std.proofs.Common.{◌≡◌, ◌∙◌, ap, sym, ℕ, ◌<◌, ◌^◌, ◌%◌, List, [], length}
-use Rattle.std.proofs.Common.{Some, arith}
-use Rattle.std.specs.Prelude.{ℤ, slice_get}
-use Rattle.std.specs.Option.{option_map}
-use Rattle.std.proofs.lemmas.Option.{slice_get-map, slice_get_within}
-use Rattle.whole_numbers.specs.Affine.{Affine, value_of}
-use Rattle.scop_syntax.specs.Cells.{accesses, cell_of}
-use Rattle.scop_syntax.specs.Execution.{IsCell, cell_number, layout}
-use Rattle.scop_syntax.specs.Members.{In}
-use Rattle.scop_syntax.specs.Reductions.{is_marked, loads}
-use Rattle.scop_syntax.specs.Statements.{Placed, Runs, Scope, loops_in, statements_of, visit_of}
-use Rattle.scop_syntax.specs.Tree.{Access, Program, Statement}
-use Rattle.scop_syntax.specs.Values.{wrapped}
-use Rattle.scop_syntax.specs.Walk.{Instance, Visit, walk_of}
-use Rattle.scop_syntax.proofs.Members.{place_of, there_is}
+use Rattle.scop_syntax.proofs.Common.{◌≡◌, ◌∙◌, ap, sym, ℕ, ◌<◌, ◌^◌, ◌%◌, List, [], length, Some, arith, ℤ, slice_get}
+use Rattle.scop_syntax.proofs.Common.{option_map, slice_get-map, slice_get_within, Affine, value_of, accesses, cell_of}
+use Rattle.scop_syntax.proofs.Common.{IsCell, cell_number, layout, In, is_marked, loads, Placed, Runs, Scope, loops_in}
+use Rattle.scop_syntax.proofs.Common.{statements_of, visit_of, Access, Program, Statement, wrapped, Instance, Visit}
+use Rattle.scop_syntax.proofs.Common.{walk_of, place_of, there_is, Standing, heads_in, standing, standings_of}
+use Rattle.scop_syntax.proofs.Common.{as_many_heads}
 use Rattle.scop_meaning.specs.Instances.{IsVisitOf}
-use Rattle.scop_syntax.specs.Standings.{Standing, heads_in, standing, standings_of}
-use Rattle.scop_syntax.proofs.Heads.{as_many_heads}
 use Rattle.tile_table.specs.Codes.{given_by, value_by}
 use Rattle.tile_table.specs.Numbers.{number_at}
 use Rattle.tile_table.specs.Points.{point_in}

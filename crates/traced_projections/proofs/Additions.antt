@@ -1,8 +1,8 @@
 -- Rows that the eliminations from sources add, sources one behind another.
-use Rattle.std.proofs.Common.{◌≡◌, ◌∙◌, ℕ, ◌+◌, ◌<◌, ◌≤◌, List, [], ◌∷◌, ◌++◌, length, get_or, drop, drop-cons, add-one}
-use Rattle.std.proofs.Common.{inl, inr, refl, sym, ap, subst, Bool, true, false, drop_of_length-le}
-use Rattle.std.specs.Prelude.{Result, Ok, Err, if◌then◌else◌, nat_le, count_ones}
-use Rattle.std.proofs.lemmas.List.Elements.{All-append, All-head, All-nil, All-tail}
+use Rattle.whole_numbers.proofs.Common.{◌≡◌, ◌∙◌, ℕ, ◌+◌, ◌<◌, ◌≤◌, List, [], ◌∷◌, ◌++◌, length, get_or, drop}
+use Rattle.whole_numbers.proofs.Common.{drop-cons, add-one, inl, inr, refl, sym, ap, subst, Bool, true, false}
+use Rattle.whole_numbers.proofs.Common.{drop_of_length-le, Result, Ok, Err, if◌then◌else◌, nat_le, count_ones}
+use Rattle.whole_numbers.proofs.Common.{All-append, All-head, All-nil, All-tail}
 use Rattle.fm_projection.specs.declared.stop.FmStop.{FmStop}
 use Rattle.fm_projection.specs.declared.stop.FmStop.TheVariants as fm
 use Rattle.fm_projection.specs.Projecting.{Passes, gone}

@@ -1,10 +1,8 @@
 -- What holds of the constraints of a system holds of the sources of an elimination and of what that leaves.
-use Rattle.std.proofs.Common.{◌≡◌, ℕ, suc, ◌+◌, ◌<◌, Bool, true, false, ℤ, pos, ◌≤ℤ◌, List, [], ◌∷◌, ◌++◌, All}
-use Rattle.std.proofs.Common.{◌∙◌, ◌-◌, ◌≤◌, ap, subst, get_or, refl, set, arith}
-use Rattle.std.specs.Prelude.{◌-ℤ◌, if◌then◌else◌, map, nat_le, Option, Some, None, IfSome, Ok, count_ones}
-use Rattle.std.proofs.lemmas.List.Elements.{All-append, All-cons, All-filter, All-head, All-map, All-nil, All-set}
-use Rattle.std.proofs.lemmas.List.Elements.{All-tail}
-use Rattle.whole_numbers.specs.Affine.{Affine, value_of}
+use Rattle.whole_numbers.proofs.Common.{◌≡◌, ℕ, suc, ◌+◌, ◌<◌, Bool, true, false, ℤ, pos, ◌≤ℤ◌, List, [], ◌∷◌, ◌++◌}
+use Rattle.whole_numbers.proofs.Common.{All, ◌∙◌, ◌-◌, ◌≤◌, ap, subst, get_or, refl, set, arith, ◌-ℤ◌, if◌then◌else◌}
+use Rattle.whole_numbers.proofs.Common.{map, nat_le, Option, Some, None, IfSome, Ok, count_ones, All-append, All-cons}
+use Rattle.whole_numbers.proofs.Common.{All-filter, All-head, All-map, All-nil, All-set, All-tail, Affine, value_of}
 use Rattle.affine_forms.specs.Parts.{variables_of}
 use Rattle.fractions.specs.Elimination.{coefficient_of, is_negative, is_zero}
 use Rattle.integer_sets.specs.Constraints.{Constraints, IsSized}

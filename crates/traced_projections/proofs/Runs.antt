@@ -1,14 +1,9 @@
 -- Eliminations one after another, and the points that they follow.
-use Rattle.std.proofs.Common.{◌≡◌, ◌∙◌, ℕ, zero, suc, ◌+◌, ◌-◌, ◌*◌, ◌≤◌, ℤ, pos, ◌≤ℤ◌, List, [], ◌∷◌, ◌++◌, length}
-use Rattle.std.proofs.Common.{All}
-use Rattle.std.proofs.Common.{get_or, inl, inr, refl, sym, ap, subst, arith, length-append}
-use Rattle.std.specs.Prelude.{negsuc, Result, Ok, Err, IfOk}
-use Rattle.std.proofs.lemmas.Int.{ints}
-use Rattle.std.proofs.lemmas.List.{map-append}
-use Rattle.std.proofs.lemmas.List.Elements.{All-append, All-cons, All-head, All-map, All-nil, All-tail}
-use Rattle.std.proofs.Math.Seq.{get_or-append_seam}
-use Rattle.whole_numbers.specs.Affine.{Affine, value_of}
-use Rattle.whole_numbers.proofs.Ring.{mul_one_left, mul_neg_left}
+use Rattle.whole_numbers.proofs.Common.{◌≡◌, ◌∙◌, ℕ, zero, suc, ◌+◌, ◌-◌, ◌*◌, ◌≤◌, ℤ, pos, ◌≤ℤ◌, List, [], ◌∷◌, ◌++◌}
+use Rattle.whole_numbers.proofs.Common.{length, All, get_or, inl, inr, refl, sym, ap, subst, arith, length-append}
+use Rattle.whole_numbers.proofs.Common.{negsuc, Result, Ok, Err, IfOk, ints, map-append, All-append, All-cons, All-head}
+use Rattle.whole_numbers.proofs.Common.{All-map, All-nil, All-tail, get_or-append_seam, Affine, value_of, mul_one_left}
+use Rattle.whole_numbers.proofs.Common.{mul_neg_left}
 use Rattle.affine_forms.specs.Parts.{variables_of}
 use Rattle.integer_sets.specs.Constraints.{Constraints, IsSized, system_of, variables_in}
 use Rattle.integer_sets.specs.Points.{Satisfies}

@@ -1,15 +1,10 @@
 -- A walk over values block by block, so many values at once, but for those outside of a range.
-use Rattle.std.proofs.Common.{◌≡◌, ℕ, zero, suc, ◌+◌, ◌*◌, ◌<◌, Bool, true, false, ℤ, pos, negsuc, List, [], ◌++◌}
-use Rattle.std.proofs.Common.{ap, ap₂, subst, sym, ◌∙◌, refl, arith, inl, inr, map}
-use Rattle.std.specs.Prelude.{◌⊎◌, ◌+ℤ◌, ◌-ℤ◌, ◌*ℤ◌, ◌≤ℤ◌, ◌<ℤ◌, if◌then◌else◌}
-use Rattle.std.specs.Int.Signed.{le_z}
-use Rattle.std.proofs.lemmas.Int.{ints}
-use Rattle.std.proofs.lemmas.List.{append_assoc, append-nil, map-append}
+use Rattle.scop_syntax.proofs.Common.{◌≡◌, ℕ, zero, suc, ◌+◌, ◌*◌, ◌<◌, Bool, true, false, ℤ, pos, negsuc, List, []}
+use Rattle.scop_syntax.proofs.Common.{◌++◌, ap, ap₂, subst, sym, ◌∙◌, refl, arith, inl, inr, map, ◌⊎◌, ◌+ℤ◌, ◌-ℤ◌, ◌*ℤ◌}
+use Rattle.scop_syntax.proofs.Common.{◌≤ℤ◌, ◌<ℤ◌, if◌then◌else◌, le_z, ints, map-append, le_or_lt, mul_comm_int}
+use Rattle.scop_syntax.proofs.Common.{mul_distrib_left, mul_one_right, mul_sub_left, most_turns, holds_le_z, le_z_holds}
+use Rattle.std.proofs.lemmas.List.{append_assoc, append-nil}
 use Rattle.std.proofs.Math.IntN.{pos-*ℤ-pos}
-use Rattle.whole_numbers.proofs.Order.{le_or_lt}
-use Rattle.whole_numbers.proofs.Ring.{mul_comm_int, mul_distrib_left, mul_one_right, mul_sub_left}
-use Rattle.scop_syntax.specs.Walk.{most_turns}
-use Rattle.scop_syntax.proofs.Members.{holds_le_z, le_z_holds}
 use Rattle.loop_tree.specs.Walk.{along, between}
 use Rattle.loop_tree.proofs.Lists.{between_none}
 use Rattle.tree_simplification.specs.steps.Strided.{lies, masked}

@@ -1,15 +1,10 @@
 -- Forms over the new loops and the parameters have the values of the old ones, and their numbers fit.
-use Rattle.std.proofs.Common.{◌≡◌, ℕ, suc, ◌+◌, ◌*◌, ◌^◌, ◌≤◌, Bool, true, false, ℤ, pos, List, [], ◌∷◌, ◌++◌}
-use Rattle.std.proofs.Common.{length, map, ap, ap₂, subst, sym, ◌∙◌, refl, arith, length-append, mul-le-mul}
-use Rattle.std.specs.Prelude.{All, ◌*ℤ◌, unsigned_abs, if◌then◌else◌}
-use Rattle.std.proofs.lemmas.List.{map-append}
-use Rattle.std.proofs.lemmas.List.Elements.{All-nil, All-cons, All-head, All-tail, All-append}
-use Rattle.whole_numbers.specs.Affine.{Affine, value_of, values_of, composed}
-use Rattle.whole_numbers.specs.Floor.{floor, ceiling}
-use Rattle.std.specs.Int.Signed.{le_z}
-use Rattle.whole_numbers.proofs.Values.{value_of-composed}
-use Rattle.scop_syntax.specs.Kernel.{AreAtMost}
-use Rattle.scop_syntax.proofs.Limits.{size, size-joined}
+use Rattle.scop_syntax.proofs.Common.{◌≡◌, ℕ, suc, ◌+◌, ◌*◌, ◌^◌, ◌≤◌, Bool, true, false, ℤ, pos, List, [], ◌∷◌, ◌++◌}
+use Rattle.scop_syntax.proofs.Common.{length, map, ap, ap₂, subst, sym, ◌∙◌, refl, arith, length-append, mul-le-mul}
+use Rattle.scop_syntax.proofs.Common.{All, ◌*ℤ◌, unsigned_abs, if◌then◌else◌, map-append, All-nil, All-cons, All-head}
+use Rattle.scop_syntax.proofs.Common.{All-tail, All-append, Affine, value_of, values_of, composed, floor, ceiling, le_z}
+use Rattle.scop_syntax.proofs.Common.{value_of-composed, AreAtMost, size}
+use Rattle.scop_syntax.proofs.Limits.{size-joined}
 use Rattle.iteration_domains.specs.Rows.{variables}
 use Rattle.iteration_domains.proofs.Surroundings.{length-composed, sized-variables}
 use Rattle.iteration_domains.proofs.RowLaws.{GoesOn, values-variables, goes_on_last}

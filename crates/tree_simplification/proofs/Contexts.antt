@@ -1,27 +1,18 @@
 -- Of which places contexts within loops and under tests speak; what an answer that there is no point means.
-use Rattle.std.proofs.Common.{◌≡◌, ℕ, suc, ◌+◌, ◌<◌, ◌≤◌, ℤ, pos, List, [], ◌∷◌, ◌++◌, length, map, get_or, All, inl}
-use Rattle.std.proofs.Common.{inr}
-use Rattle.std.proofs.Common.{ap, subst, sym, ◌∙◌, refl, arith, length-append}
-use Rattle.std.specs.Int.Signed.{le_z}
-use Rattle.std.specs.Prelude.{if◌then◌else◌, ◌↔◌, Bool, true, false, not, ◌-ℤ◌, ◌*ℤ◌, ◌≤ℤ◌, ◌<ℤ◌}
-use Rattle.std.proofs.lemmas.Int.{ints}
+use Rattle.scop_syntax.proofs.Common.{◌≡◌, ℕ, suc, ◌+◌, ◌<◌, ◌≤◌, ℤ, pos, List, [], ◌∷◌, ◌++◌, length, map, get_or, All}
+use Rattle.scop_syntax.proofs.Common.{inl, inr, ap, subst, sym, ◌∙◌, refl, arith, length-append, le_z, if◌then◌else◌}
+use Rattle.scop_syntax.proofs.Common.{◌↔◌, Bool, true, false, not, ◌-ℤ◌, ◌*ℤ◌, ◌≤ℤ◌, ◌<ℤ◌, ints, All-append, All-cons}
+use Rattle.scop_syntax.proofs.Common.{All-from_recursion, All-get_or, All-head, All-map, All-nil, All-tail, All-weaker}
+use Rattle.scop_syntax.proofs.Common.{Affine, value_of, widened, floor, ceiling, NotNegative, multiples}
+use Rattle.scop_syntax.proofs.Common.{length-multiples, ceiling_at_most, ceiling_is, floor_at_least, floor_is}
+use Rattle.scop_syntax.proofs.Common.{not_negative-append, not_negative_all, cancel_le, le_or_lt, mul_one_left}
+use Rattle.scop_syntax.proofs.Common.{mul_zero_left, length-widened, both, holds_le_z, le_z_holds}
 use Rattle.std.proofs.lemmas.List.Edits.{length-insert}
-use Rattle.std.proofs.lemmas.List.Elements.{All-append, All-cons, All-from_recursion, All-get_or, All-head, All-map}
-use Rattle.std.proofs.lemmas.List.Elements.{All-nil, All-tail, All-weaker}
-use Rattle.whole_numbers.specs.Affine.{Affine, value_of, widened}
-use Rattle.whole_numbers.specs.Floor.{floor, ceiling}
-use Rattle.whole_numbers.specs.Lists.{NotNegative, multiples}
-use Rattle.whole_numbers.proofs.Dot.{length-multiples}
-use Rattle.whole_numbers.proofs.Floors.{ceiling_at_most, ceiling_is, floor_at_least, floor_is}
-use Rattle.whole_numbers.proofs.Lists.{dot_not_negative, not_negative-append, not_negative_all}
-use Rattle.whole_numbers.proofs.Order.{cancel_le, le_or_lt}
-use Rattle.whole_numbers.proofs.Ring.{mul_one_left, mul_zero_left}
-use Rattle.whole_numbers.proofs.Values.{length-widened}
+use Rattle.whole_numbers.proofs.Lists.{dot_not_negative}
 use Rattle.affine_forms.specs.Parts.{variables_of}
 use Rattle.fm_projection.specs.Alone.{AreInRange}
 use Rattle.integer_sets.specs.Constraints.{system_of}
 use Rattle.pip_solver.specs.Emptiness.{IsBoundedPoint}
-use Rattle.scop_syntax.proofs.Members.{both, holds_le_z, le_z_holds}
 use Rattle.loop_tree.specs.Fits.{form_in}
 use Rattle.loop_tree.specs.Marks.{AreBounds}
 use Rattle.loop_tree.specs.Tree.{Bound, Bounds, only, besides, bounds_of, Test, at_least, equal, multiple}

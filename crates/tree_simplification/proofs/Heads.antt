@@ -1,17 +1,10 @@
 -- Bounds, tests and numbers, one by one.
-use Rattle.std.proofs.Common.{◌≡◌, ℕ, zero, suc, ◌+◌, ◌^◌, ◌<◌, ◌≤◌, Bool, true, false, ℤ, pos, List, [], ◌∷◌, ◌++◌}
-use Rattle.std.proofs.Common.{length, map, take, get_or, ap, subst, sym, ◌∙◌, refl, arith, inl, inr}
-use Rattle.std.specs.Prelude.{All, not, ◌*ℤ◌, ◌≤ℤ◌, unsigned_abs, if◌then◌else◌}
-use Rattle.std.specs.Int.Signed.{le_z}
-use Rattle.std.proofs.lemmas.Int.{ints}
-use Rattle.std.proofs.lemmas.List.{append_assoc, map-append, map_more}
-use Rattle.std.proofs.lemmas.List.Elements.{All-nil, All-cons, All-head, All-tail, All-push}
-use Rattle.whole_numbers.specs.Affine.{Affine, composed, value_of}
-use Rattle.whole_numbers.specs.Lists.{multiples}
-use Rattle.whole_numbers.proofs.Dot.{length-multiples, length-sums}
-use Rattle.whole_numbers.specs.Floor.{floor}
-use Rattle.scop_syntax.specs.Kernel.{AreAtMost}
-use Rattle.scop_syntax.proofs.Members.{le_z_holds}
+use Rattle.scop_syntax.proofs.Common.{◌≡◌, ℕ, zero, suc, ◌+◌, ◌^◌, ◌<◌, ◌≤◌, Bool, true, false, ℤ, pos, List, [], ◌∷◌}
+use Rattle.scop_syntax.proofs.Common.{◌++◌, length, map, take, get_or, ap, subst, sym, ◌∙◌, refl, arith, inl, inr, All}
+use Rattle.scop_syntax.proofs.Common.{not, ◌*ℤ◌, ◌≤ℤ◌, unsigned_abs, if◌then◌else◌, le_z, ints, map-append, All-nil}
+use Rattle.scop_syntax.proofs.Common.{All-cons, All-head, All-tail, All-push, Affine, composed, value_of, multiples}
+use Rattle.scop_syntax.proofs.Common.{length-multiples, length-sums, floor, AreAtMost, le_z_holds}
+use Rattle.std.proofs.lemmas.List.{append_assoc, map_more}
 use Rattle.iteration_domains.proofs.Surroundings.{length-composed}
 use Rattle.loop_tree.specs.Fits.{AreZeros, form_in}
 use Rattle.loop_tree.specs.Marks.{AreTests, IsTest}

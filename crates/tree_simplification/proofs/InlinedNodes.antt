@@ -1,19 +1,12 @@
 -- Old and new nodes, kind by kind, where loops that run once go.
-use Rattle.std.proofs.Common.{◌≡◌, ℕ, zero, suc, ◌+◌, ◌^◌, ◌≤◌, Bool, true, false, ℤ, pos, List, [], ◌∷◌, ◌++◌}
-use Rattle.std.proofs.Common.{length, map, ap, ap₂, subst, sym, ◌∙◌, refl, arith, length-append}
-use Rattle.std.specs.Int.Signed.{le_z}
-use Rattle.std.specs.Prelude.{All, ◌+ℤ◌, ◌-ℤ◌, ◌≤ℤ◌, if◌then◌else◌, neg_ℤ, unsigned_abs}
-use Rattle.std.proofs.lemmas.Int.{ints}
-use Rattle.std.proofs.lemmas.List.{map-append, append-nil, length-map}
-use Rattle.std.proofs.lemmas.List.Elements.{All-head, All-tail}
-use Rattle.whole_numbers.specs.Affine.{Affine, value_of, values_of, composed}
-use Rattle.whole_numbers.proofs.Sizes.{abs_at_most}
+use Rattle.scop_syntax.proofs.Common.{◌≡◌, ℕ, zero, suc, ◌+◌, ◌^◌, ◌≤◌, Bool, true, false, ℤ, pos, List, [], ◌∷◌, ◌++◌}
+use Rattle.scop_syntax.proofs.Common.{length, map, ap, ap₂, subst, sym, ◌∙◌, refl, arith, length-append, le_z, All}
+use Rattle.scop_syntax.proofs.Common.{◌+ℤ◌, ◌-ℤ◌, ◌≤ℤ◌, if◌then◌else◌, neg_ℤ, unsigned_abs, ints, map-append}
+use Rattle.scop_syntax.proofs.Common.{length-map, All-head, All-tail, Affine, value_of, values_of, composed}
+use Rattle.scop_syntax.proofs.Common.{abs_at_most, AreAtMost, In, Program, most_turns, Instance, both, holds_le_z}
+use Rattle.scop_syntax.proofs.Common.{in_map, in_map_from}
+use Rattle.std.proofs.lemmas.List.{append-nil}
 use Rattle.fm_projection.specs.Alone.{AreInRange}
-use Rattle.scop_syntax.specs.Kernel.{AreAtMost}
-use Rattle.scop_syntax.specs.Members.{In}
-use Rattle.scop_syntax.specs.Tree.{Program}
-use Rattle.scop_syntax.specs.Walk.{most_turns, Instance}
-use Rattle.scop_syntax.proofs.Members.{both, holds_le_z, in_map, in_map_from}
 use Rattle.loop_tree.specs.Fits.{FitsAll}
 use Rattle.loop_tree.specs.Marks.{AreBounds, AreTests, Flat, FlatAll}
 use Rattle.loop_tree.specs.Plans.{AreFree, Conflict}

@@ -1,12 +1,8 @@
 -- The forms of the old loops within a loop that stays: each with one loop more round it.
-use Rattle.std.proofs.Common.{◌≡◌, ℕ, ◌+◌, ℤ, pos, List, [], ◌∷◌, ◌++◌, length, map, get_or}
-use Rattle.std.proofs.Common.{ap, ap₂, subst, ◌∙◌, refl, arith}
-use Rattle.std.specs.Prelude.{All}
-use Rattle.std.proofs.Math.Seq.{get_or-append_seam}
-use Rattle.std.proofs.lemmas.List.{append_assoc, map-append}
-use Rattle.std.proofs.lemmas.List.Elements.{All-nil, All-cons, All-head, All-tail}
-use Rattle.whole_numbers.specs.Affine.{Affine, value_of, values_of, widened}
-use Rattle.whole_numbers.proofs.Values.{length-widened}
+use Rattle.scop_syntax.proofs.Common.{◌≡◌, ℕ, ◌+◌, ℤ, pos, List, [], ◌∷◌, ◌++◌, length, map, get_or, ap, ap₂, subst}
+use Rattle.scop_syntax.proofs.Common.{◌∙◌, refl, arith, All, get_or-append_seam, map-append, All-nil, All-cons}
+use Rattle.scop_syntax.proofs.Common.{All-head, All-tail, Affine, value_of, values_of, widened, length-widened}
+use Rattle.std.proofs.lemmas.List.{append_assoc}
 use Rattle.iteration_domains.specs.Rows.{variable}
 use Rattle.iteration_domains.proofs.RowLaws.{value_of-variable}
 use Rattle.loop_tree.specs.Shape.{IsOver}

@@ -1,8 +1,6 @@
 -- Trees and others behind them.
-use Rattle.std.proofs.Common.{◌≡◌, ℕ, List, [], ◌∷◌, ◌++◌, ℤ, ap, sym, ◌∙◌, refl}
+use Rattle.scop_syntax.proofs.Common.{◌≡◌, ℕ, List, [], ◌∷◌, ◌++◌, ℤ, ap, sym, ◌∙◌, refl, Program, Instance}
 use Rattle.std.proofs.lemmas.List.{append_assoc}
-use Rattle.scop_syntax.specs.Tree.{Program}
-use Rattle.scop_syntax.specs.Walk.{Instance}
 use Rattle.loop_tree.specs.Fits.{FitsAll}
 use Rattle.loop_tree.specs.Marks.{FlatAll}
 use Rattle.loop_tree.specs.Plans.{AreFree}

@@ -1,11 +1,7 @@
 -- Nodes of the code one by one, and what the code asks of their parts.
-use Rattle.std.proofs.Common.{◌≡◌, ℕ, zero, suc, ◌+◌, ◌-◌, ◌^◌, ◌<◌, ◌≤◌, Bool, true, false, List, [], ◌∷◌, ◌++◌}
-use Rattle.std.proofs.Common.{length, map, drop, get_or}
-use Rattle.std.proofs.Common.{ap, subst, sym, ◌∙◌, arith, length-append}
-use Rattle.std.specs.Prelude.{All}
-use Rattle.std.proofs.lemmas.List.{length-map}
-use Rattle.std.proofs.lemmas.List.Elements.{All-nil, All-push}
-use Rattle.whole_numbers.specs.Affine.{Affine, composed, widened}
+use Rattle.scop_syntax.proofs.Common.{◌≡◌, ℕ, zero, suc, ◌+◌, ◌-◌, ◌^◌, ◌<◌, ◌≤◌, Bool, true, false, List, [], ◌∷◌}
+use Rattle.scop_syntax.proofs.Common.{◌++◌, length, map, drop, get_or, ap, subst, sym, ◌∙◌, arith, length-append, All}
+use Rattle.scop_syntax.proofs.Common.{length-map, All-nil, All-push, Affine, composed, widened}
 use Rattle.iteration_domains.specs.Rows.{variables}
 use Rattle.iteration_domains.proofs.Surroundings.{length-variables}
 use Rattle.loop_tree.specs.Fits.{form_in}

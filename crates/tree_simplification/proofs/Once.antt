@@ -1,15 +1,9 @@
 -- Tests whether a form lies between bounds; one that bounds a loop from both sides.
-use Rattle.std.proofs.Common.{◌≡◌, ℕ, inl, inr, ℤ, pos, Bool, true, false, List, [], ◌∷◌, ◌++◌}
-use Rattle.std.proofs.Common.{ap, ap₂, subst, sym, ◌∙◌, refl, arith}
-use Rattle.std.specs.Int.Signed.{le_z}
-use Rattle.std.specs.Prelude.{All, not, ◌-ℤ◌, ◌*ℤ◌, ◌≤ℤ◌, if◌then◌else◌}
-use Rattle.std.proofs.lemmas.Int.{ints}
-use Rattle.std.proofs.lemmas.List.Elements.{All-cons, All-head, All-nil, All-tail}
-use Rattle.whole_numbers.specs.Affine.{Affine, multiple_of_form, value_of}
-use Rattle.whole_numbers.proofs.Ring.{mul_one_left, mul_one_right, mul_sub_left}
-use Rattle.whole_numbers.proofs.Values.{value_of-multiple, value_of-sum}
-use Rattle.scop_syntax.specs.Members.{In}
-use Rattle.scop_syntax.proofs.Members.{both, holds_le_z, le_z_holds}
+use Rattle.scop_syntax.proofs.Common.{◌≡◌, ℕ, inl, inr, ℤ, pos, Bool, true, false, List, [], ◌∷◌, ◌++◌, ap, ap₂, subst}
+use Rattle.scop_syntax.proofs.Common.{sym, ◌∙◌, refl, arith, le_z, All, not, ◌-ℤ◌, ◌*ℤ◌, ◌≤ℤ◌, if◌then◌else◌, ints}
+use Rattle.scop_syntax.proofs.Common.{All-cons, All-head, All-nil, All-tail, Affine, multiple_of_form, value_of}
+use Rattle.scop_syntax.proofs.Common.{mul_one_left, mul_one_right, mul_sub_left, value_of-multiple, value_of-sum, In}
+use Rattle.scop_syntax.proofs.Common.{both, holds_le_z, le_z_holds}
 use Rattle.loop_tree.specs.Marks.{AreBounds, AreTests}
 use Rattle.loop_tree.specs.Shape.{BoundsAreOver, IsOver}
 use Rattle.loop_tree.specs.Tree.{Bound, Bounds, Test, at_least, besides, only}

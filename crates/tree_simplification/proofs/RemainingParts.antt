@@ -1,11 +1,8 @@
 -- Some parts of bounds and some tests in place of all: step by step.
-use Rattle.std.proofs.Common.{◌≡◌, ℕ, ◌<◌, inl, inr, List, [], ◌∷◌, ◌++◌, ℤ, pos, length, drop, get_or, All}
-use Rattle.std.proofs.Common.{ap, subst, sym, ◌∙◌, refl, arith, length-append}
-use Rattle.std.specs.Prelude.{Bool, true, false, if◌then◌else◌, ◌<ℤ◌}
-use Rattle.std.proofs.lemmas.List.Elements.{All-cons, All-head, All-nil, All-tail}
+use Rattle.scop_syntax.proofs.Common.{◌≡◌, ℕ, ◌<◌, inl, inr, List, [], ◌∷◌, ◌++◌, ℤ, pos, length, drop, get_or, All, ap}
+use Rattle.scop_syntax.proofs.Common.{subst, sym, ◌∙◌, refl, arith, length-append, Bool, true, false, if◌then◌else◌}
+use Rattle.scop_syntax.proofs.Common.{◌<ℤ◌, All-cons, All-head, All-nil, All-tail, In, in_append}
 use Rattle.affine_forms.specs.Parts.{variables_of}
-use Rattle.scop_syntax.specs.Members.{In}
-use Rattle.scop_syntax.proofs.Members.{in_append}
 use Rattle.loop_tree.specs.Tree.{Bound, Test}
 use Rattle.loop_tree.specs.Walk.{all_hold, holds}
 use Rattle.tree_simplification.specs.steps.Context.{ArePartsOver, Context, Meets, OnSide, TrimsSide}

@@ -1,25 +1,16 @@
 -- Bounds and tests without common factors say what they said (`rounded_low`, `rounded_high`, `rounded_holds`).
-use Rattle.std.proofs.Common.{◌≡◌, ℕ, zero, suc, ◌≤◌, inl, inr, ℤ, pos, negsuc, Bool, true, false, List, All}
-use Rattle.std.proofs.Common.{ap, ap₂, subst, sym, ◌∙◌, refl, arith}
-use Rattle.std.specs.Prelude.{◌⊎◌, ◌+ℤ◌, ◌*ℤ◌, ◌≤ℤ◌, ◌<ℤ◌, neg_ℤ, if◌then◌else◌, unsigned_abs}
-use Rattle.std.specs.Int.Signed.{le_z}
-use Rattle.std.proofs.lemmas.Int.{ints}
-use Rattle.whole_numbers.specs.Affine.{Affine, value_of}
-use Rattle.whole_numbers.specs.Content.{content_from}
-use Rattle.whole_numbers.specs.Division.{IsFloor}
-use Rattle.whole_numbers.specs.Divisors.{Divides}
-use Rattle.whole_numbers.specs.Floor.{ceiling, floor, floors}
-use Rattle.whole_numbers.specs.Lists.{dot}
+use Rattle.scop_syntax.proofs.Common.{◌≡◌, ℕ, zero, suc, ◌≤◌, inl, inr, ℤ, pos, negsuc, Bool, true, false, List, All}
+use Rattle.scop_syntax.proofs.Common.{ap, ap₂, subst, sym, ◌∙◌, refl, arith, ◌⊎◌, ◌+ℤ◌, ◌*ℤ◌, ◌≤ℤ◌, ◌<ℤ◌, neg_ℤ}
+use Rattle.scop_syntax.proofs.Common.{if◌then◌else◌, unsigned_abs, le_z, ints, Affine, value_of, content_from, IsFloor}
+use Rattle.scop_syntax.proofs.Common.{Divides, ceiling, floor, dot, divides_sizes, dot-multiples, floor_is}
+use Rattle.scop_syntax.proofs.Common.{floor_unique, le_or_lt, mul_le_left, mul_positive, positive_factor, left_comm}
+use Rattle.scop_syntax.proofs.Common.{mul_comm_int, mul_distrib_left, mul_neg_right, mul_one_right, mul_zero_right}
+use Rattle.scop_syntax.proofs.Common.{le_z_holds}
+use Rattle.whole_numbers.specs.Floor.{floors}
 use Rattle.whole_numbers.proofs.Contents.{content_from_divides}
-use Rattle.whole_numbers.proofs.Divisors.{divides_sizes, sizes_divide}
-use Rattle.whole_numbers.proofs.Dot.{dot-multiples}
-use Rattle.whole_numbers.proofs.Floors.{floor_is, floor_unique}
+use Rattle.whole_numbers.proofs.Divisors.{sizes_divide}
 use Rattle.whole_numbers.proofs.Lowest.{exact_floor, exact_floors}
-use Rattle.whole_numbers.proofs.Order.{le_or_lt, mul_le_left, mul_positive, positive_factor}
 use Rattle.whole_numbers.proofs.Remainders.{length-floors}
-use Rattle.whole_numbers.proofs.Ring.{left_comm, mul_comm_int, mul_distrib_left, mul_neg_right, mul_one_right}
-use Rattle.whole_numbers.proofs.Ring.{mul_zero_right}
-use Rattle.scop_syntax.proofs.Members.{le_z_holds}
 use Rattle.loop_tree.specs.Fits.{form_in}
 use Rattle.loop_tree.specs.Marks.{IsTest}
 use Rattle.loop_tree.specs.Shape.{IsOver}

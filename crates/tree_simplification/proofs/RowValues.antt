@@ -1,12 +1,9 @@
 -- Values of rows of a context: with one loop more, with a sign, less a divisor times the loop's value.
-use Rattle.std.proofs.Common.{◌≡◌, ℕ, ◌+◌, ℤ, pos, negsuc, List, [], ◌∷◌, ◌++◌, length, ap, ◌∙◌, refl, arith}
-use Rattle.std.specs.Prelude.{Bool, true, false, not, insert, neg_ℤ, ◌+ℤ◌, ◌-ℤ◌, ◌*ℤ◌, ◌≤ℤ◌, ◌<ℤ◌}
-use Rattle.std.proofs.lemmas.Int.{ints}
+use Rattle.scop_syntax.proofs.Common.{◌≡◌, ℕ, ◌+◌, ℤ, pos, negsuc, List, [], ◌∷◌, ◌++◌, length, ap, ◌∙◌, refl, arith}
+use Rattle.scop_syntax.proofs.Common.{Bool, true, false, not, insert, neg_ℤ, ◌+ℤ◌, ◌-ℤ◌, ◌*ℤ◌, ◌≤ℤ◌, ◌<ℤ◌, ints, Affine}
+use Rattle.scop_syntax.proofs.Common.{value_of, widened, dot, multiples, dot-multiples, length-multiples, mul_comm_int}
+use Rattle.scop_syntax.proofs.Common.{mul_distrib_left, mul_neg_left, mul_one_left, mul_sub_left}
 use Rattle.std.proofs.lemmas.List.{append_assoc}
-use Rattle.whole_numbers.specs.Affine.{Affine, value_of, widened}
-use Rattle.whole_numbers.specs.Lists.{dot, multiples}
-use Rattle.whole_numbers.proofs.Dot.{dot-multiples, length-multiples}
-use Rattle.whole_numbers.proofs.Ring.{mul_comm_int, mul_distrib_left, mul_neg_left, mul_one_left, mul_sub_left}
 use Rattle.whole_numbers.proofs.Values.{value_of-widened}
 use Rattle.affine_forms.specs.Parts.{variables_of}
 use Rattle.loop_tree.specs.Tree.{Bound}

@@ -1,9 +1,6 @@
 -- What trees are like, they stay without what is implied.
-use Rattle.std.proofs.Common.{ℕ, zero, suc, inl, inr, Bool, List, [], ◌∷◌, pos, All, subst, sym, refl}
-use Rattle.std.specs.Prelude.{◌<ℤ◌}
-use Rattle.std.proofs.lemmas.List.Elements.{All-cons, All-head, All-nil, All-tail}
-use Rattle.scop_syntax.specs.Members.{In}
-use Rattle.scop_syntax.specs.Tree.{Program}
+use Rattle.scop_syntax.proofs.Common.{ℕ, zero, suc, inl, inr, Bool, List, [], ◌∷◌, pos, All, subst, sym, refl, ◌<ℤ◌}
+use Rattle.scop_syntax.proofs.Common.{All-cons, All-head, All-nil, All-tail, In, Program}
 use Rattle.loop_tree.specs.Fits.{form_in}
 use Rattle.loop_tree.specs.Marks.{AreBounds, AreTests, FlatAll, IsTest}
 use Rattle.loop_tree.specs.Shape.{AreSerial, BoundsAreOver, BoundsAreUpTo, IsOver, IsOverUpTo, NestAllTo, TestIsUpTo}

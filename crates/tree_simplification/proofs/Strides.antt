@@ -1,19 +1,13 @@
 -- A loop whose turns are taken so many at once, and the loop over blocks that it gives way to.
-use Rattle.std.proofs.Common.{◌≡◌, ℕ, zero, suc, ◌+◌, ◌-◌, ◌^◌, ◌≤◌, ◌<◌, Bool, true, false, ℤ, pos, List, [], ◌∷◌}
-use Rattle.std.proofs.Common.{◌++◌, inl, inr, length, map, get_or, ap, ap₂, subst, sym, ◌∙◌, refl, arith, length-append}
-use Rattle.std.specs.Prelude.{◌↔◌, All, neg_ℤ, unsigned_abs, ◌+ℤ◌, ◌-ℤ◌, ◌*ℤ◌, ◌≤ℤ◌}
-use Rattle.std.proofs.lemmas.Int.{ints}
-use Rattle.std.proofs.lemmas.List.{append_assoc, length-set, map-append}
-use Rattle.std.proofs.lemmas.List.Elements.{All-cons, All-nil}
-use Rattle.std.proofs.Math.Seq.{get_or-append_seam}
-use Rattle.whole_numbers.specs.Affine.{Affine, value_of, values_of, widened}
-use Rattle.whole_numbers.specs.Lists.{zeros}
-use Rattle.whole_numbers.proofs.Dot.{dot-set_left, dot-zeros, get_or-zeros, length-zeros}
-use Rattle.whole_numbers.proofs.Order.{le_or_lt, mul_le, mul_le_turned, mul_positive}
-use Rattle.whole_numbers.proofs.Ring.{mul_assoc_int, mul_comm_int, mul_distrib_left, mul_distrib_right, mul_one_left}
-use Rattle.whole_numbers.proofs.Ring.{mul_one_right}
-use Rattle.whole_numbers.proofs.Sizes.{abs_at_most}
-use Rattle.scop_syntax.specs.Tree.{Program}
+use Rattle.scop_syntax.proofs.Common.{◌≡◌, ℕ, zero, suc, ◌+◌, ◌-◌, ◌^◌, ◌≤◌, ◌<◌, Bool, true, false, ℤ, pos, List, []}
+use Rattle.scop_syntax.proofs.Common.{◌∷◌, ◌++◌, inl, inr, length, map, get_or, ap, ap₂, subst, sym, ◌∙◌, refl, arith}
+use Rattle.scop_syntax.proofs.Common.{length-append, ◌↔◌, All, neg_ℤ, unsigned_abs, ◌+ℤ◌, ◌-ℤ◌, ◌*ℤ◌, ◌≤ℤ◌, ints}
+use Rattle.scop_syntax.proofs.Common.{length-set, map-append, All-cons, All-nil, get_or-append_seam, Affine, value_of}
+use Rattle.scop_syntax.proofs.Common.{values_of, widened, zeros, dot-set_left, dot-zeros, get_or-zeros, length-zeros}
+use Rattle.scop_syntax.proofs.Common.{le_or_lt, mul_le, mul_le_turned, mul_positive, mul_assoc_int, mul_comm_int}
+use Rattle.scop_syntax.proofs.Common.{mul_distrib_left, mul_distrib_right, mul_one_left, mul_one_right, abs_at_most}
+use Rattle.scop_syntax.proofs.Common.{Program}
+use Rattle.std.proofs.lemmas.List.{append_assoc}
 use Rattle.loop_tree.specs.Fits.{FitsAll}
 use Rattle.loop_tree.specs.Marks.{AreBounds, FlatAll}
 use Rattle.loop_tree.specs.Plans.{AreFree, Conflict}

@@ -1,7 +1,6 @@
 -- What is left of nodes, one by one, as code goes over them.
-use Rattle.std.proofs.Common.{◌≡◌, ℕ, zero, suc, ◌+◌, ◌<◌, List, [], ◌∷◌, length, drop, get_or, ap, subst, sym}
-use Rattle.std.proofs.Common.{◌∙◌, refl, arith, inl, inr}
-use Rattle.std.specs.Prelude.{Bool, Result, Ok, Err, OnOk, is_ok, if◌then◌else◌}
+use Rattle.scop_syntax.proofs.Common.{◌≡◌, ℕ, zero, suc, ◌+◌, ◌<◌, List, [], ◌∷◌, length, drop, get_or, ap, subst, sym}
+use Rattle.scop_syntax.proofs.Common.{◌∙◌, refl, arith, inl, inr, Bool, Result, Ok, Err, OnOk, is_ok, if◌then◌else◌}
 use Rattle.loop_tree.specs.Tree.{Bounds, Test, Trees, guard, loop, more, none}
 use Rattle.loop_tree.specs.View.{nodes_of, tree_of}
 use Rattle.loop_tree.specs.declared.tree.Node.{Node}

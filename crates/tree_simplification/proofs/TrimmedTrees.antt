@@ -1,13 +1,8 @@
 -- A tree without what is implied visits what it visits, and is like it.
-use Rattle.std.proofs.Common.{◌≡◌, ℕ, ◌+◌, ◌^◌, ◌<◌, inl, inr, ℤ, List, [], ◌∷◌, ◌++◌, length, map, subst}
-use Rattle.std.proofs.Common.{ap, ◌∙◌, refl}
-use Rattle.std.proofs.Common.{arith}
-use Rattle.std.specs.Prelude.{Bool, true, false, ⊤}
-use Rattle.std.proofs.lemmas.List.Elements.{All-nil}
-use Rattle.whole_numbers.specs.Affine.{Affine}
+use Rattle.scop_syntax.proofs.Common.{◌≡◌, ℕ, ◌+◌, ◌^◌, ◌<◌, inl, inr, ℤ, List, [], ◌∷◌, ◌++◌, length, map, subst, ap}
+use Rattle.scop_syntax.proofs.Common.{◌∙◌, refl, arith, Bool, true, false, ⊤, All-nil, Affine, Instance}
 use Rattle.affine_forms.specs.Parts.{variables_of}
 use Rattle.fm_projection.specs.Alone.{AreInRange}
-use Rattle.scop_syntax.specs.Walk.{Instance}
 use Rattle.scop_syntax.proofs.Limits.{size_params}
 use Rattle.loop_tree.specs.Fits.{AreSmallTrees}
 use Rattle.loop_tree.specs.Marks.{AreBounds, FlatAll}

@@ -1,17 +1,11 @@
 -- What is left of trees visits what they visit: nodes behind others, a loop, a guard; loops with the same values.
-use Rattle.std.proofs.Common.{◌≡◌, ℕ, zero, suc, ◌+◌, ◌^◌, ◌≤◌, inl, inr, ℤ, pos, negsuc, List, [], ◌∷◌, ◌++◌}
-use Rattle.std.proofs.Common.{map, ap, ap₂, subst, sym, ◌∙◌, refl, arith}
-use Rattle.std.specs.Prelude.{◌↔◌, Bool, true, false, if◌then◌else◌, neg_ℤ, unsigned_abs, ◌+ℤ◌, ◌-ℤ◌, ◌*ℤ◌, ◌≤ℤ◌, ◌<ℤ◌}
-use Rattle.std.proofs.lemmas.Int.{ints}
+use Rattle.scop_syntax.proofs.Common.{◌≡◌, ℕ, zero, suc, ◌+◌, ◌^◌, ◌≤◌, inl, inr, ℤ, pos, negsuc, List, [], ◌∷◌, ◌++◌}
+use Rattle.scop_syntax.proofs.Common.{map, ap, ap₂, subst, sym, ◌∙◌, refl, arith, ◌↔◌, Bool, true, false, if◌then◌else◌}
+use Rattle.scop_syntax.proofs.Common.{neg_ℤ, unsigned_abs, ◌+ℤ◌, ◌-ℤ◌, ◌*ℤ◌, ◌≤ℤ◌, ◌<ℤ◌, ints, All-cons, All-nil}
+use Rattle.scop_syntax.proofs.Common.{value_of, le_or_lt, mul_one_left, mul_one_right, abs_high, abs_low, In, Instance}
+use Rattle.scop_syntax.proofs.Common.{most_turns}
 use Rattle.std.proofs.lemmas.List.{append-nil}
-use Rattle.std.proofs.lemmas.List.Elements.{All-cons, All-nil}
-use Rattle.whole_numbers.specs.Affine.{value_of}
-use Rattle.whole_numbers.proofs.Order.{le_or_lt}
-use Rattle.whole_numbers.proofs.Ring.{mul_one_left, mul_one_right}
-use Rattle.whole_numbers.proofs.Sizes.{abs_high, abs_low}
 use Rattle.affine_forms.specs.Parts.{variables_of}
-use Rattle.scop_syntax.specs.Members.{In}
-use Rattle.scop_syntax.specs.Walk.{Instance, most_turns}
 use Rattle.loop_tree.specs.Fits.{AreSmallTrees, BoundsFit, FitsAll, FormFits, HasNumber, IsNumber}
 use Rattle.loop_tree.specs.Fits.{IsSmallTree, TestsFit, form_in}
 use Rattle.loop_tree.specs.Marks.{AreBounds, FlatAll}

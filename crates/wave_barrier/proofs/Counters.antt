@@ -1,6 +1,5 @@
 -- What a plan's gates look at: one word for all tiles, or for each tile a counter behind the cells of all arrays.
-use Rattle.std.proofs.Common.{◌≡◌, ℕ, ◌+◌, ◌<◌, ◌≤◌, Bor, ap, arith, refl}
-use Rattle.std.specs.Prelude.{IsSome, Option, Some, None}
+use Rattle.std.proofs.Common.{◌≡◌, ℕ, ◌+◌, ◌<◌, ◌≤◌, Bor, ap, arith, refl, IsSome, Option, Some, None}
 use Rattle.tile_events.specs.Core.{needed_by}
 use Rattle.tile_events.specs.Plan as plain
 use Rattle.tile_events.specs.Plan.{Gate, waves, counters}

@@ -1,7 +1,7 @@
 -- Greatest common divisors of lists: the content divides each entry, each common divisor divides it, and a positive
 -- factor comes out of it.
-use Rattle.std.proofs.Common.{◌≡◌, ℕ, zero, suc, ◌<◌, ◌≤◌, ◌*◌, ◌+◌, ◌/◌, ◌%◌, ℤ, pos, unsigned_abs, List, []}
-use Rattle.std.proofs.Common.{◌∷◌, refl, sym, ◌∙◌, ap, subst, All, arith}
+use Rattle.std.proofs.Common.{◌≡◌, ℕ, zero, suc, ◌<◌, ◌≤◌, ◌*◌, ◌+◌, ◌/◌, ◌%◌, ℤ, pos, unsigned_abs, List, [], ◌∷◌}
+use Rattle.std.proofs.Common.{refl, sym, ◌∙◌, ap, subst, All, arith}
 use Rattle.std.proofs.lemmas.Int.{unsigned_abs-mul}
 use Rattle.std.proofs.lemmas.Nat.Gcd.{same_from_IsGcd, IsGcd-from_zero, IsGcd-from_mod, dvd_refl}
 use Rattle.std.proofs.Math.Nat.{mod-lt, div-add-mod, dvd-mul_right, mul-add-mod_self_left, mul-add, mul_assoc}

@@ -1,6 +1,6 @@
 -- The numbers that 128 bits hold.
-use Rattle.std.proofs.Common.{ℤ, pos, negsuc, ◌^◌, Bool, true, false, IsTrue, IsFalse, refl, FitsSigned, ◌↔◌}
-use Rattle.std.proofs.Common.{neg_ℤ, ◌≤ℤ◌, ◌<ℤ◌, arith}
+use Rattle.std.proofs.Common.{ℤ, pos, negsuc, ◌^◌, Bool, true, false, IsTrue, IsFalse, refl, FitsSigned, ◌↔◌, neg_ℤ}
+use Rattle.std.proofs.Common.{◌≤ℤ◌, ◌<ℤ◌, arith}
 use Rattle.std.specs.Int.{w128}
 use Rattle.std.proofs.lemmas.Int.{ints}
 use Rattle.whole_numbers.specs.Fits.{fits}

@@ -1,3 +1,4 @@
+pub mod Common
 pub mod Ring
 pub mod Order
 pub mod Floors

@@ -1,6 +1,5 @@
 -- A number lies between its absolute value and that value's negative; the absolute value of a sum.
-use Rattle.std.proofs.Common.{ℕ, ◌+◌, ◌≤◌, ℤ, pos, negsuc, arith}
-use Rattle.std.specs.Prelude.{◌+ℤ◌, ◌≤ℤ◌, neg_ℤ, unsigned_abs}
+use Rattle.std.proofs.Common.{ℕ, ◌+◌, ◌≤◌, ℤ, pos, negsuc, arith, ◌+ℤ◌, ◌≤ℤ◌, neg_ℤ, unsigned_abs}
 use Rattle.std.proofs.lemmas.Int.{ints}
 
 pub abs_low : (z : ℤ) → neg_ℤ (pos (unsigned_abs z)) ≤ℤ z

@@ -1,6 +1,5 @@
 -- Tests of numbers, and two tests at once; most tests are in std's `lemmas/Bool`.
-use Rattle.std.proofs.Common.{◌≡◌, ℕ, ◌<◌, Bool, true, false, refl, arith}
-use Rattle.std.specs.Prelude.{nat_eq, if◌then◌else◌}
+use Rattle.std.proofs.Common.{◌≡◌, ℕ, ◌<◌, Bool, true, false, refl, arith, nat_eq, if◌then◌else◌}
 
 -- one of two numbers is less, so they differ
 pub nat_eq_below : (a b : ℕ) → a < b → nat_eq a b ≡ false

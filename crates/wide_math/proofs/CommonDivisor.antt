@@ -1,10 +1,10 @@
 -- The greatest common divisor of numbers by their sizes, and checked results that are read back.
-use Rattle.std.proofs.Common.{◌≡◌, ℕ, ℤ, pos, unsigned_abs, FitsSigned, to_z, of_z, to_z-of_z, subst₂, Ok, Err}
-use Rattle.std.proofs.Common.{ap, sym, ◌∙◌}
-use Rattle.std.specs.Int.{IsGcd, w128}
+use Rattle.whole_numbers.proofs.Common.{◌≡◌, ℕ, ℤ, pos, unsigned_abs, FitsSigned, to_z, of_z, subst₂, Ok, Err, ap, sym}
+use Rattle.whole_numbers.proofs.Common.{◌∙◌, IsGcd, w128, fits_iff}
+use Rattle.std.proofs.Common.{to_z-of_z}
 use Rattle.whole_numbers.specs.Divisors.{IsGreatestCommonDivisor}
 use Rattle.whole_numbers.proofs.Divisors.{gcd_from_sizes}
-use Rattle.whole_numbers.proofs.Fits.{fits_iff, fits-false}
+use Rattle.whole_numbers.proofs.Fits.{fits-false}
 use Rattle.wide_math.specs.declared.Op.{Op}
 use Rattle.wide_math.specs.Checked.{wide, checked}
 use Rattle.wide_math.proofs.Steps.{checked-fits, checked-wide}

@@ -1,14 +1,10 @@
 -- Products of numbers of 64 bits, and their differences, have 128 bits. A sum may not: -2^63 times itself, twice.
-use Rattle.std.proofs.Common.{◌≡◌, ℤ, pos, ◌+ℤ◌, ◌-ℤ◌, ◌*ℤ◌, ◌≤ℤ◌, neg_ℤ, FitsSigned, arith}
-use Rattle.std.proofs.lemmas.Int.{ints}
-use Rattle.std.specs.Int.{w64, w128}
-use Rattle.std.specs.Prelude.{Ok}
+use Rattle.whole_numbers.proofs.Common.{◌≡◌, ℤ, pos, ◌+ℤ◌, ◌-ℤ◌, ◌*ℤ◌, ◌≤ℤ◌, neg_ℤ, FitsSigned, arith, ints, w64, w128}
+use Rattle.whole_numbers.proofs.Common.{Ok, fits_iff, mul_not_negative, mul_distrib_right, mul_distrib_left}
+use Rattle.whole_numbers.proofs.Common.{mul_sub_right, mul_sub_left}
 use Rattle.wide_math.specs.Checked.{product_of, cross_of}
 use Rattle.wide_math.proofs.Steps.{checked-fits}
 use Rattle.wide_math.specs.declared.Op.TheVariants.{Sub, Mul}
-use Rattle.whole_numbers.proofs.Fits.{fits_iff}
-use Rattle.whole_numbers.proofs.Order.{mul_not_negative}
-use Rattle.whole_numbers.proofs.Ring.{mul_distrib_right, mul_distrib_left, mul_sub_right, mul_sub_left}
 
 -- a product of numbers of 64 bits is at most 2^126
 pub product_at_most : (x y : ℤ) → FitsSigned w64 x → FitsSigned w64 y

@@ -1,14 +1,13 @@
 -- Quotients towards 0 and remainders with the number's sign, against floors and ceilings.
-use Rattle.std.proofs.Common.{suc, ◌/◌, ◌%◌, ◌<◌, ℤ, pos, negsuc, ◌+ℤ◌, ◌-ℤ◌, ◌≤ℤ◌, ◌<ℤ◌, int_div, int_rem}
-use Rattle.std.proofs.Common.{div-le_self, ◌≡◌, arith}
+use Rattle.whole_numbers.proofs.Common.{suc, ◌/◌, ◌%◌, ◌<◌, ℤ, pos, negsuc, ◌+ℤ◌, ◌-ℤ◌, ◌≤ℤ◌, ◌<ℤ◌, int_div, int_rem}
+use Rattle.whole_numbers.proofs.Common.{◌≡◌, arith, ints, IsFloor, IsCeiling, floor, remainder, remainder_is}
+use Rattle.whole_numbers.proofs.Common.{mul_distrib_right, mul_sub_right, mul_neg_left, mul_comm_int}
+use Rattle.std.proofs.Common.{div-le_self}
 use Rattle.std.proofs.Math.Nat.{mod-lt}
 use Rattle.std.proofs.lemmas.Nat.{div-add-mod'}
-use Rattle.std.proofs.lemmas.Int.{ints, quot-rem, rem_below}
-use Rattle.whole_numbers.specs.Division.{IsFloor, IsCeiling, IsEuclid}
-use Rattle.whole_numbers.specs.Floor.{floor, remainder}
+use Rattle.std.proofs.lemmas.Int.{quot-rem, rem_below}
+use Rattle.whole_numbers.specs.Division.{IsEuclid}
 use Rattle.whole_numbers.proofs.Euclid.{euclid_unique}
-use Rattle.whole_numbers.proofs.Remainders.{remainder_is}
-use Rattle.whole_numbers.proofs.Ring.{mul_distrib_right, mul_sub_right, mul_neg_left, mul_comm_int}
 
 -- of a number that is not negative the quotient that drops the fraction is the floor, between 0 and the number
 pub int_div-floor : (a d : ℤ) → pos 0 ≤ℤ a → pos 0 <ℤ d

@@ -1,8 +1,7 @@
 -- Checked steps, one after another: `checked-fits`, `checked-wide`, `chain-ok`, `chain-err`, `cross_of-exact`.
-use Rattle.std.proofs.Common.{◌≡◌, ℤ, ◌+ℤ◌, ◌-ℤ◌, ◌*ℤ◌, Bool, true, false, IsTrue, IsFalse, Result, Ok, Err}
-use Rattle.std.proofs.Common.{◌↔◌, ◌⊎◌, inl, inr, refl, sym, ◌∙◌, if◌then◌else◌, ap, arith}
-use Rattle.std.proofs.lemmas.Int.{ints}
-use Rattle.whole_numbers.specs.Fits.{fits}
+use Rattle.whole_numbers.proofs.Common.{◌≡◌, ℤ, ◌+ℤ◌, ◌-ℤ◌, ◌*ℤ◌, Bool, true, false, IsFalse, Result, Ok, Err, ◌↔◌, ◌⊎◌}
+use Rattle.whole_numbers.proofs.Common.{inl, inr, refl, sym, ◌∙◌, if◌then◌else◌, ap, arith, ints, fits}
+use Rattle.std.proofs.Common.{IsTrue}
 use Rattle.wide_math.specs.declared.Op.{Op}
 use Rattle.wide_math.specs.declared.Wide.{Wide}
 use Rattle.wide_math.specs.Checked.{wide, checked, sum_of, difference_of, product_of, cross_of, cross_sum_of, ◌>>=◌}

@@ -1,4 +1,4 @@
-use Rattle.std.proofs.Common.{◌≤◌, subst}
+use Rattle.scop_syntax.proofs.Common.{◌≤◌, subst}
 use Rattle.command_line.specs.Command.{HasSize, budget_of}
 use Rattle.command_line.specs.declared.command.Command.{Command}
 use Rattle.command_callers.proofs.numbers_of_words.Goals as goal

@@ -1,5 +1,4 @@
-use Rattle.std.proofs.Common.{subst}
-use Rattle.std.specs.Prelude.{IfOk}
+use Rattle.whole_numbers.proofs.Common.{subst, IfOk}
 use Rattle.iteration_domains.specs.Dependence.{Dependence}
 use Rattle.farkas.specs.declared.claim.Claim.TheVariants.{Bounding}
 use Rattle.farkas.specs.Meaning.{IsFarkas, Bounds}

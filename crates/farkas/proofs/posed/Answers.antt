@@ -1,4 +1,4 @@
-use Rattle.std.proofs.Common.{sym, ap, subst, refl}
+use Rattle.whole_numbers.proofs.Common.{sym, ap, subst, refl}
 use Rattle.fm_projection.proofs.RemovedEntries.{same_ok}
 use Rattle.wide_math.specs.declared.Wide.{Wide}
 use Rattle.fractions.specs.Farkas.{own_rows}

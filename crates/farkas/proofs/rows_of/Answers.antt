@@ -1,4 +1,4 @@
-use Rattle.std.proofs.Common.{◌∙◌, ◌-◌, ap, arith, refl, ℕ}
+use Rattle.whole_numbers.proofs.Common.{◌∙◌, ◌-◌, ap, arith, refl, ℕ}
 use Rattle.farkas.specs.Unknowns.{layout_of}
 use Rattle.farkas.specs.declared.layout.Layout.{Layout}
 use Rattle.farkas.specs.Run.{left_run, rows_run}

@@ -1,9 +1,8 @@
-use Rattle.std.proofs.Common.{rules, ◌≡◌, ◌∙◌, arith, ℕ, ℤ, pos, suc, ◌+◌, ◌<◌, List, ◌++◌, ◌∷◌, [], take, drop}
-use Rattle.std.proofs.Common.{get_or, FitsSigned, add-one, drop-cons, append_assoc}
+use Rattle.std.proofs.Common.{rules, ◌≡◌, ◌∙◌, arith, ℕ, ℤ, pos, suc, ◌+◌, ◌<◌, List, ◌++◌, ◌∷◌, [], take, drop, get_or}
+use Rattle.std.proofs.Common.{FitsSigned, add-one, drop-cons, append_assoc, map, set, length}
 use Rattle.std.specs.Int.{w128}
 use Rattle.std.proofs.lemmas.Int.{to_z-of_z}
 use Rattle.std.proofs.lemmas.List.{take_more_set, drop-set-lt}
-use Rattle.std.specs.Prelude.{map, set, length}
 use Rattle.wide_math.specs.Floor.{floor}
 use Rattle.affine_forms.proofs.row.divide_row.Goals as goal
 

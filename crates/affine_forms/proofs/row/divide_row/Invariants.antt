@@ -1,5 +1,4 @@
-use Rattle.std.proofs.Common.{◌≡◌, ◌++◌, take, drop, pos}
-use Rattle.std.specs.Prelude.{map}
+use Rattle.std.proofs.Common.{◌≡◌, ◌++◌, take, drop, pos, map}
 use Rattle.wide_math.specs.Floor.{floor}
 use Rattle.affine_forms.proofs.row.divide_row.Given as goal
 

@@ -1,5 +1,5 @@
-use Rattle.std.proofs.Common.{rules, ◌≡◌, ◌∙◌, ap, FitsSigned, ℕ, ℤ, pos, negsuc, arith, ◌/◌, to_z}
-use Rattle.std.specs.Prelude.{◌-ℤ◌, ◌<ℤ◌, unsigned_abs}
+use Rattle.std.proofs.Common.{rules, ◌≡◌, ◌∙◌, ap, FitsSigned, ℕ, ℤ, pos, negsuc, arith, ◌/◌, to_z, ◌-ℤ◌, ◌<ℤ◌}
+use Rattle.std.proofs.Common.{unsigned_abs}
 use Rattle.std.specs.Int.{w128}
 use Rattle.std.proofs.lemmas.Int.{to_z-of_z, ints}
 use Rattle.wide_math.specs.Floor.{floor}

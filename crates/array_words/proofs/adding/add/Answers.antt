@@ -1,4 +1,4 @@
-use Rattle.std.proofs.Common.{true}
+use Rattle.scop_syntax.proofs.Common.{true}
 use Rattle.tile_core.specs.Passes.{walk_in}
 use Rattle.array_words.specs.Stores.{IsNextAdd}
 use Rattle.array_words.proofs.PassSeats.{at_view, seat_of}

@@ -1,4 +1,4 @@
-use Rattle.std.proofs.Common.{arith, true}
+use Rattle.scop_syntax.proofs.Common.{arith, true}
 use Rattle.tile_core.proofs.Gates.{shape_extends}
 use Rattle.array_words.proofs.Stores.{adds, written_below}
 use Rattle.array_words.proofs.adding.add_at.Goals as goal

@@ -1,4 +1,4 @@
-use Rattle.std.proofs.Common.{arith, length}
+use Rattle.scop_syntax.proofs.Common.{arith, length}
 use Rattle.std.specs.Mem.Slots.{slots_items}
 use Rattle.array_words.proofs.FinalCells.{closed_cells}
 use Rattle.array_words.proofs.closing.close.Goals as goal

@@ -1,7 +1,5 @@
-use Rattle.std.proofs.Common.{◌≡◌, ℕ, ◌+◌, ◌<◌, get_or, length}
+use Rattle.scop_syntax.proofs.Common.{◌≡◌, ℕ, ◌+◌, ◌<◌, get_or, length, some, get_elem?}
 use Rattle.std.specs.Mem.Slots.{slots_items}
-use mathlib.Core.Option.{some}
-use lib.ListN.{get_elem?}
 use Rattle.array_words.proofs.closing.copy_words.Given as goal
 
 abbrev pub invariant-loop-at : goal.invariant-loop-at

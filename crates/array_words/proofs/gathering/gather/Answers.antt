@@ -1,4 +1,4 @@
-use Rattle.std.proofs.Common.{arith, ◌≤◌, ◌∷◌, [], length, length-append, ap, ◌∙◌, sym, refl, ℕ}
+use Rattle.scop_syntax.proofs.Common.{arith, ◌≤◌, ◌∷◌, [], length, length-append, ap, ◌∙◌, sym, refl, ℕ}
 use Rattle.tile_events.specs.Sound.{total}
 use Rattle.tile_core.specs.declared.words.Pass.{Pass}
 use Rattle.array_words.specs.Closing.{IsResting, one_if_ended, stage_in, stage_after}

@@ -1,4 +1,4 @@
-use Rattle.std.proofs.Common.{◌≡◌, ◌+◌, All, length}
+use Rattle.scop_syntax.proofs.Common.{◌≡◌, ◌+◌, All, length}
 use Rattle.tile_events.specs.Sound.{total}
 use Rattle.tile_core.specs.declared.words.Pass.{Pass}
 use Rattle.array_words.specs.Closing.{IsGathered, IsResting, one_if_ended, stage_in}

@@ -1,4 +1,4 @@
-use Rattle.std.proofs.Common.{rules, sym, subst}
+use Rattle.scop_syntax.proofs.Common.{rules, sym, subst}
 use Rattle.array_words.specs.Closing.{Rests}
 use Rattle.array_words.proofs.Joins.{gathered, join_allowed, rests_after}
 use Rattle.array_words.proofs.gathering.take_in.Goals as goal

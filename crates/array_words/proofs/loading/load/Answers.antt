@@ -1,4 +1,4 @@
-use Rattle.std.proofs.Common.{◌≡◌}
+use Rattle.scop_syntax.proofs.Common.{◌≡◌}
 use Rattle.tile_core.specs.Passes.{plan_in, walk_in}
 use Rattle.tile_core.specs.Views.{executed}
 use Rattle.array_words.specs.Loads.{IsNextRead}

@@ -1,4 +1,4 @@
-use Rattle.std.proofs.Common.{arith}
+use Rattle.scop_syntax.proofs.Common.{arith}
 use Rattle.tile_core.proofs.Gates.{shape_extends}
 use Rattle.array_words.proofs.Loads.{loads, read_below, told}
 use Rattle.array_words.proofs.loading.load_at.Goals as goal

@@ -1,4 +1,4 @@
-use Rattle.std.proofs.Common.{rules, ◌≡◌, ◌∷◌, ◌+◌, ◌<◌, ◌∙◌, List, ℕ, length, ap, subst, sym}
+use Rattle.scop_syntax.proofs.Common.{rules, ◌≡◌, ◌∷◌, ◌+◌, ◌<◌, ◌∙◌, List, ℕ, length, ap, subst, sym}
 use Rattle.tile_core.specs.Plans.{HasRest, shape_of}
 use Rattle.tile_core.proofs.Gates.{tiles_are}
 use Rattle.array_words.proofs.OpeningState.{opening_held}

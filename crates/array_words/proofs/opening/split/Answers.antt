@@ -1,4 +1,4 @@
-use Rattle.std.proofs.Common.{rules}
+use Rattle.scop_syntax.proofs.Common.{rules}
 use Rattle.array_words.proofs.OpeningState.{split_allowed}
 use Rattle.array_words.proofs.opening.split.Goals as goal
 

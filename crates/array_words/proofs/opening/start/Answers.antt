@@ -1,4 +1,4 @@
-use Rattle.std.proofs.Common.{rules, arith, ◌≡◌, ◌+◌, ◌<◌, ◌∷◌, ◌++◌, [], length, refl, ap, subst, sym, ◌∙◌}
+use Rattle.scop_syntax.proofs.Common.{rules, arith, ◌≡◌, ◌+◌, ◌<◌, ◌∷◌, ◌++◌, [], length, refl, ap, subst, sym, ◌∙◌}
 use Rattle.atomic_table.specs.declared.shared.Seat.{Seat}
 use Rattle.array_words.proofs.Members.{all_and}
 use Rattle.tile_core.specs.Passes.{IsPass}

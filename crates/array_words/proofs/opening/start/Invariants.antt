@@ -1,4 +1,4 @@
-use Rattle.std.proofs.Common.{◌≡◌, ◌+◌, All, length}
+use Rattle.scop_syntax.proofs.Common.{◌≡◌, ◌+◌, All, length}
 use Rattle.tile_core.specs.Passes.{IsPass}
 use Rattle.array_words.specs.Seats.{IsIdlePass, IsRest, IsUnmoved}
 use Rattle.array_words.proofs.opening.start.Given as goal

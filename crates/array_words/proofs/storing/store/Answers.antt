@@ -1,4 +1,4 @@
-use Rattle.std.proofs.Common.{false}
+use Rattle.scop_syntax.proofs.Common.{false}
 use Rattle.tile_core.specs.Passes.{walk_in}
 use Rattle.array_words.specs.Stores.{IsNextStore}
 use Rattle.array_words.proofs.PassSeats.{at_view, seat_of}

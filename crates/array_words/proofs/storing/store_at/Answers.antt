@@ -1,4 +1,4 @@
-use Rattle.std.proofs.Common.{arith, false}
+use Rattle.scop_syntax.proofs.Common.{arith, false}
 use Rattle.tile_core.proofs.Gates.{shape_extends}
 use Rattle.array_words.proofs.Stores.{stores, written_below}
 use Rattle.array_words.proofs.storing.store_at.Goals as goal

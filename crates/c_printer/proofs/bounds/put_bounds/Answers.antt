@@ -1,4 +1,4 @@
-use Rattle.std.proofs.Common.{rules, ◌≡◌, ◌<◌, ◌≤◌, ℕ, List, OnOk, length, subst}
+use Rattle.scop_syntax.proofs.Common.{rules, ◌≡◌, ◌<◌, ◌≤◌, ℕ, List, OnOk, length, subst}
 use Rattle.c_printer.proofs.PutTexts.{choice_put, choices_end}
 use Rattle.c_printer.proofs.bounds.put_bounds.Goals as goal
 

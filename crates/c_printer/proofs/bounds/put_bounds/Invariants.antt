@@ -1,6 +1,5 @@
 -- What is put so far, the bounds to come and the parentheses that close the choices are all of them.
-use Rattle.std.proofs.Common.{◌≡◌, ◌++◌, drop, map}
-use Rattle.std.specs.Prelude.{codes}
+use Rattle.scop_syntax.proofs.Common.{◌≡◌, ◌++◌, drop, map, codes}
 use Rattle.loop_tree.specs.Tree.{bounds_of}
 use Rattle.loop_tree.specs.View.{bounds_in}
 use Rattle.c_printer.specs.Nodes.{bounds_text, repeated}

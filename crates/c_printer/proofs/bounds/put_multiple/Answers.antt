@@ -1,8 +1,5 @@
-use Rattle.std.proofs.Common.{◌≡◌, ◌∙◌, ◌++◌, OnOk, ℕ, List, map, subst, FitsSigned}
-use Rattle.std.specs.Int.{w64}
-use Rattle.std.specs.Prelude.{codes}
-use Rattle.std.specs.Fmt.{signed_decimal}
-use Rattle.std.proofs.lemmas.Int.{to_z-of_z}
+use Rattle.scop_syntax.proofs.Common.{◌≡◌, ◌∙◌, ◌++◌, OnOk, ℕ, List, map, subst, FitsSigned, w64, codes, signed_decimal}
+use Rattle.scop_syntax.proofs.Common.{to_z-of_z}
 use Rattle.c_printer.specs.Forms.{tree_form_text}
 use Rattle.c_printer.specs.Nodes.{divisor_text}
 use Rattle.c_printer.specs.Statements.{between}

@@ -1,4 +1,4 @@
-use Rattle.std.proofs.Common.{map}
+use Rattle.scop_syntax.proofs.Common.{map}
 use Rattle.loop_tree.specs.View.{test_of}
 use Rattle.c_printer.proofs.PutTexts.{test_put}
 use Rattle.c_printer.proofs.bounds.put_tests.Goals as goal

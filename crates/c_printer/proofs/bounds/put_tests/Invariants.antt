@@ -1,5 +1,5 @@
 -- What is put so far, and the tests to come, are all of them.
-use Rattle.std.proofs.Common.{◌≡◌, ◌++◌, drop, map, true}
+use Rattle.scop_syntax.proofs.Common.{◌≡◌, ◌++◌, drop, map, true}
 use Rattle.loop_tree.specs.View.{test_of}
 use Rattle.c_printer.specs.Nodes.{tests_text}
 use Rattle.c_printer.proofs.bounds.put_tests.Given as goal

@@ -1,8 +1,5 @@
-use Rattle.std.proofs.Common.{rules, ◌≡◌, ◌∙◌, ◌++◌, ◌<◌, OnOk, ℕ, List, ap, arith, drop, get_or, length, map}
-use Rattle.std.proofs.Common.{subst, sym}
-use Rattle.std.specs.Prelude.{FitsSigned}
-use Rattle.std.specs.Int.{w64, w128}
-use Rattle.std.proofs.lemmas.Int.{to_z-of_z}
+use Rattle.scop_syntax.proofs.Common.{rules, ◌≡◌, ◌∙◌, ◌++◌, ◌<◌, OnOk, ℕ, List, ap, arith, drop, get_or, length, map}
+use Rattle.scop_syntax.proofs.Common.{subst, sym, FitsSigned, w64, w128, to_z-of_z}
 use Rattle.form_text.specs.Forms.{constant_text, form_text, term_text}
 use Rattle.form_text.proofs.PutTexts.{behind_all, term_put}
 use Rattle.c_printer.proofs.forms.put_form.Goals as goal

@@ -1,4 +1,4 @@
-use Rattle.std.proofs.Common.{rules}
+use Rattle.scop_syntax.proofs.Common.{rules}
 use Rattle.wide_math.proofs.Narrow.{product_fits}
 use Rattle.c_printer.proofs.Multiples.{sum_fits}
 use Rattle.c_printer.proofs.forms.with_multiple.Goals as goal

@@ -1,7 +1,5 @@
-use Rattle.std.proofs.Common.{rules, ◌≡◌, ◌∙◌, ◌<◌, ◌≤◌, pos, length, get_or, ap₂, FitsSigned}
-use Rattle.std.specs.Prelude.{ℤ, ◌+ℤ◌, ◌*ℤ◌, max}
-use Rattle.std.specs.Int.{w64, w128}
-use Rattle.std.proofs.lemmas.Int.{to_z-of_z}
+use Rattle.scop_syntax.proofs.Common.{rules, ◌≡◌, ◌∙◌, ◌<◌, ◌≤◌, pos, length, get_or, ap₂, FitsSigned, ℤ, ◌+ℤ◌, ◌*ℤ◌}
+use Rattle.scop_syntax.proofs.Common.{max, w64, w128, to_z-of_z}
 use Rattle.c_printer.proofs.Multiples.{sums_more, sums_all}
 use Rattle.c_printer.proofs.forms.with_multiples.Goals as goal
 

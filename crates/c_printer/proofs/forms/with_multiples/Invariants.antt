@@ -1,6 +1,5 @@
 -- The sums so far, and those of what is to come, are all of them.
-use Rattle.std.proofs.Common.{◌≡◌, ◌++◌, drop}
-use Rattle.whole_numbers.specs.Lists.{sums, multiples}
+use Rattle.scop_syntax.proofs.Common.{◌≡◌, ◌++◌, drop, sums, multiples}
 use Rattle.c_printer.proofs.forms.with_multiples.Given as goal
 
 abbrev pub invariant-loop-at : goal.invariant-loop-at

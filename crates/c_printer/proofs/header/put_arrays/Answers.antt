@@ -1,5 +1,4 @@
-use Rattle.std.proofs.Common.{rules, ◌≡◌, ◌∙◌, ◌<◌, ap, get_or, length, map, sym}
-use Rattle.scop_syntax.specs.Tree.{Declaration}
+use Rattle.scop_syntax.proofs.Common.{rules, ◌≡◌, ◌∙◌, ◌<◌, ap, get_or, length, map, sym, Declaration}
 use Rattle.c_printer.proofs.Declarations.{array_more, array_past}
 use Rattle.c_printer.proofs.header.put_arrays.Goals as goal
 use Rattle.c_printer.proofs.header.put_arrays.Goals.{then-array-behind+in-Ok, else-array-behind}

@@ -1,5 +1,5 @@
 -- What is put so far, and the arrays to come, are all of them, whatever stands behind.
-use Rattle.std.proofs.Common.{◌≡◌, ◌++◌, drop, map, List}
+use Rattle.scop_syntax.proofs.Common.{◌≡◌, ◌++◌, drop, map, List}
 use Rattle.scop_lexer.specs.Bytes.{Text}
 use Rattle.c_printer.specs.Statements.{arrays_behind, listed}
 use Rattle.c_printer.proofs.header.put_arrays.Given as goal

@@ -1,4 +1,4 @@
-use Rattle.std.proofs.Common.{rules, ◌≡◌, ◌∙◌, ◌+◌, ◌<◌, ◌≤◌, ◌∷◌, List, ap, drop, length, map, sym}
+use Rattle.scop_syntax.proofs.Common.{rules, ◌≡◌, ◌∙◌, ◌+◌, ◌<◌, ◌≤◌, ◌∷◌, List, ap, drop, length, map, sym}
 use Rattle.scop_lexer.specs.Bytes.{Text}
 use Rattle.c_printer.proofs.Declarations.{map_here, declared_more, declared_all}
 use Rattle.c_printer.proofs.header.put_declared.Goals as goal

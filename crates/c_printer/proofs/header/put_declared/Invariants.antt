@@ -1,5 +1,5 @@
 -- What is put so far, and the declarations to come, are all of them.
-use Rattle.std.proofs.Common.{◌≡◌, ◌++◌, drop, map, true}
+use Rattle.scop_syntax.proofs.Common.{◌≡◌, ◌++◌, drop, map, true}
 use Rattle.c_printer.specs.Statements.{declared_from, listed}
 use Rattle.c_printer.proofs.header.put_declared.Given as goal
 

@@ -1,5 +1,5 @@
 -- The names so far, and the iterators to come, are all of them.
-use Rattle.std.proofs.Common.{◌≡◌, ◌++◌, drop, map}
+use Rattle.scop_syntax.proofs.Common.{◌≡◌, ◌++◌, drop, map}
 use Rattle.c_printer.specs.Naming.{iterators_of}
 use Rattle.c_printer.proofs.instances.names_of.Given as goal
 

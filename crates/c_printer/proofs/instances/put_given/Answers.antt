@@ -1,5 +1,4 @@
-use Rattle.std.proofs.Common.{rules, ◌≡◌, ◌∙◌, ◌++◌, OnOk, ℕ, List, ap, map, subst}
-use Rattle.std.specs.Prelude.{codes}
+use Rattle.scop_syntax.proofs.Common.{rules, ◌≡◌, ◌∙◌, ◌++◌, OnOk, ℕ, List, ap, map, subst, codes}
 use Rattle.form_text.specs.Forms.{form_text}
 use Rattle.c_printer.specs.Forms.{iterator_form}
 use Rattle.c_printer.specs.Statements.{between}

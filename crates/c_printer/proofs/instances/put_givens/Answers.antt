@@ -1,4 +1,4 @@
-use Rattle.std.proofs.Common.{◌∙◌, ◌++◌, ℕ, List, append-nil, ap, drop, map, sym}
+use Rattle.scop_syntax.proofs.Common.{◌∙◌, ◌++◌, ℕ, List, append-nil, ap, drop, map, sym}
 use Rattle.c_printer.proofs.PutTexts.{givens_end}
 use Rattle.c_printer.proofs.instances.put_givens.Goals as goal
 

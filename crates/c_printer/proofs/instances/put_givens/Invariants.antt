@@ -1,5 +1,5 @@
 -- What is put so far, and the iterators to come over the names so far, are all of them.
-use Rattle.std.proofs.Common.{◌≡◌, ◌++◌, drop, map}
+use Rattle.scop_syntax.proofs.Common.{◌≡◌, ◌++◌, drop, map}
 use Rattle.c_printer.specs.Nodes.{givens_text}
 use Rattle.c_printer.proofs.instances.put_givens.Given as goal
 

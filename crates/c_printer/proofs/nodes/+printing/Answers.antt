@@ -1,6 +1,5 @@
-use Rattle.std.proofs.Common.{rules, ◌≡◌, ◌+◌, ◌<◌, ◌≤◌, OnOk, arith, length, refl, subst}
+use Rattle.scop_syntax.proofs.Common.{rules, ◌≡◌, ◌+◌, ◌<◌, ◌≤◌, OnOk, arith, length, refl, subst, program_of}
 use Rattle.scop_lexer.specs.Bytes.{Text}
-use Rattle.scop_syntax.specs.View.{program_of}
 use Rattle.c_printer.specs.Nodes.{closing_text, nodes_text}
 use Rattle.loop_tree.specs.View.{nodes_of, tree_of}
 use Rattle.loop_tree.proofs.Weights.{weight, weight_all, node_weight, node_here}

@@ -1,7 +1,6 @@
 -- What is put so far, and the nodes to come, are all of them; a call goes over fewer nodes.
-use Rattle.std.proofs.Common.{◌≡◌, ◌+◌, ◌++◌, drop}
+use Rattle.scop_syntax.proofs.Common.{◌≡◌, ◌+◌, ◌++◌, drop, program_of}
 use Rattle.loop_tree.specs.View.{nodes_of, tree_of}
-use Rattle.scop_syntax.specs.View.{program_of}
 use Rattle.c_printer.specs.Nodes.{nodes_text}
 use Rattle.loop_tree.proofs.Weights.{weight, weight_all}
 use Rattle.c_printer.proofs.nodes.+printing.Given as goal

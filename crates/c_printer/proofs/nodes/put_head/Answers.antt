@@ -1,5 +1,4 @@
-use Rattle.std.proofs.Common.{◌≡◌, OnOk, ℕ, List, map, subst}
-use Rattle.std.specs.Prelude.{codes}
+use Rattle.scop_syntax.proofs.Common.{◌≡◌, OnOk, ℕ, List, map, subst, codes}
 use Rattle.loop_tree.specs.View.{bounds_in}
 use Rattle.c_printer.specs.Nodes.{lower_text, upper_text}
 use Rattle.c_printer.specs.Statements.{between}

@@ -1,5 +1,5 @@
 -- What the times to come leave is what all leave.
-use Rattle.std.proofs.Common.{◌≡◌, ◌-◌}
+use Rattle.scop_syntax.proofs.Common.{◌≡◌, ◌-◌}
 use Rattle.form_text.specs.Reading.{strip}
 use Rattle.c_printer.specs.Nodes.{repeated}
 use Rattle.c_printer.proofs.part.strip_repeated.Given as goal

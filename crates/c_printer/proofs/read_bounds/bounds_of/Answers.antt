@@ -1,4 +1,4 @@
-use Rattle.std.proofs.Common.{rules, ◌≤◌, length}
+use Rattle.scop_syntax.proofs.Common.{rules, ◌≤◌, length}
 use Rattle.c_printer.proofs.BoundTexts.{all_of_first}
 use Rattle.c_printer.proofs.read_bounds.bounds_of.Goals as goal
 

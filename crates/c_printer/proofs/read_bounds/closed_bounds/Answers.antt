@@ -1,5 +1,4 @@
-use Rattle.std.proofs.Common.{rules, ◌≡◌, length}
-use Rattle.std.specs.Prelude.{Some, None, codes}
+use Rattle.scop_syntax.proofs.Common.{rules, ◌≡◌, length, Some, None, codes}
 use Rattle.loop_tree.specs.Tree.{only}
 use Rattle.loop_tree.specs.View.{bounds_in}
 use Rattle.form_text.specs.Reading.{strip}

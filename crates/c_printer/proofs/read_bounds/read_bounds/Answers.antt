@@ -1,5 +1,4 @@
-use Rattle.std.proofs.Common.{rules, ◌≡◌, ◌<◌, ◌≤◌, map, subst, IfOk}
-use Rattle.std.specs.Prelude.{Option, Some, None}
+use Rattle.scop_syntax.proofs.Common.{rules, ◌≡◌, ◌<◌, ◌≤◌, map, subst, IfOk, Option, Some, None}
 use Rattle.scop_lexer.specs.Bytes.{Text}
 use Rattle.loop_tree.specs.Tree.{Bounds}
 use Rattle.form_text.specs.Reading.{strip}

@@ -1,5 +1,5 @@
 -- The bounds so far, in front of those to come, are all of them.
-use Rattle.std.proofs.Common.{◌≡◌, ◌-◌, map}
+use Rattle.scop_syntax.proofs.Common.{◌≡◌, ◌-◌, map}
 use Rattle.c_printer.specs.Reading.{read_bounds}
 use Rattle.c_printer.specs.steps.Reading.{closed_bounds}
 use Rattle.c_printer.proofs.read_bounds.read_bounds.Given as goal

@@ -1,5 +1,4 @@
-use Rattle.std.proofs.Common.{rules, ◌≡◌, ◌∙◌, ap, map, sym}
-use Rattle.std.specs.Prelude.{None}
+use Rattle.scop_syntax.proofs.Common.{rules, ◌≡◌, ◌∙◌, ap, map, sym, None}
 use Rattle.c_printer.specs.Reading.{read_bound}
 use Rattle.c_printer.specs.steps.Reading.{closed_bounds, last_bound}
 use Rattle.c_printer.proofs.ReadSteps.{nothing_closed}

@@ -1,6 +1,4 @@
-use Rattle.std.proofs.Common.{rules, ◌∙◌, ap, FitsSigned}
-use Rattle.std.specs.Int.{w128}
-use Rattle.std.proofs.lemmas.Int.{to_z-of_z}
+use Rattle.scop_syntax.proofs.Common.{rules, ◌∙◌, ap, FitsSigned, w128, to_z-of_z}
 use Rattle.c_printer.specs.steps.Reading.{narrow}
 use Rattle.c_printer.proofs.NarrowNumbers.{floor_told}
 use Rattle.c_printer.proofs.read_forms.narrow_floor.Goals as goal

@@ -1,8 +1,5 @@
-use Rattle.std.proofs.Common.{rules, ◌≡◌, ◌<◌, ◌≤◌, ◌++◌, ◌∷◌, [], pos, length, get_or, FitsSigned}
-use Rattle.std.specs.Int.{w64}
-use Rattle.std.specs.Prelude.{Some, None}
-use Rattle.std.proofs.lemmas.Int.{to_z-of_z}
-use Rattle.std.proofs.lemmas.List.{drop_all}
+use Rattle.scop_syntax.proofs.Common.{rules, ◌≡◌, ◌<◌, ◌≤◌, ◌++◌, ◌∷◌, [], pos, length, get_or, FitsSigned, w64, Some}
+use Rattle.scop_syntax.proofs.Common.{None, to_z-of_z, drop_all}
 use Rattle.c_printer.specs.steps.Reading.{narrow}
 use Rattle.c_printer.proofs.NarrowNumbers.{narrow_more, narrow_stops, narrow_ends, number_ahead}
 use Rattle.c_printer.proofs.read_forms.narrow_list.Goals as goal

@@ -1,5 +1,5 @@
 -- The numbers so far, in front of those to come, are all of them.
-use Rattle.std.proofs.Common.{◌≡◌, drop}
+use Rattle.scop_syntax.proofs.Common.{◌≡◌, drop}
 use Rattle.c_printer.specs.steps.Reading.{narrow_list}
 use Rattle.c_printer.proofs.NarrowNumbers.{in_front}
 use Rattle.c_printer.proofs.read_forms.narrow_list.Given as goal

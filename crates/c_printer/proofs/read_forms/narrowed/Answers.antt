@@ -1,8 +1,4 @@
-use Rattle.std.proofs.Common.{◌≡◌, ◌∙◌, ap₂, subst, List, IfOk, FitsSigned}
-use Rattle.std.specs.Int.{w128}
-use Rattle.std.specs.Prelude.{ℤ, Option}
-use Rattle.std.proofs.lemmas.Int.{to_z-of_z}
-use Rattle.whole_numbers.specs.Affine.{Affine}
+use Rattle.scop_syntax.proofs.Common.{◌≡◌, ◌∙◌, ap₂, subst, List, IfOk, FitsSigned, w128, ℤ, Option, to_z-of_z, Affine}
 use Rattle.scop_lexer.specs.Bytes.{Text}
 use Rattle.c_printer.specs.View.{form_in}
 use Rattle.c_printer.specs.steps.Reading.{form_from, narrow}

@@ -1,7 +1,4 @@
-use Rattle.std.proofs.Common.{rules, ◌≡◌, ◌∙◌, pos, FitsSigned}
-use Rattle.std.specs.Prelude.{◌<ℤ◌, ◌-ℤ◌}
-use Rattle.std.specs.Int.{w64, w128}
-use Rattle.std.proofs.lemmas.Int.{to_z-of_z}
+use Rattle.scop_syntax.proofs.Common.{rules, ◌≡◌, ◌∙◌, pos, FitsSigned, ◌<ℤ◌, ◌-ℤ◌, w64, w128, to_z-of_z}
 use Rattle.c_printer.proofs.NarrowNumbers.{quotient_over, quotient_under}
 use Rattle.c_printer.proofs.read_forms.quotient.Goals as goal
 

@@ -1,7 +1,5 @@
-use Rattle.std.proofs.Common.{rules, ◌≡◌, ◌-◌, ◌<◌, ◌≤◌, ◌++◌, ◌∷◌, [], pos, length, get_or, FitsSigned}
-use Rattle.std.specs.Int.{w64}
-use Rattle.std.specs.Prelude.{◌-ℤ◌, Some, None}
-use Rattle.std.proofs.lemmas.Int.{to_z-of_z}
+use Rattle.scop_syntax.proofs.Common.{rules, ◌≡◌, ◌-◌, ◌<◌, ◌≤◌, ◌++◌, ◌∷◌, [], pos, length, get_or, FitsSigned, w64}
+use Rattle.scop_syntax.proofs.Common.{◌-ℤ◌, Some, None, to_z-of_z}
 use Rattle.c_printer.specs.Reading.{quotient}
 use Rattle.c_printer.specs.steps.Reading.{narrow}
 use Rattle.c_printer.proofs.NarrowNumbers.{narrow_more, narrow_stops, narrow_ends, quotient_ahead, quotients_past}

@@ -1,5 +1,5 @@
 -- The quotients so far, in front of those to come, are all of them.
-use Rattle.std.proofs.Common.{◌≡◌, ◌-◌, drop, take}
+use Rattle.scop_syntax.proofs.Common.{◌≡◌, ◌-◌, drop, take}
 use Rattle.c_printer.specs.Reading.{quotients}
 use Rattle.c_printer.specs.steps.Reading.{narrow_list}
 use Rattle.c_printer.proofs.NarrowNumbers.{in_front}

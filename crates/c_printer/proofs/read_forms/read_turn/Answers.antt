@@ -1,7 +1,5 @@
-use Rattle.std.proofs.Common.{rules, ◌≡◌, ◌∙◌, ap, map, subst, List, IfOk, FitsSigned}
-use Rattle.std.specs.Int.{w128}
-use Rattle.std.specs.Prelude.{ℤ, Option, Some}
-use Rattle.whole_numbers.specs.Affine.{Affine, form_of}
+use Rattle.scop_syntax.proofs.Common.{rules, ◌≡◌, ◌∙◌, ap, map, subst, List, IfOk, FitsSigned, w128, ℤ, Option, Some}
+use Rattle.scop_syntax.proofs.Common.{Affine, form_of}
 use Rattle.scop_lexer.specs.Bytes.{Text}
 use Rattle.form_text.specs.Reading.{read_form, when}
 use Rattle.c_printer.specs.Reading.{narrowed, read_turn, turn_of}

@@ -1,6 +1,4 @@
-use Rattle.std.proofs.Common.{rules, ◌≡◌, ◌++◌, ◌∷◌, ◌<◌, ◌≤◌, [], ap, length, map}
-use Rattle.std.specs.Prelude.{Some}
-use Rattle.std.proofs.lemmas.List.{drop_all}
+use Rattle.scop_syntax.proofs.Common.{rules, ◌≡◌, ◌++◌, ◌∷◌, ◌<◌, ◌≤◌, [], ap, length, map, Some, drop_all}
 use Rattle.c_printer.specs.steps.Reading.{read_given}
 use Rattle.c_printer.proofs.PutTexts.{entry_here}
 use Rattle.c_printer.proofs.ReadSteps.{givens_more, givens_done}

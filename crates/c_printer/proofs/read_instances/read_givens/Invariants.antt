@@ -1,5 +1,5 @@
 -- The turns so far, in front of those to come over the names so far, are all of them.
-use Rattle.std.proofs.Common.{◌≡◌, drop, map}
+use Rattle.scop_syntax.proofs.Common.{◌≡◌, drop, map}
 use Rattle.c_printer.specs.Reading.{read_givens}
 use Rattle.c_printer.proofs.ReadSteps.{parts_before}
 use Rattle.c_printer.proofs.read_instances.read_givens.Given as goal

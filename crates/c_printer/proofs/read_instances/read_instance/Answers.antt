@@ -1,13 +1,11 @@
-use Rattle.std.proofs.Common.{rules, ◌≡◌, ◌∙◌, ap, map, subst, IfOk}
-use Rattle.std.specs.Prelude.{Option, Some, codes, slice_get}
+use Rattle.scop_syntax.proofs.Common.{rules, ◌≡◌, ◌∙◌, ap, map, subst, IfOk, Option, Some, codes, slice_get, program_of}
+use Rattle.scop_syntax.proofs.Common.{standings_of}
 use Rattle.scop_lexer.specs.Bytes.{Text}
-use Rattle.scop_syntax.specs.View.{program_of}
 use Rattle.loop_tree.specs.Tree.{Tree}
 use Rattle.form_text.specs.Reading.{strip, when}
 use Rattle.c_printer.specs.Reading.{body_at}
 use Rattle.c_printer.specs.View.{node_in}
 use Rattle.c_printer.specs.steps.Reading.{place_of}
-use Rattle.scop_syntax.specs.Standings.{standings_of}
 use Rattle.c_printer.proofs.BoundTexts.{placed}
 use Rattle.c_printer.proofs.read_instances.read_instance.Goals as goal
 

@@ -1,8 +1,6 @@
-use Rattle.std.proofs.Common.{rules, ◌≡◌, ◌∙◌, ◌+◌, ◌-◌, ◌<◌, ◌∷◌, [], ap, map, subst, IfOk}
-use Rattle.std.specs.Prelude.{Option, Some, None, codes}
-use Rattle.std.proofs.lemmas.List.{map-append}
+use Rattle.scop_syntax.proofs.Common.{rules, ◌≡◌, ◌∙◌, ◌+◌, ◌-◌, ◌<◌, ◌∷◌, [], ap, map, subst, IfOk, Option, Some, None}
+use Rattle.scop_syntax.proofs.Common.{codes, map-append, program_of}
 use Rattle.scop_lexer.specs.Bytes.{Text}
-use Rattle.scop_syntax.specs.View.{program_of}
 use Rattle.loop_tree.specs.Tree.{Tree}
 use Rattle.loop_tree.specs.View.{tree_of}
 use Rattle.form_text.specs.Reading.{strip}

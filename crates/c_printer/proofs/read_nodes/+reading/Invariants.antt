@@ -1,7 +1,6 @@
 -- The nodes so far, in front of those to come, are all of them; a call has fewer steps.
-use Rattle.std.proofs.Common.{◌≡◌, ◌+◌, ◌-◌, ◌*◌, map}
+use Rattle.scop_syntax.proofs.Common.{◌≡◌, ◌+◌, ◌-◌, ◌*◌, map, program_of}
 use Rattle.loop_tree.specs.View.{tree_of}
-use Rattle.scop_syntax.specs.View.{program_of}
 use Rattle.c_printer.specs.Reading.{read_nodes}
 use Rattle.c_printer.proofs.ReadSteps.{nodes_before}
 use Rattle.c_printer.proofs.read_nodes.+reading.Given as goal

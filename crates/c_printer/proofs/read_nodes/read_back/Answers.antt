@@ -1,9 +1,6 @@
-use Rattle.std.proofs.Common.{◌≡◌, sym}
-use Rattle.std.specs.Prelude.{Option, None, Some, IfSome, IsNone, option_map}
-use Rattle.std.proofs.lemmas.Result.{IfOk-weaker}
+use Rattle.scop_syntax.proofs.Common.{◌≡◌, sym, Option, None, Some, IfSome, IsNone, IfOk-weaker, Program, program_of}
+use Rattle.std.specs.Prelude.{option_map}
 use Rattle.scop_lexer.specs.Bytes.{Text}
-use Rattle.scop_syntax.specs.Tree.{Program}
-use Rattle.scop_syntax.specs.View.{program_of}
 use Rattle.loop_tree.specs.Tree.{Trees}
 use Rattle.loop_tree.specs.View.{trees_in}
 use Rattle.loop_tree.specs.declared.tree.Tree.{Tree}

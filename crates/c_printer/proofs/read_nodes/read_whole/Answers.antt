@@ -1,7 +1,7 @@
-use Rattle.std.proofs.Common.{rules, ◌≡◌, ◌∙◌, ◌+◌, suc, length, add-one, ap, subst, IfOk}
-use Rattle.std.specs.Prelude.{Option, Some, option_map}
+use Rattle.scop_syntax.proofs.Common.{rules, ◌≡◌, ◌∙◌, ◌+◌, suc, length, add-one, ap, subst, IfOk, Option, Some}
+use Rattle.scop_syntax.proofs.Common.{program_of}
+use Rattle.std.specs.Prelude.{option_map}
 use Rattle.scop_lexer.specs.Bytes.{Text}
-use Rattle.scop_syntax.specs.View.{program_of}
 use Rattle.loop_tree.specs.Tree.{Trees}
 use Rattle.loop_tree.specs.View.{trees_in}
 use Rattle.form_text.specs.Reading.{strip, when}

@@ -1,6 +1,4 @@
-use Rattle.std.proofs.Common.{rules, ◌≡◌, ◌∙◌, ◌<◌, ◌∷◌, [], ap, map}
-use Rattle.std.specs.Prelude.{Some, None, codes}
-use Rattle.std.proofs.lemmas.List.{map-append}
+use Rattle.scop_syntax.proofs.Common.{rules, ◌≡◌, ◌∙◌, ◌<◌, ◌∷◌, [], ap, map, Some, None, codes, map-append}
 use Rattle.loop_tree.specs.View.{test_of}
 use Rattle.form_text.specs.Reading.{strip}
 use Rattle.c_printer.specs.Reading.{read_more_tests, read_test, with_test}

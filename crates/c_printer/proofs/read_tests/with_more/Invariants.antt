@@ -1,6 +1,5 @@
 -- The tests so far, in front of those to come, are all of them.
-use Rattle.std.proofs.Common.{◌≡◌, ◌-◌, map}
-use Rattle.std.specs.Prelude.{Some}
+use Rattle.scop_syntax.proofs.Common.{◌≡◌, ◌-◌, map, Some}
 use Rattle.loop_tree.specs.View.{test_of}
 use Rattle.c_printer.specs.Reading.{read_more_tests, with_test}
 use Rattle.c_printer.specs.View.{test_part}

@@ -1,5 +1,5 @@
 -- The copies so far, and the names to come, are all names.
-use Rattle.std.proofs.Common.{◌≡◌, ◌++◌, drop, map}
+use Rattle.scop_syntax.proofs.Common.{◌≡◌, ◌++◌, drop, map}
 use Rattle.c_printer.proofs.texts.copies.Given as goal
 
 abbrev pub invariant-loop-at : goal.invariant-loop-at

@@ -1,4 +1,4 @@
-use Rattle.std.proofs.Common.{◌∙◌, ◌+◌, ◌-◌, ◌++◌, ℕ, List, ap, sym}
+use Rattle.scop_syntax.proofs.Common.{◌∙◌, ◌+◌, ◌-◌, ◌++◌, ℕ, List, ap, sym}
 use Rattle.std.proofs.lemmas.List.{append_assoc}
 use Rattle.c_printer.specs.Nodes.{repeated}
 use Rattle.c_printer.proofs.PutTexts.{repeated_ahead}

@@ -1,5 +1,5 @@
 -- What is put so far, and the times to come, are all of them.
-use Rattle.std.proofs.Common.{◌≡◌, ◌-◌, ◌++◌}
+use Rattle.scop_syntax.proofs.Common.{◌≡◌, ◌-◌, ◌++◌}
 use Rattle.c_printer.specs.Nodes.{repeated}
 use Rattle.c_printer.proofs.texts.put_repeated.Given as goal
 

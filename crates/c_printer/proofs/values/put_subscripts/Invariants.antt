@@ -1,5 +1,5 @@
 -- What is put so far, and the subscripts to come, are all of them.
-use Rattle.std.proofs.Common.{◌≡◌, ◌++◌, map, drop}
+use Rattle.scop_syntax.proofs.Common.{◌≡◌, ◌++◌, map, drop}
 use Rattle.c_printer.specs.Statements.{subscripts_text}
 use Rattle.c_printer.proofs.values.put_subscripts.Given as goal
 

@@ -1,5 +1,4 @@
-use Rattle.std.proofs.Common.{sym, arith}
-use Rattle.whole_numbers.proofs.Lowest.{lowest_stays}
+use Rattle.whole_numbers.proofs.Common.{sym, arith, lowest_stays}
 use Rattle.checked_tableau.proofs.contents.divide_out.Goals as goal
 
 pub returns-else-divisor-gt1 : goal.returns-else-divisor-gt1

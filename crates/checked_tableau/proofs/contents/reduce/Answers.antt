@@ -1,11 +1,6 @@
-use Rattle.std.proofs.Common.{rules, ◌≡◌, ℤ, pos, get_or, subst, sym, arith, FitsSigned}
-use Rattle.std.specs.Int.{w128}
-use Rattle.std.proofs.lemmas.Int.{ints}
-use Rattle.whole_numbers.specs.Content.{content}
-use Rattle.whole_numbers.specs.Divisors.{Divides}
+use Rattle.whole_numbers.proofs.Common.{rules, ◌≡◌, ℤ, pos, get_or, subst, sym, arith, FitsSigned, w128, ints, content}
+use Rattle.whole_numbers.proofs.Common.{Divides, content_divides, lowest_stays}
 use Rattle.whole_numbers.proofs.Divisors.{divides-le}
-use Rattle.whole_numbers.proofs.Contents.{content_divides}
-use Rattle.whole_numbers.proofs.Lowest.{lowest_stays}
 use Rattle.checked_tableau.proofs.contents.reduce.Goals as goal
 
 pub returns-then-row-eq1 : goal.returns-then-row-eq1

@@ -1,12 +1,8 @@
-use Rattle.std.proofs.Common.{rules, to_z, of_z, ◌≡◌, ◌++◌, pos, get_or, map, length, FitsSigned, arith, ap, List, ℤ, ◌≤ℤ◌}
-use Rattle.std.proofs.lemmas.Int.{ints}
-use Rattle.std.proofs.lemmas.List.{length-append, length-map}
+use Rattle.whole_numbers.proofs.Common.{rules, to_z, of_z, ◌≡◌, ◌++◌, pos, get_or, map, length, FitsSigned, arith, ap}
+use Rattle.whole_numbers.proofs.Common.{List, ℤ, ◌≤ℤ◌, ints, length-map, w128, to_z-of_z, remainder, lowest}
+use Rattle.std.proofs.lemmas.List.{length-append}
 use Rattle.tableau_rows.specs.Moves.{tied}
-use Rattle.std.specs.Int.{w128}
-use Rattle.std.proofs.lemmas.Int.{to_z-of_z}
 use Rattle.affine_forms.specs.Runs.{map_run}
-use Rattle.whole_numbers.specs.Floor.{remainder}
-use Rattle.whole_numbers.specs.Content.{lowest}
 use Rattle.checked_tableau.specs.Lines.{turned_run, behind_columns}
 use Rattle.checked_tableau.proofs.CutLines.{cut_line_run-parts, cut_line-err, cut_line-ok, all_turned_low, tied-behind}
 use Rattle.checked_tableau.proofs.CutLines.{front_positive, head_positive}

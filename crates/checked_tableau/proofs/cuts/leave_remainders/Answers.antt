@@ -1,10 +1,6 @@
-use Rattle.std.proofs.Common.{rules, ◌≡◌, ◌+◌, ◌++◌, ℤ, pos, get_or, set, map, take, drop, sym, subst, arith}
-use Rattle.std.proofs.Common.{FitsSigned}
-use Rattle.std.specs.Int.{w128}
-use Rattle.std.proofs.lemmas.Int.{to_z-of_z}
+use Rattle.whole_numbers.proofs.Common.{rules, ◌≡◌, ◌+◌, ◌++◌, ℤ, pos, get_or, set, map, take, drop, sym, subst, arith}
+use Rattle.whole_numbers.proofs.Common.{FitsSigned, w128, to_z-of_z, remainder, get_or_default}
 use Rattle.std.proofs.lemmas.List.Edits.{map_over_more}
-use Rattle.whole_numbers.specs.Floor.{remainder}
-use Rattle.std.proofs.lemmas.List.{get_or_default}
 use Rattle.checked_tableau.proofs.cuts.leave_remainders.Goals as goal
 
 pub loop-at-preserved : goal.loop-at-preserved

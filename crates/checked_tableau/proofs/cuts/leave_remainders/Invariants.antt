@@ -1,5 +1,4 @@
-use Rattle.std.proofs.Common.{◌≡◌, ◌++◌, take, drop, map}
-use Rattle.whole_numbers.specs.Floor.{remainder}
+use Rattle.whole_numbers.proofs.Common.{◌≡◌, ◌++◌, take, drop, map, remainder}
 use Rattle.checked_tableau.proofs.cuts.leave_remainders.Given as goal
 
 abbrev pub invariant-loop-at : goal.invariant-loop-at

@@ -1,4 +1,4 @@
-use Rattle.std.proofs.Common.{rules}
+use Rattle.whole_numbers.proofs.Common.{rules}
 use Rattle.checked_tableau.specs.Lines.{turned_run}
 use Rattle.checked_tableau.proofs.cuts.leave_turned_remainders.Goals as goal
 

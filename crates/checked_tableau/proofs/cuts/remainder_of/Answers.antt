@@ -1,6 +1,4 @@
-use Rattle.std.proofs.Common.{rules, arith, FitsSigned}
-use Rattle.std.specs.Int.{w128}
-use Rattle.std.proofs.lemmas.Int.{ints, to_z-of_z}
+use Rattle.whole_numbers.proofs.Common.{rules, arith, FitsSigned, w128, ints, to_z-of_z}
 use Rattle.checked_tableau.proofs.cuts.remainder_of.Goals as goal
 
 pub returns-clause-least : goal.returns-clause-least

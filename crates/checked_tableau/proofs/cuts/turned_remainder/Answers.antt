@@ -1,7 +1,5 @@
-use Rattle.std.proofs.Common.{rules, ◌≡◌, ℤ, pos, neg_ℤ, ◌-ℤ◌, ap, arith, FitsSigned, refl}
-use Rattle.std.specs.Prelude.{Ok}
-use Rattle.std.specs.Int.{w128}
-use Rattle.std.proofs.lemmas.Int.{ints, to_z-of_z}
+use Rattle.whole_numbers.proofs.Common.{rules, ◌≡◌, ℤ, pos, neg_ℤ, ◌-ℤ◌, ap, arith, FitsSigned, refl, Ok, w128, ints}
+use Rattle.whole_numbers.proofs.Common.{to_z-of_z}
 use Rattle.checked_tableau.specs.Lines.{turned_run}
 use Rattle.checked_tableau.proofs.cuts.turned_remainder.Goals as goal
 

@@ -1,6 +1,4 @@
-use Rattle.std.proofs.Common.{rules, ◌∙◌, ◌++◌, ◌∷◌, [], ℤ, ap, FitsSigned}
-use Rattle.std.specs.Int.{w128}
-use Rattle.std.proofs.lemmas.Int.{to_z-of_z}
+use Rattle.whole_numbers.proofs.Common.{rules, ◌∙◌, ◌++◌, ◌∷◌, [], ℤ, ap, FitsSigned, w128, to_z-of_z}
 use Rattle.checked_tableau.proofs.Beginnings.{form_written}
 use Rattle.checked_tableau.proofs.first.append_form.Goals as goal
 

@@ -1,6 +1,5 @@
-use Rattle.std.proofs.Common.{rules, ◌≡◌, ◌+◌, ◌++◌, ◌∷◌, [], length, take, subst, ap, sym, ◌∙◌, arith}
-use Rattle.std.proofs.lemmas.List.{take_more, take_all}
-use Rattle.whole_numbers.specs.Affine.{Affine}
+use Rattle.whole_numbers.proofs.Common.{rules, ◌≡◌, ◌+◌, ◌++◌, ◌∷◌, [], length, take, subst, ap, sym, ◌∙◌, arith}
+use Rattle.whole_numbers.proofs.Common.{take_more, take_all, Affine}
 use Rattle.tableau_rows.specs.Problem.{given_rows}
 use Rattle.checked_tableau.specs.Lines.{Holds}
 use Rattle.checked_tableau.proofs.Beginnings.{held_form}

@@ -1,4 +1,4 @@
-use Rattle.std.proofs.Common.{ℕ, ◌+◌, List, ◌++◌, take}
+use Rattle.whole_numbers.proofs.Common.{ℕ, ◌+◌, List, ◌++◌, take}
 use Rattle.tableau_rows.specs.Rows.{Row}
 use Rattle.tableau_rows.specs.Problem.{given_rows}
 use Rattle.checked_tableau.specs.Lines.{Holds}

@@ -1,4 +1,4 @@
-use Rattle.std.proofs.Common.{rules, ◌≡◌, ◌+◌, ◌++◌, suc, length, subst, sym, ◌∙◌, arith}
+use Rattle.whole_numbers.proofs.Common.{rules, ◌≡◌, ◌+◌, ◌++◌, suc, length, subst, sym, ◌∙◌, arith}
 use Rattle.tableau_rows.specs.Problem.{unit_rows}
 use Rattle.tableau_rows.specs.Moves.{unit_line}
 use Rattle.checked_tableau.specs.Lines.{Holds}

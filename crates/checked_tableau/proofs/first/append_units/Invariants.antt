@@ -1,4 +1,4 @@
-use Rattle.std.proofs.Common.{◌≡◌, ℕ, suc, length}
+use Rattle.whole_numbers.proofs.Common.{◌≡◌, ℕ, suc, length}
 use Rattle.tableau_rows.specs.Problem.{unit_rows}
 use Rattle.checked_tableau.specs.Lines.{Holds}
 use Rattle.checked_tableau.proofs.first.append_units.Given as goal

@@ -1,4 +1,4 @@
-use Rattle.std.proofs.Common.{◌+◌, ◌++◌, ℕ, length, subst, sym}
+use Rattle.whole_numbers.proofs.Common.{◌+◌, ◌++◌, ℕ, length, subst, sym}
 use Rattle.tableau_rows.specs.Problem.{unit_rows, given_rows}
 use Rattle.checked_tableau.specs.Lines.{Holds}
 use Rattle.checked_tableau.proofs.first.first_lines.Goals as goal

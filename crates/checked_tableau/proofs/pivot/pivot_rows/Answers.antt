@@ -1,7 +1,5 @@
-use Rattle.std.proofs.Common.{◌≡◌, ◌+◌, ◌-◌, ◌*◌, ℕ, length, take, drop, sym, subst, refl, arith, add-one}
-use Rattle.std.specs.Prelude.{suc}
-use Rattle.std.proofs.lemmas.List.{length-take-le, length-drop}
-use Rattle.std.proofs.Math.Nat.{suc-mul}
+use Rattle.whole_numbers.proofs.Common.{◌≡◌, ◌+◌, ◌-◌, ◌*◌, ℕ, length, take, drop, sym, subst, refl, arith, add-one}
+use Rattle.whole_numbers.proofs.Common.{suc, length-take-le, length-drop, suc-mul}
 use borrow.Rule.Slice.PartMut.{put_mid}
 use Rattle.affine_forms.proofs.Steps.{with_front}
 use Rattle.tableau_rows.specs.Moves.{buffer_run, HeadsPositive}

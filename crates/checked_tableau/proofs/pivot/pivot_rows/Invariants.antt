@@ -1,4 +1,4 @@
-use Rattle.std.proofs.Common.{◌≡◌, ◌-◌, ◌+◌, ◌*◌, length, take, drop}
+use Rattle.whole_numbers.proofs.Common.{◌≡◌, ◌-◌, ◌+◌, ◌*◌, length, take, drop}
 use Rattle.affine_forms.proofs.Steps.{with_front}
 use Rattle.tableau_rows.specs.Moves.{buffer_run, HeadsPositive}
 use Rattle.checked_tableau.proofs.pivot.pivot_rows.Given as goal

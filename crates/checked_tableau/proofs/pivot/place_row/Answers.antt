@@ -1,6 +1,4 @@
-use Rattle.std.proofs.Common.{rules, arith, ◌≡◌, ◌+◌, FitsSigned, get_or, pos}
-use Rattle.std.specs.Int.{w128}
-use Rattle.std.proofs.lemmas.Int.{ints, to_z-of_z}
+use Rattle.whole_numbers.proofs.Common.{rules, arith, ◌≡◌, ◌+◌, FitsSigned, get_or, pos, w128, ints, to_z-of_z}
 use Rattle.tableau_rows.proofs.Buffers.{line_run-head, placed-err, placed-other}
 use Rattle.checked_tableau.proofs.MultipliedRows.{placed_alone}
 use Rattle.checked_tableau.proofs.pivot.place_row.Goals as goal

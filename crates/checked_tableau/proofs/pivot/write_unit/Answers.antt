@@ -1,5 +1,4 @@
-use Rattle.std.proofs.Common.{ℤ, List, pos, set, ◌+◌, length, ap, ◌∙◌}
-use Rattle.whole_numbers.proofs.Dot.{replicate-zeros}
+use Rattle.whole_numbers.proofs.Common.{ℤ, List, pos, set, ◌+◌, length, ap, ◌∙◌, replicate-zeros}
 use Rattle.checked_tableau.proofs.pivot.write_unit.Goals as goal
 
 pub returns : goal.returns

@@ -1,9 +1,5 @@
-use Rattle.std.proofs.Common.{rules, ◌-◌, ◌+◌, ℤ, pos, get_or, List, drop, set, ◌++◌, length, sym, ◌∙◌, subst, arith}
-use Rattle.std.proofs.Common.{FitsSigned}
-use Rattle.std.specs.Prelude.{Result}
-use Rattle.std.specs.Int.{w128}
-use Rattle.std.proofs.lemmas.Int.{to_z-of_z}
-use Rattle.std.proofs.lemmas.List.{take_all, length-drop}
+use Rattle.whole_numbers.proofs.Common.{rules, ◌-◌, ◌+◌, ℤ, pos, get_or, List, drop, set, ◌++◌, length, sym, ◌∙◌, subst}
+use Rattle.whole_numbers.proofs.Common.{arith, FitsSigned, Result, w128, to_z-of_z, take_all, length-drop}
 use Rattle.wide_math.specs.declared.Wide.{Wide}
 use Rattle.wide_math.specs.Checked.{product_of}
 use Rattle.wide_math.specs.Gives.{Becomes}

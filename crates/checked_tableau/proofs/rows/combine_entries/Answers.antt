@@ -1,9 +1,6 @@
-use Rattle.std.proofs.Common.{rules, ◌-◌, ◌+◌, ℤ, pos, get_or, List, take, drop, set, ◌++◌, length, sym, ◌∙◌, subst}
-use Rattle.std.proofs.Common.{arith, FitsSigned}
-use Rattle.std.specs.Prelude.{Result}
-use Rattle.std.specs.Int.{w128}
-use Rattle.std.proofs.lemmas.Int.{to_z-of_z}
-use Rattle.std.proofs.lemmas.List.{take_all, length-drop, length-take-le}
+use Rattle.whole_numbers.proofs.Common.{rules, ◌-◌, ◌+◌, ℤ, pos, get_or, List, take, drop, set, ◌++◌, length, sym, ◌∙◌}
+use Rattle.whole_numbers.proofs.Common.{subst, arith, FitsSigned, Result, w128, to_z-of_z, take_all, length-drop}
+use Rattle.whole_numbers.proofs.Common.{length-take-le}
 use Rattle.wide_math.specs.declared.Wide.{Wide}
 use Rattle.wide_math.specs.Checked.{product_of}
 use Rattle.wide_math.specs.Gives.{Becomes}

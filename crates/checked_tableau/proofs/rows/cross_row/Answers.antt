@@ -1,4 +1,4 @@
-use Rattle.std.proofs.Common.{rules}
+use Rattle.whole_numbers.proofs.Common.{rules}
 use Rattle.wide_math.specs.Checked.{cross_of}
 use Rattle.tableau_rows.specs.Moves.{crossed_run}
 use Rattle.checked_tableau.proofs.rows.cross_row.Goals as goal

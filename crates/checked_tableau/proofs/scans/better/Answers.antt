@@ -1,5 +1,5 @@
-use Rattle.std.proofs.Common.{rules, arith, ◌≡◌, ◌∙◌, ℕ, Bool, true, false, length, ap, sym}
-use Rattle.std.specs.Prelude.{Option, Some, Result, Ok, Err, if◌then◌else◌}
+use Rattle.whole_numbers.proofs.Common.{rules, arith, ◌≡◌, ◌∙◌, ℕ, Bool, true, false, length, ap, sym, Option, Some}
+use Rattle.whole_numbers.proofs.Common.{Result, Ok, Err, if◌then◌else◌}
 use Rattle.wide_math.specs.declared.Wide.{Wide}
 use Rattle.wide_math.specs.Checked.{◌>>=◌}
 use Rattle.tableau_rows.specs.Moves.{line_row, rows_in, better_run}

@@ -1,4 +1,4 @@
-use Rattle.std.proofs.Common.{arith, add-one, ◌+◌, ◌-◌, length, sym}
+use Rattle.whole_numbers.proofs.Common.{arith, add-one, ◌+◌, ◌-◌, length, sym}
 use Rattle.tableau_rows.specs.Moves.{line_row, rows_in}
 use Rattle.checked_tableau.proofs.RowScans.{column_past}
 use Rattle.checked_tableau.proofs.scans.choose.Goals as goal

@@ -1,5 +1,4 @@
-use Rattle.std.proofs.Common.{◌≡◌, ℕ, ◌-◌, length}
-use Rattle.std.specs.Prelude.{None, Some}
+use Rattle.whole_numbers.proofs.Common.{◌≡◌, ℕ, ◌-◌, length, None, Some}
 use Rattle.tableau_rows.specs.Moves.{line_row, rows_in, column_run}
 use Rattle.checked_tableau.specs.Leads.{Leads}
 use Rattle.checked_tableau.proofs.scans.choose.Given as goal

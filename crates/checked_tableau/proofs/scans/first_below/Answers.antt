@@ -1,4 +1,4 @@
-use Rattle.std.proofs.Common.{rules, arith, add-one, ◌-◌, ◌+◌, ◌++◌, ◌≡◌, length}
+use Rattle.whole_numbers.proofs.Common.{rules, arith, add-one, ◌-◌, ◌+◌, ◌++◌, ◌≡◌, length}
 use Rattle.tableau_rows.specs.Moves.{rows_in}
 use Rattle.tableau_rows.specs.Run.{first_row, has_below}
 use Rattle.checked_tableau.proofs.RowScans.{first_past, length_rest, line_ahead}

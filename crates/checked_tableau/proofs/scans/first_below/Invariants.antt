@@ -1,4 +1,4 @@
-use Rattle.std.proofs.Common.{◌≡◌, ◌*◌, ◌-◌, length}
+use Rattle.whole_numbers.proofs.Common.{◌≡◌, ◌*◌, ◌-◌, length}
 use Rattle.tableau_rows.specs.Moves.{rows_in}
 use Rattle.tableau_rows.specs.Run.{first_row, has_below}
 use Rattle.checked_tableau.proofs.scans.first_below.Given as goal

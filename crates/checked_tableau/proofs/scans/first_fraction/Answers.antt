@@ -1,4 +1,4 @@
-use Rattle.std.proofs.Common.{rules, arith, add-one, ◌-◌, ◌+◌, ◌++◌, ◌≡◌, length}
+use Rattle.whole_numbers.proofs.Common.{rules, arith, add-one, ◌-◌, ◌+◌, ◌++◌, ◌≡◌, length}
 use Rattle.tableau_rows.specs.Moves.{rows_in}
 use Rattle.tableau_rows.specs.Run.{first_row, has_fraction}
 use Rattle.checked_tableau.proofs.RowScans.{first_found, first_past, length_rest, line_ahead, heads_rest}

@@ -1,4 +1,4 @@
-use Rattle.std.proofs.Common.{◌≡◌, ◌*◌, ◌-◌, length}
+use Rattle.whole_numbers.proofs.Common.{◌≡◌, ◌*◌, ◌-◌, length}
 use Rattle.tableau_rows.specs.Moves.{rows_in, HeadsPositive}
 use Rattle.tableau_rows.specs.Run.{first_row, has_fraction}
 use Rattle.checked_tableau.proofs.scans.first_fraction.Given as goal

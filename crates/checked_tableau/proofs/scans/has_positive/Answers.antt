@@ -1,4 +1,4 @@
-use Rattle.std.proofs.Common.{rules, arith, add-one, ◌-◌, ◌+◌}
+use Rattle.whole_numbers.proofs.Common.{rules, arith, add-one, ◌-◌, ◌+◌}
 use Rattle.tableau_rows.specs.Moves.{line_row}
 use Rattle.tableau_rows.specs.Run.{some_positive}
 use Rattle.checked_tableau.proofs.RowScans.{positive_past}

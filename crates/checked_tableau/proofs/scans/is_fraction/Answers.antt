@@ -1,7 +1,5 @@
-use Rattle.std.proofs.Common.{rules, ◌≡◌, ◌+◌, ℤ, pos, get_or, ap, sym, ◌∙◌, FitsSigned}
-use Rattle.std.specs.Int.{w128}
-use Rattle.std.proofs.lemmas.Int.{to_z-of_z}
-use Rattle.whole_numbers.specs.Floor.{remainder}
+use Rattle.whole_numbers.proofs.Common.{rules, ◌≡◌, ◌+◌, ℤ, pos, get_or, ap, sym, ◌∙◌, FitsSigned, w128, to_z-of_z}
+use Rattle.whole_numbers.proofs.Common.{remainder}
 use Rattle.tableau_rows.specs.Rows.{entry}
 use Rattle.tableau_rows.specs.Moves.{line_row, is_positive}
 use Rattle.tableau_rows.proofs.Lines.{entry_at}

@@ -1,8 +1,5 @@
-use Rattle.std.proofs.Common.{rules, arith, ◌-◌, ◌+◌, ◌++◌, ◌≡◌, length, pos, get_or, Bool, true, false, FitsSigned}
-use Rattle.std.proofs.Common.{◌-ℤ◌}
-use Rattle.std.specs.Prelude.{Result, Ok, if◌then◌else◌}
-use Rattle.std.specs.Int.{w128}
-use Rattle.std.proofs.lemmas.Int.{to_z-of_z, ints}
+use Rattle.whole_numbers.proofs.Common.{rules, arith, ◌-◌, ◌+◌, ◌++◌, ◌≡◌, length, pos, get_or, Bool, true, false}
+use Rattle.whole_numbers.proofs.Common.{FitsSigned, ◌-ℤ◌, Result, Ok, if◌then◌else◌, w128, to_z-of_z, ints}
 use Rattle.wide_math.specs.declared.Wide.{Wide}
 use Rattle.tableau_rows.specs.Moves.{rows_in, is_below, precedes_run}
 use Rattle.checked_tableau.proofs.RowScans.{compared_run, precedes_here, here_before, here_behind, here_equal}

@@ -1,4 +1,4 @@
-use Rattle.std.proofs.Common.{◌≡◌, ◌*◌, ◌+◌, ◌-◌, length, get_or, pos}
+use Rattle.whole_numbers.proofs.Common.{◌≡◌, ◌*◌, ◌+◌, ◌-◌, length, get_or, pos}
 use Rattle.tableau_rows.specs.Moves.{rows_in, precedes_run}
 use Rattle.checked_tableau.proofs.scans.precedes.Given as goal
 

@@ -1,7 +1,5 @@
-use Rattle.std.proofs.Common.{rules, ◌≡◌, All, true, FitsSigned, List, ℤ, pos, get_or, subst, arith}
-use Rattle.std.specs.Int.{w64}
-use Rattle.std.proofs.lemmas.List.{take_all}
-use Rattle.std.proofs.lemmas.List.Elements.{All-more}
+use Rattle.whole_numbers.proofs.Common.{rules, ◌≡◌, All, true, FitsSigned, List, ℤ, pos, get_or, subst, arith, w64}
+use Rattle.whole_numbers.proofs.Common.{take_all, All-more}
 use Rattle.checked_tableau.proofs.staying.are_narrow.Goals as goal
 
 pub loop-at-preserved : goal.loop-at-preserved

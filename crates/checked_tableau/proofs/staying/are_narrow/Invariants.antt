@@ -1,5 +1,4 @@
-use Rattle.std.proofs.Common.{All, FitsSigned, take}
-use Rattle.std.specs.Int.{w64}
+use Rattle.whole_numbers.proofs.Common.{All, FitsSigned, take, w64}
 use Rattle.checked_tableau.proofs.staying.are_narrow.Given as goal
 
 abbrev pub invariant-loop-at : goal.invariant-loop-at

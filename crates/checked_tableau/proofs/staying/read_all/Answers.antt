@@ -1,7 +1,5 @@
-use Rattle.std.proofs.Common.{rules, All, FitsSigned, List, ℤ, pos, get_or, subst, arith}
-use Rattle.std.specs.Int.{w128}
-use Rattle.std.proofs.lemmas.List.{take_all}
-use Rattle.std.proofs.lemmas.List.Elements.{All-more}
+use Rattle.whole_numbers.proofs.Common.{rules, All, FitsSigned, List, ℤ, pos, get_or, subst, arith, w128, take_all}
+use Rattle.whole_numbers.proofs.Common.{All-more}
 use Rattle.checked_tableau.proofs.staying.read_all.Goals as goal
 
 pub loop-at-preserved : goal.loop-at-preserved

@@ -1,5 +1,4 @@
-use Rattle.std.proofs.Common.{rules, ◌≡◌, true, FitsSigned, pos}
-use Rattle.std.specs.Int.{w64, w128}
+use Rattle.whole_numbers.proofs.Common.{rules, ◌≡◌, true, FitsSigned, pos, w64, w128}
 use Rattle.checked_tableau.proofs.MultipliedRows.{one_fits, narrow_fit}
 use Rattle.checked_tableau.proofs.staying.surely_fit.Goals as goal
 

@@ -1,4 +1,4 @@
-use Rattle.std.proofs.Common.{rules, ◌≡◌, ◌++◌, length, ap, ◌∙◌}
+use Rattle.whole_numbers.proofs.Common.{rules, ◌≡◌, ◌++◌, length, ap, ◌∙◌}
 use Rattle.tableau_rows.specs.Moves.{line_row, row_at, rows_in}
 use Rattle.checked_tableau.specs.Lines.{behind_columns}
 use Rattle.checked_tableau.proofs.Tables.{head_sized}

@@ -1,4 +1,4 @@
-use Rattle.std.proofs.Common.{◌≡◌, ◌+◌, ◌-◌, ◌*◌, take, drop, subst, sym, arith}
+use Rattle.whole_numbers.proofs.Common.{◌≡◌, ◌+◌, ◌-◌, ◌*◌, take, drop, subst, sym, arith}
 use Rattle.tableau_rows.specs.Moves.{line_row, row_at, rows_in}
 use Rattle.checked_tableau.proofs.Tables.{line_in}
 use Rattle.checked_tableau.proofs.table.line_at.Goals as goal

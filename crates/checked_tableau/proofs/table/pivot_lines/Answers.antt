@@ -1,4 +1,4 @@
-use Rattle.std.proofs.Common.{arith, length, ◌≡◌, ap, ◌∙◌}
+use Rattle.whole_numbers.proofs.Common.{arith, length, ◌≡◌, ap, ◌∙◌}
 use Rattle.tableau_rows.specs.Moves.{line_row, row_at, rows_in}
 use Rattle.checked_tableau.proofs.Tables.{pivot_in_buffer}
 use Rattle.checked_tableau.proofs.table.pivot_lines.Goals as goal

@@ -1,6 +1,5 @@
+use Rattle.scop_syntax.proofs.Common.{◌∙◌, map, subst, sym, string_bytes}
 use Rattle.command_callers.proofs.CallLemmas.{certificate_line, rejected_by}
-use Rattle.std.proofs.Common.{◌∙◌, map, subst, sym}
-use Rattle.std.specs.Prelude.{string_bytes}
 use Rattle.polypar.specs.Answered.{IsDeserved}
 use Rattle.command_callers.proofs.calls.answered_certificate.Goals as goal
 

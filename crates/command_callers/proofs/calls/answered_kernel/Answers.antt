@@ -1,5 +1,4 @@
-use Rattle.std.proofs.Common.{false, subst}
-use Rattle.std.specs.Io.KnownBytes.{Appends}
+use Rattle.scop_syntax.proofs.Common.{false, subst, Appends}
 use Rattle.loop_tree.specs.Plans.{AreMarked}
 use Rattle.polypar.proofs.ReadingLemmas.{planned_carried}
 use Rattle.command_callers.proofs.calls.answered_kernel.Goals as goal

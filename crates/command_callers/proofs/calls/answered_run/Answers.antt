@@ -1,6 +1,5 @@
+use Rattle.scop_syntax.proofs.Common.{◌∙◌, ◌++◌, [], ap, append-nil, subst, Option, Appends}
 use Rattle.command_callers.proofs.CallLemmas.{reported}
-use Rattle.std.proofs.Common.{◌∙◌, ◌++◌, [], ap, append-nil, subst, Option}
-use Rattle.std.specs.Io.KnownBytes.{Appends}
 use Rattle.report_text.specs.declared.unexpanded_line.UnexpandedLine.{UnexpandedLine}
 use Rattle.polypar.specs.Runs.{unexpanded_line}
 use Rattle.command_callers.proofs.calls.answered_run.Goals as goal

@@ -1,7 +1,5 @@
+use Rattle.scop_syntax.proofs.Common.{map, subst, string_bytes, Appends}
 use Rattle.command_callers.proofs.CallLemmas.{data_line, faulted}
-use Rattle.std.proofs.Common.{map, subst}
-use Rattle.std.specs.Prelude.{string_bytes}
-use Rattle.std.specs.Io.KnownBytes.{Appends}
 use Rattle.polypar.specs.Answered.{HasLines}
 use Rattle.command_callers.proofs.calls.ended_call.Goals as goal
 

@@ -1,8 +1,5 @@
 -- The getter reads the flag's text as a truth.
-use Rattle.std.proofs.Common.{◌∙◌, sym, ap, false}
-use Rattle.std.specs.Prelude.{codes, unwrap_or}
-use Rattle.std.specs.Option.{option_map_or}
-use Rattle.std.specs.Str.{bytes_eq}
+use Rattle.scop_syntax.proofs.Common.{◌∙◌, sym, ap, false, codes, unwrap_or, option_map_or, bytes_eq}
 use Rattle.std.specs.declared.str.ParseBoolError.{ParseBoolError}
 use Rattle.clap.specs.Words.{found_of, one_text}
 use Rattle.clap.proofs.WalkLemmas.{one_text-rows}

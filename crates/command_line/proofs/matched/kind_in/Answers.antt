@@ -1,6 +1,6 @@
 -- The getter gives the argument's text, which names the kind.
-use Rattle.std.proofs.Common.{◌≡◌, ◌∙◌, sym, ap, None, Some}
-use Rattle.std.specs.Prelude.{codes, option_and_then, option_map}
+use Rattle.scop_syntax.proofs.Common.{◌≡◌, ◌∙◌, sym, ap, None, Some, codes, option_and_then}
+use Rattle.std.specs.Prelude.{option_map}
 use Rattle.clap.specs.Words.{first_of, found_of, rows_of}
 use Rattle.clap.proofs.WalkLemmas.{first_value-rows}
 use Rattle.command_line.specs.Command.{kind_named}

@@ -1,7 +1,6 @@
 -- The getter gives the option's text, which names the way.
-use Rattle.std.proofs.Common.{◌≡◌, ◌∙◌, sym, ap, None, Some}
-use Rattle.std.specs.Prelude.{codes, option_map}
-use Rattle.std.specs.Option.{option_map_or}
+use Rattle.scop_syntax.proofs.Common.{◌≡◌, ◌∙◌, sym, ap, None, Some, codes, option_map_or}
+use Rattle.std.specs.Prelude.{option_map}
 use Rattle.clap.specs.Words.{first_of, found_of, rows_of}
 use Rattle.clap.proofs.WalkLemmas.{first_value-rows}
 use Rattle.command_line.specs.Command.{sync_named}

@@ -1,4 +1,4 @@
-use Rattle.std.specs.Prelude.{codes}
+use Rattle.scop_syntax.proofs.Common.{codes}
 use Rattle.command_line.specs.Stated.{budget_tool, most_tile, number_option}
 use Rattle.command_line.proofs.stated.emit_command.Goals as goal
 

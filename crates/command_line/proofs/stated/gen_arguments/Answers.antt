@@ -1,5 +1,5 @@
 -- Each argument is added to the command that stands.
-use Rattle.std.specs.Prelude.{codes}
+use Rattle.scop_syntax.proofs.Common.{codes}
 use Rattle.clap.specs.Words.{App, new_app, with_rule}
 use Rattle.command_line.specs.Stated.{IsCommand, most_size, wanted, wanted_number}
 use Rattle.command_line.proofs.stated.gen_arguments.Goals as goal

@@ -1,4 +1,4 @@
-use Rattle.std.specs.Prelude.{codes}
+use Rattle.scop_syntax.proofs.Common.{codes}
 use Rattle.clap.specs.Words.{App, new_app, with_rule}
 use Rattle.command_line.specs.Stated.{IsCommand, flag, sync_option, with_run_options}
 use Rattle.command_line.proofs.stated.run_command.Goals as goal

@@ -1,5 +1,5 @@
 -- Each command is added to the one that stands.
-use Rattle.std.specs.Prelude.{codes}
+use Rattle.scop_syntax.proofs.Common.{codes}
 use Rattle.clap.specs.Words.{App, with_subcommand}
 use Rattle.command_line.specs.Stated.{budget_tool, emit_tool}
 use Rattle.command_line.proofs.stated.with_kernel_commands.Goals as goal

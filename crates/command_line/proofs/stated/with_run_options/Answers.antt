@@ -1,5 +1,5 @@
 -- Each option is added to the command that stands.
-use Rattle.std.specs.Prelude.{codes}
+use Rattle.scop_syntax.proofs.Common.{codes}
 use Rattle.clap.specs.Words.{with_rule}
 use Rattle.command_line.specs.Stated.{most_moves, most_tile, most_workers, number_option}
 use Rattle.command_line.proofs.stated.with_run_options.Goals as goal

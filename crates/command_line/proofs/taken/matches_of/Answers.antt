@@ -1,4 +1,4 @@
-use Rattle.std.proofs.Common.{◌∙◌, map, string_bytes, Ok, Err}
+use Rattle.scop_syntax.proofs.Common.{◌∙◌, map, string_bytes, Ok, Err}
 use Rattle.clap.specs.Words.{fault_of}
 use Rattle.clap.specs.declared.parser.matches.ArgMatches.{ArgMatches}
 use Rattle.command_line.specs.Stated.{tool}

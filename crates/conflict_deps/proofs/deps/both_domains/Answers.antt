@@ -1,4 +1,4 @@
-use Rattle.std.proofs.Common.{◌≡◌, ap, ◌∙◌}
+use Rattle.scop_syntax.proofs.Common.{◌≡◌, ap, ◌∙◌}
 use Rattle.integer_sets.specs.Constraints.{Constraints}
 use Rattle.conflict_deps.specs.Conflicts.{loops_of}
 use Rattle.conflict_deps.specs.View.{side_of}

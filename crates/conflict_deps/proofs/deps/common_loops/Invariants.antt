@@ -1,5 +1,4 @@
-use Rattle.std.proofs.Common.{◌≡◌, ◌+◌, drop}
-use Rattle.scop_syntax.specs.Order.{common}
+use Rattle.scop_syntax.proofs.Common.{◌≡◌, ◌+◌, drop, common}
 use Rattle.conflict_deps.proofs.deps.common_loops.Given as goal
 
 abbrev pub invariant-loop-at : goal.invariant-loop-at

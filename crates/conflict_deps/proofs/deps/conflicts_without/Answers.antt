@@ -1,6 +1,4 @@
-use Rattle.std.proofs.Common.{◌≡◌, List, subst}
-use Rattle.std.specs.Prelude.{All}
-use Rattle.std.specs.List.{flat_map}
+use Rattle.scop_syntax.proofs.Common.{◌≡◌, List, subst, All, flat_map}
 use Rattle.iteration_domains.specs.Dependence.{Dependence}
 use Rattle.iteration_domains.specs.Sizes.{HaveOneCount}
 use Rattle.conflict_deps.specs.Conflicts.{Side, deps_on, sides_of}

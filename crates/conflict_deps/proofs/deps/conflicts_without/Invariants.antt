@@ -1,5 +1,4 @@
-use Rattle.std.proofs.Common.{◌≡◌, ◌++◌, drop}
-use Rattle.std.specs.List.{flat_map}
+use Rattle.scop_syntax.proofs.Common.{◌≡◌, ◌++◌, drop, flat_map}
 use Rattle.conflict_deps.specs.Conflicts.{deps_on, sides_of}
 use Rattle.conflict_deps.proofs.deps.conflicts_without.Given as goal
 

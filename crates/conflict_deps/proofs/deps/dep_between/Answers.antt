@@ -1,4 +1,4 @@
-use Rattle.std.proofs.Common.{◌≡◌, ◌+◌, ap, ◌∙◌, sym, subst, arith}
+use Rattle.scop_syntax.proofs.Common.{◌≡◌, ◌+◌, ap, ◌∙◌, sym, subst, arith}
 use Rattle.integer_sets.specs.Constraints.{Constraints}
 use Rattle.iteration_domains.specs.Dependence.{IsDependence, dependence}
 use Rattle.conflict_deps.specs.Conflicts.{loops_of, pair_size, tests_between, dep_of}

@@ -1,6 +1,5 @@
-use Rattle.std.proofs.Common.{ap, ◌∙◌, refl}
+use Rattle.scop_syntax.proofs.Common.{ap, ◌∙◌, refl, Access}
 use Rattle.integer_sets.specs.Constraints.{Constraints}
-use Rattle.scop_syntax.specs.Tree.{Access}
 use Rattle.conflict_deps.specs.View.{side_of}
 use Rattle.conflict_deps.proofs.Shapes.{cells_gained, cells_put}
 use Rattle.conflict_deps.proofs.deps.push_cell.Goals as goal

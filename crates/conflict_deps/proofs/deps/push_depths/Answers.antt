@@ -1,5 +1,4 @@
-use Rattle.std.proofs.Common.{◌++◌, map, arith}
-use Rattle.std.specs.Prelude.{nat_lt}
+use Rattle.scop_syntax.proofs.Common.{◌++◌, map, arith, nat_lt}
 use Rattle.conflict_deps.specs.Conflicts.{afters_of, dep_of}
 use Rattle.conflict_deps.specs.View.{side_of}
 use Rattle.conflict_deps.proofs.Sides.{common_right}

@@ -1,5 +1,4 @@
-use Rattle.std.proofs.Common.{◌≡◌, ◌-◌, ◌++◌, map}
-use Rattle.std.specs.Prelude.{nat_lt}
+use Rattle.scop_syntax.proofs.Common.{◌≡◌, ◌-◌, ◌++◌, map, nat_lt}
 use Rattle.conflict_deps.specs.Conflicts.{afters, afters_of, dep_of, loops_of, pair_size}
 use Rattle.conflict_deps.specs.View.{side_of}
 use Rattle.conflict_deps.proofs.deps.push_depths.Given as goal

@@ -1,6 +1,4 @@
-use Rattle.std.proofs.Common.{◌≡◌, ◌++◌, ap, subst, sym, ◌∙◌}
-use Rattle.std.specs.Prelude.{All}
-use Rattle.std.specs.List.{flat_map}
+use Rattle.scop_syntax.proofs.Common.{◌≡◌, ◌++◌, ap, subst, sym, ◌∙◌, All, flat_map}
 use Rattle.iteration_domains.specs.Sizes.{HaveOneCount}
 use Rattle.conflict_deps.specs.Conflicts.{deps_between, sides_of}
 use Rattle.conflict_deps.specs.View.{side_of}

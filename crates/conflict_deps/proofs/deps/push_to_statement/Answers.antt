@@ -1,5 +1,4 @@
-use Rattle.std.proofs.Common.{◌++◌}
-use Rattle.std.specs.List.{flat_map}
+use Rattle.scop_syntax.proofs.Common.{◌++◌, flat_map}
 use Rattle.conflict_deps.specs.Conflicts.{deps_between, sides_from}
 use Rattle.conflict_deps.specs.View.{side_of}
 use Rattle.conflict_deps.proofs.GatheredDependences.{pair_can, sides_step}

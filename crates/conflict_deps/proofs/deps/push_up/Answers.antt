@@ -1,4 +1,4 @@
-use Rattle.std.proofs.Common.{ap, ◌∙◌, refl}
+use Rattle.scop_syntax.proofs.Common.{ap, ◌∙◌, refl}
 use Rattle.integer_sets.specs.Constraints.{Constraints}
 use Rattle.conflict_deps.specs.View.{side_of}
 use Rattle.conflict_deps.proofs.Shapes.{up_gained, up_put}

@@ -1,5 +1,4 @@
-use Rattle.std.proofs.Common.{◌∙◌, ap, ◌++◌, ◌∷◌, []}
-use Rattle.whole_numbers.specs.Affine.{Affine}
+use Rattle.scop_syntax.proofs.Common.{◌∙◌, ap, ◌++◌, ◌∷◌, [], Affine}
 use Rattle.conflict_deps.proofs.Shapes.{turns_step}
 use Rattle.conflict_deps.proofs.forms.push_equal_turns.Goals as goal
 

@@ -1,4 +1,4 @@
-use Rattle.whole_numbers.proofs.Entries.{map_more, map_end}
+use Rattle.scop_syntax.proofs.Common.{map_more, map_end}
 use Rattle.conflict_deps.specs.Conflicts.{source_form}
 use Rattle.conflict_deps.proofs.forms.push_sources.Goals as goal
 

@@ -1,4 +1,4 @@
-use Rattle.std.proofs.Common.{◌++◌}
+use Rattle.scop_syntax.proofs.Common.{◌++◌}
 use Rattle.iteration_domains.specs.Constraints.{equalities_in}
 use Rattle.conflict_deps.specs.Conflicts.{same_subscripts}
 use Rattle.conflict_deps.proofs.Shapes.{cells_more, cells_all, cells_end}

@@ -1,4 +1,4 @@
-use Rattle.std.proofs.Common.{◌≡◌, ◌++◌, drop}
+use Rattle.scop_syntax.proofs.Common.{◌≡◌, ◌++◌, drop}
 use Rattle.iteration_domains.specs.Constraints.{equalities_in}
 use Rattle.conflict_deps.specs.Conflicts.{same_subscripts}
 use Rattle.conflict_deps.proofs.forms.push_subscripts.Given as goal

@@ -1,4 +1,4 @@
-use Rattle.std.proofs.Common.{◌≡◌, ◌++◌, map, drop}
+use Rattle.scop_syntax.proofs.Common.{◌≡◌, ◌++◌, map, drop}
 use Rattle.conflict_deps.specs.Conflicts.{target_form}
 use Rattle.conflict_deps.proofs.forms.push_targets.Given as goal
 

@@ -1,5 +1,4 @@
-use Rattle.std.proofs.Common.{◌+◌, ◌≤◌, subst, sym, arith}
-use Rattle.whole_numbers.specs.Affine.{Affine}
+use Rattle.scop_syntax.proofs.Common.{◌+◌, ◌≤◌, subst, sym, arith, Affine}
 use Rattle.iteration_domains.specs.Sizes.{form_size}
 use Rattle.iteration_domains.proofs.Sizes.{size-variable}
 use Rattle.conflict_deps.proofs.forms.turn_difference.Goals as goal

@@ -1,6 +1,6 @@
+use Rattle.scop_syntax.proofs.Common.{walk_of}
 use Rattle.conflict_deps.proofs.Sources.{last_writes, no_later, none_before}
 use Rattle.conflict_deps.proofs.source_laws.last_writers_are_last_points.Goals as goal
-use Rattle.scop_syntax.specs.Walk.{walk_of}
 
 pub returns-clause-last : goal.returns-clause-last
 returns-clause-last c = λ program params i j w b cell count up touches is.

@@ -1,8 +1,5 @@
-use Rattle.std.proofs.Common.{◌≡◌, ℕ, zero, suc, List, pos, negsuc, [], ◌∷◌, ◌++◌, refl, arith}
-use Rattle.std.specs.Prelude.{◌*ℤ◌, ◌≤ℤ◌}
-use Rattle.std.proofs.lemmas.Int.{ints}
-use Rattle.std.proofs.lemmas.List.Elements.{All-from_recursion}
-use Rattle.whole_numbers.specs.Affine.{Affine, form_of}
+use Rattle.scop_syntax.proofs.Common.{◌≡◌, ℕ, zero, suc, List, pos, negsuc, [], ◌∷◌, ◌++◌, refl, arith, ◌*ℤ◌, ◌≤ℤ◌}
+use Rattle.scop_syntax.proofs.Common.{ints, All-from_recursion, Affine, form_of}
 use Rattle.fractions.specs.Elimination.{coefficient_of}
 use Rattle.fractions.specs.Farkas.{HasFarkas, combination, two_rows}
 use Rattle.fractions.specs.Fractions.{value_over}

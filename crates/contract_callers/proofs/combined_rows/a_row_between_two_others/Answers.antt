@@ -1,8 +1,5 @@
-use Rattle.std.proofs.Common.{◌≡◌, List, pos, negsuc, [], ◌∷◌, ◌++◌, refl, arith}
-use Rattle.std.specs.Prelude.{◌≤ℤ◌}
-use Rattle.std.proofs.lemmas.Int.{ints}
-use Rattle.std.proofs.lemmas.List.Elements.{All-from_recursion, recursion_from_All}
-use Rattle.whole_numbers.specs.Affine.{Affine, complement, form_of}
+use Rattle.scop_syntax.proofs.Common.{◌≡◌, List, pos, negsuc, [], ◌∷◌, ◌++◌, refl, arith, ◌≤ℤ◌, ints}
+use Rattle.scop_syntax.proofs.Common.{All-from_recursion, recursion_from_All, Affine, complement, form_of}
 use Rattle.fractions.specs.Farkas.{HasNoPoint, IsHomogeneous}
 use Rattle.fractions.specs.Fractions.{value_over}
 use Rattle.contract_callers.proofs.combined_rows.a_row_between_two_others.Goals as goal

@@ -1,8 +1,5 @@
-use Rattle.std.proofs.Common.{◌≡◌, ℤ, List, length, pos, negsuc, [], ◌∷◌, arith}
-use Rattle.std.specs.Prelude.{◌≤ℤ◌}
-use Rattle.std.proofs.lemmas.Int.{ints}
-use Rattle.std.proofs.lemmas.List.Elements.{All-from_recursion, All-take, recursion_from_All}
-use Rattle.whole_numbers.specs.Affine.{Affine, form_of}
+use Rattle.scop_syntax.proofs.Common.{◌≡◌, ℤ, List, length, pos, negsuc, [], ◌∷◌, arith, ◌≤ℤ◌, ints, All-from_recursion}
+use Rattle.scop_syntax.proofs.Common.{All-take, recursion_from_All, Affine, form_of}
 use Rattle.fractions.specs.Farkas.{AreNotNegative}
 use Rattle.fractions.specs.Fractions.{HoldsOver, value_over}
 use Rattle.contract_callers.specs.SmallRows.{second}

@@ -1,6 +1,4 @@
-use Rattle.std.proofs.Common.{◌≡◌, ◌≤◌, length, pos, negsuc, [], ◌∷◌, refl, arith}
-use Rattle.std.proofs.lemmas.List.Elements.{All-from_recursion}
-use Rattle.whole_numbers.specs.Affine.{form_of}
+use Rattle.scop_syntax.proofs.Common.{◌≡◌, ◌≤◌, length, pos, negsuc, [], ◌∷◌, refl, arith, All-from_recursion, form_of}
 use Rattle.contract_callers.proofs.combined_rows.multipliers_of_one_row.Goals as goal
 
 pub returns : goal.returns

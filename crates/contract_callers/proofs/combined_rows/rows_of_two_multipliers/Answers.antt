@@ -1,4 +1,4 @@
-use Rattle.std.proofs.Common.{arith}
+use Rattle.scop_syntax.proofs.Common.{arith}
 use Rattle.contract_callers.proofs.combined_rows.rows_of_two_multipliers.Goals as goal
 
 pub returns-clause-absent : goal.returns-clause-absent

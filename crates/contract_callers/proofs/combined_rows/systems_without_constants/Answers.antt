@@ -1,5 +1,4 @@
-use Rattle.std.proofs.Common.{refl}
-use Rattle.std.proofs.lemmas.List.Elements.{All-from_recursion}
+use Rattle.scop_syntax.proofs.Common.{refl, All-from_recursion}
 use Rattle.whole_numbers.specs.Content.{gcd_of, lowest_of_form}
 use Rattle.fractions.specs.Elimination.{eliminated}
 use Rattle.fractions.specs.Farkas.{IsHomogeneous}

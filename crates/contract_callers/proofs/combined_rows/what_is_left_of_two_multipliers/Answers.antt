@@ -1,8 +1,6 @@
-use Rattle.std.proofs.Common.{◌≡◌, ◌≤◌, List, length, pos, negsuc, [], ◌∷◌, inl, inr, refl, arith}
-use Rattle.std.specs.Prelude.{◌≤ℤ◌}
-use Rattle.std.proofs.lemmas.Int.{ints}
-use Rattle.std.proofs.lemmas.List.Elements.{All-from_recursion, All-nil, All-take, recursion_from_All}
-use Rattle.whole_numbers.specs.Affine.{Affine, complement, form_of}
+use Rattle.scop_syntax.proofs.Common.{◌≡◌, ◌≤◌, List, length, pos, negsuc, [], ◌∷◌, inl, inr, refl, arith, ◌≤ℤ◌, ints}
+use Rattle.scop_syntax.proofs.Common.{All-from_recursion, All-nil, All-take, recursion_from_All, Affine, complement}
+use Rattle.scop_syntax.proofs.Common.{form_of}
 use Rattle.whole_numbers.specs.Content.{gcd_of, lowest_of_form}
 use Rattle.fractions.specs.Elimination.{eliminated}
 use Rattle.fractions.specs.Farkas.{HasNoPoint, IsHomogeneous, Leaves}

@@ -1,4 +1,4 @@
-use Rattle.std.proofs.Common.{ap, length, sym, []}
+use Rattle.scop_syntax.proofs.Common.{ap, length, sym, []}
 use Rattle.contract_callers.proofs.conflicts.conflicts_of_kernels_without_parameters.Goals as goal
 
 pub returns-clause-points : goal.returns-clause-points

@@ -1,7 +1,4 @@
-use Rattle.std.specs.Prelude.{◌≡◌, List, []}
-use Rattle.std.specs.List.{flat_map}
-use Rattle.std.proofs.Common.{◌∙◌, ap}
-use Rattle.std.proofs.lemmas.Result.{IfOk-weaker}
+use Rattle.scop_syntax.proofs.Common.{◌≡◌, List, [], flat_map, ◌∙◌, ap, IfOk-weaker}
 use Rattle.iteration_domains.specs.Model.{KernelModel, Modelled}
 use Rattle.conflict_deps.specs.Conflicts.{conflicts_of, deps_between, sides_of}
 use Rattle.contract_callers.proofs.conflicts.conflicts_of_nothing.Goals as goal

@@ -1,5 +1,4 @@
-use Rattle.std.proofs.Common.{[]}
-use Rattle.std.proofs.lemmas.Result.{IfOk-weaker}
+use Rattle.scop_syntax.proofs.Common.{[], IfOk-weaker}
 use Rattle.contract_callers.proofs.dependence_rows.rows_that_bound.Goals as goal
 
 pub returns-clause-farkas : goal.returns-clause-farkas

@@ -1,5 +1,4 @@
-use Rattle.std.proofs.Common.{[], ◌∷◌, arith, pos, negsuc}
-use Rattle.std.proofs.lemmas.Int.{ints}
+use Rattle.scop_syntax.proofs.Common.{[], ◌∷◌, arith, pos, negsuc, ints}
 use Rattle.contract_callers.proofs.divisions.a_row_in_floors_and_remainders.Goals as goal
 
 pub returns-clause-apart : goal.returns-clause-apart

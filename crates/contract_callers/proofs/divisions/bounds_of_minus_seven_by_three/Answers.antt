@@ -1,5 +1,4 @@
-use Rattle.std.proofs.Common.{arith, pos, negsuc}
-use Rattle.std.proofs.lemmas.Int.{ints}
+use Rattle.scop_syntax.proofs.Common.{arith, pos, negsuc, ints}
 use Rattle.contract_callers.proofs.Quotients.{down, up}
 use Rattle.contract_callers.proofs.divisions.bounds_of_minus_seven_by_three.Goals as goal
 

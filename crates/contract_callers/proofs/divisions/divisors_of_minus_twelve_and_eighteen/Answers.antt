@@ -1,4 +1,4 @@
-use Rattle.std.proofs.Common.{refl, pos, negsuc}
+use Rattle.scop_syntax.proofs.Common.{refl, pos, negsuc}
 use Rattle.contract_callers.proofs.divisions.divisors_of_minus_twelve_and_eighteen.Goals as goal
 
 pub returns-clause-sum : goal.returns-clause-sum

@@ -1,5 +1,4 @@
-use Rattle.std.proofs.Common.{[], ◌∷◌, arith, pos, negsuc}
-use Rattle.whole_numbers.specs.Affine.{form_of}
+use Rattle.scop_syntax.proofs.Common.{[], ◌∷◌, arith, pos, negsuc, form_of}
 use Rattle.whole_numbers.specs.Content.{gcd_of, lowest_of_form}
 use Rattle.contract_callers.proofs.divisions.lowest_terms_of_a_form.Goals as goal
 

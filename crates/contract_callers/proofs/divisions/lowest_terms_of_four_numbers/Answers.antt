@@ -1,4 +1,4 @@
-use Rattle.std.proofs.Common.{[], ◌∷◌, arith, pos, negsuc}
+use Rattle.scop_syntax.proofs.Common.{[], ◌∷◌, arith, pos, negsuc}
 use Rattle.whole_numbers.specs.Content.{gcd_of}
 use Rattle.contract_callers.proofs.divisions.lowest_terms_of_four_numbers.Goals as goal
 

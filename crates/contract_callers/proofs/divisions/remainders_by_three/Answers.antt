@@ -1,5 +1,4 @@
-use Rattle.std.proofs.Common.{arith, refl, pos, negsuc}
-use Rattle.std.proofs.lemmas.Int.{ints}
+use Rattle.scop_syntax.proofs.Common.{arith, refl, pos, negsuc, ints}
 use Rattle.contract_callers.proofs.divisions.remainders_by_three.Goals as goal
 
 pub returns-clause-euclid : goal.returns-clause-euclid

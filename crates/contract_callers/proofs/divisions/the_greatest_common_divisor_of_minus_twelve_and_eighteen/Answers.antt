@@ -1,7 +1,5 @@
-use Rattle.std.proofs.Common.{ℤ, arith, refl, pos, negsuc}
-use Rattle.std.specs.Prelude.{◌+ℤ◌}
-use Rattle.std.proofs.lemmas.Int.{ints}
-use Rattle.whole_numbers.specs.Divisors.{Divides, IsGreatestCommonDivisor}
+use Rattle.scop_syntax.proofs.Common.{ℤ, arith, refl, pos, negsuc, ◌+ℤ◌, ints, Divides}
+use Rattle.whole_numbers.specs.Divisors.{IsGreatestCommonDivisor}
 use Rattle.contract_callers.proofs.divisions.the_greatest_common_divisor_of_minus_twelve_and_eighteen.Goals as goal
 
 -- 6 is their sum, so each common divisor divides it

@@ -1,4 +1,4 @@
-use Rattle.std.proofs.Common.{ap, length, refl, sym, []}
+use Rattle.scop_syntax.proofs.Common.{ap, length, refl, sym, []}
 use Rattle.contract_callers.proofs.domains.instances_of_kernels_without_parameters.Goals as goal
 
 pub returns-clause-statement : goal.returns-clause-statement

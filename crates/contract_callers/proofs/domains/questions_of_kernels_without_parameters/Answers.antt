@@ -1,6 +1,5 @@
-use Rattle.std.proofs.Common.{List, ap, length, subst, sym, []}
+use Rattle.scop_syntax.proofs.Common.{List, ap, length, subst, sym, [], In}
 use Rattle.integer_sets.specs.Constraints.{Constraints}
-use Rattle.scop_syntax.specs.Members.{In}
 use Rattle.contract_callers.proofs.domains.questions_of_kernels_without_parameters.Goals as goal
 
 pub returns-clause-systems : goal.returns-clause-systems

@@ -1,6 +1,4 @@
-use Rattle.std.proofs.Common.{◌≡◌, [], ◌∷◌, List, arith, length, refl, ℤ, pos, negsuc}
-use Rattle.std.proofs.lemmas.Int.{ints}
-use Rattle.whole_numbers.specs.Affine.{form_of, value_of}
+use Rattle.scop_syntax.proofs.Common.{◌≡◌, [], ◌∷◌, List, arith, length, refl, ℤ, pos, negsuc, ints, form_of, value_of}
 use Rattle.contract_callers.proofs.form_values.a_form_by_its_values.Goals as goal
 
 -- what holds at all pairs holds at all points of two numbers

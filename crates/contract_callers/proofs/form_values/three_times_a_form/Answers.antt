@@ -1,6 +1,4 @@
-use Rattle.std.proofs.Common.{[], ◌∷◌, arith, pos, negsuc}
-use Rattle.std.proofs.lemmas.Int.{ints}
-use Rattle.whole_numbers.specs.Affine.{form_of}
+use Rattle.scop_syntax.proofs.Common.{[], ◌∷◌, arith, pos, negsuc, ints, form_of}
 use Rattle.contract_callers.proofs.form_values.three_times_a_form.Goals as goal
 
 pub returns : goal.returns

@@ -1,5 +1,4 @@
-use Rattle.std.proofs.Common.{[], ◌∷◌, arith, pos, negsuc}
-use Rattle.whole_numbers.specs.Affine.{form_of}
+use Rattle.scop_syntax.proofs.Common.{[], ◌∷◌, arith, pos, negsuc, form_of}
 use Rattle.contract_callers.proofs.form_values.values_of_two_forms.Goals as goal
 
 pub returns-clause-sum : goal.returns-clause-sum

@@ -1,5 +1,4 @@
-use Rattle.std.proofs.Common.{◌≡◌, [], ◌∷◌, refl, inl, inr, pos, ◌^◌}
-use Rattle.std.specs.Prelude.{◌-◌}
+use Rattle.scop_syntax.proofs.Common.{◌≡◌, [], ◌∷◌, refl, inl, inr, pos, ◌^◌, ◌-◌}
 use Rattle.wide_math.specs.Checked.{wide}
 use Rattle.wide_math.specs.declared.Op.TheVariants.{Add, Mul}
 use Rattle.wide_math.specs.declared.Wide.{Wide}

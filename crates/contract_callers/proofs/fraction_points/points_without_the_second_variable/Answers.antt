@@ -1,4 +1,4 @@
-use Rattle.std.proofs.Common.{[], ◌∷◌, arith}
+use Rattle.scop_syntax.proofs.Common.{[], ◌∷◌, arith}
 use Rattle.whole_numbers.specs.Content.{gcd_of, lowest_of_form}
 use Rattle.fractions.specs.Elimination.{eliminated}
 use Rattle.contract_callers.specs.SmallRows.{between, from_one, meeting}

@@ -1,5 +1,4 @@
-use Rattle.std.proofs.Common.{[], ◌∷◌, pos, negsuc}
-use Rattle.whole_numbers.specs.Affine.{form_of}
+use Rattle.scop_syntax.proofs.Common.{[], ◌∷◌, pos, negsuc, form_of}
 use Rattle.whole_numbers.specs.Content.{gcd_of, lowest_of_form}
 use Rattle.contract_callers.proofs.fraction_points.signs_of_a_form_that_is_halved.Goals as goal
 

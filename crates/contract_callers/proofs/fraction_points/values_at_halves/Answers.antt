@@ -1,5 +1,4 @@
-use Rattle.std.proofs.Common.{[], ◌∷◌, pos, negsuc}
-use Rattle.whole_numbers.specs.Affine.{form_of}
+use Rattle.scop_syntax.proofs.Common.{[], ◌∷◌, pos, negsuc, form_of}
 use Rattle.contract_callers.proofs.fraction_points.values_at_halves.Goals as goal
 
 pub returns-clause-whole : goal.returns-clause-whole

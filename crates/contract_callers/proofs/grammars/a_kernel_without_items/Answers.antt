@@ -1,4 +1,4 @@
-use Rattle.std.proofs.Common.{ℕ, subst, refl, arith}
+use Rattle.scop_syntax.proofs.Common.{ℕ, subst, refl, arith}
 use Rattle.scop_grammar.specs.Claims.{IsAnswer}
 use Rattle.scop_grammar.specs.Kernel.{Spells, kernel_elements, spelled}
 use Rattle.contract_callers.specs.Worked.{bare}

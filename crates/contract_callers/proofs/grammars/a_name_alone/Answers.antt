@@ -1,4 +1,4 @@
-use Rattle.std.proofs.Common.{ℕ, refl, arith}
+use Rattle.scop_syntax.proofs.Common.{ℕ, refl, arith}
 use Rattle.scop_expressions.specs.Grammar.{Spells}
 use Rattle.scop_expressions.specs.Tree.{name, tokens_of}
 use Rattle.contract_callers.proofs.grammars.a_name_alone.Goals as goal

@@ -1,4 +1,4 @@
-use Rattle.std.proofs.Common.{◌∙◌, ap}
+use Rattle.scop_syntax.proofs.Common.{◌∙◌, ap}
 use Rattle.scop_grammar.specs.Turns.{ended, turned}
 use Rattle.contract_callers.proofs.grammars.pieces_that_were_taken.Goals as goal
 

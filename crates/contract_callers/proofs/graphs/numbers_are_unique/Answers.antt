@@ -1,4 +1,4 @@
-use Rattle.std.proofs.Common.{ap}
+use Rattle.scop_syntax.proofs.Common.{ap}
 use Rattle.stmt_graph.specs.Graph.{number_in}
 use Rattle.contract_callers.proofs.graphs.numbers_are_unique.Goals as goal
 

@@ -1,4 +1,4 @@
-use Rattle.std.proofs.lemmas.Result.{IfOk-weaker}
+use Rattle.scop_syntax.proofs.Common.{IfOk-weaker}
 use Rattle.contract_callers.proofs.graphs.numbers_of_statements.Goals as goal
 
 pub returns : goal.returns

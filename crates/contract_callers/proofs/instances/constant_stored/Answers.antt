@@ -1,6 +1,4 @@
-use Rattle.std.proofs.Common.{ap, ◌∙◌, []}
-use Rattle.scop_syntax.specs.Tree.{Right}
-use Rattle.scop_syntax.specs.Values.{stored_by}
+use Rattle.scop_syntax.proofs.Common.{ap, ◌∙◌, [], Right, stored_by}
 use Rattle.contract_callers.proofs.instances.constant_stored.Goals as goal
 
 pub returns : goal.returns

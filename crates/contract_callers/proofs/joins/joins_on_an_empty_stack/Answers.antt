@@ -1,4 +1,4 @@
-use Rattle.std.proofs.Common.{[]}
+use Rattle.scop_syntax.proofs.Common.{[]}
 use Rattle.contract_callers.proofs.joins.joins_on_an_empty_stack.Goals as goal
 
 pub returns-clause-run : goal.returns-clause-run

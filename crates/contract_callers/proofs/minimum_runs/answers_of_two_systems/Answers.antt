@@ -1,7 +1,4 @@
-use Rattle.std.proofs.Common.{[], ◌∷◌, ◌≡◌, refl, pos, negsuc, ℤ}
-use Rattle.std.specs.Prelude.{Ok, true, false}
-use Rattle.std.proofs.lemmas.List.Elements.{All-cons, All-nil}
-use Rattle.whole_numbers.specs.Affine.{form_of}
+use Rattle.scop_syntax.proofs.Common.{[], ◌∷◌, ◌≡◌, refl, pos, negsuc, ℤ, Ok, true, false, All-cons, All-nil, form_of}
 use Rattle.whole_numbers.specs.Content.{gcd_of}
 use Rattle.wide_math.specs.Checked.{checked, cross_of}
 use Rattle.affine_forms.specs.Parts.{variables_of}

@@ -1,4 +1,4 @@
-use Rattle.std.proofs.Common.{[], ◌∷◌, arith, pos, refl}
+use Rattle.scop_syntax.proofs.Common.{[], ◌∷◌, arith, pos, refl}
 use Rattle.contract_callers.specs.Halves.{doubled, five}
 use Rattle.contract_callers.proofs.minimum_runs.binds_of_halves.Goals as goal
 

@@ -1,4 +1,4 @@
-use Rattle.std.proofs.Common.{pos, arith, refl}
+use Rattle.scop_syntax.proofs.Common.{pos, arith, refl}
 use Rattle.lexmin_runs.specs.Nodes.{binds, goes, splits, with_rows}
 use Rattle.contract_callers.specs.Halves.{above, at_zero, bound, first, given, opposite, pivoted, solved}
 use Rattle.contract_callers.proofs.NodeSteps.{binds_one, cuts, halves, parts, pivots}

@@ -1,4 +1,4 @@
-use Rattle.std.proofs.Common.{pos}
+use Rattle.scop_syntax.proofs.Common.{pos}
 use Rattle.tableau_rows.specs.Run.{spent}
 use Rattle.contract_callers.specs.Halves.{above, at_zero, bound, first, given, opposite, solved, zero_leaf}
 use Rattle.contract_callers.proofs.NodeSteps.{binds_one, ended, goes_on, parts, stopped}

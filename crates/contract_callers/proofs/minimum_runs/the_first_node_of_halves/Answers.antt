@@ -1,4 +1,4 @@
-use Rattle.std.proofs.Common.{refl}
+use Rattle.scop_syntax.proofs.Common.{refl}
 use Rattle.contract_callers.specs.Halves.{doubled, five}
 use Rattle.contract_callers.proofs.minimum_runs.the_first_node_of_halves.Goals as goal
 

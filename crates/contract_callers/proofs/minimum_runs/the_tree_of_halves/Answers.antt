@@ -1,6 +1,4 @@
-use Rattle.std.proofs.Common.{[], ◌∷◌, ◌≡◌, refl, pos, negsuc, arith}
-use Rattle.std.specs.Prelude.{Ok}
-use Rattle.whole_numbers.specs.Affine.{form_of}
+use Rattle.scop_syntax.proofs.Common.{[], ◌∷◌, ◌≡◌, refl, pos, negsuc, arith, Ok, form_of}
 use Rattle.whole_numbers.specs.Content.{gcd_of}
 use Rattle.wide_math.specs.Checked.{checked, cross_of}
 use Rattle.tableau_rows.specs.Moves.{crossed_run, cut_run, lowest_row, pivot_run, row_run}

@@ -1,5 +1,4 @@
-use Rattle.std.proofs.Common.{[], ◌∷◌, refl, pos, negsuc}
-use Rattle.whole_numbers.specs.Affine.{form_of}
+use Rattle.scop_syntax.proofs.Common.{[], ◌∷◌, refl, pos, negsuc, form_of}
 use Rattle.contract_callers.proofs.minimum_runs.the_tree_without_parameters.Goals as goal
 
 pub returns : goal.returns

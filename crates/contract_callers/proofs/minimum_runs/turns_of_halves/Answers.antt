@@ -1,5 +1,5 @@
+use Rattle.scop_syntax.proofs.Common.{refl}
 use Rattle.contract_callers.specs.Halves.{doubled, five}
-use Rattle.std.proofs.Common.{refl}
 use Rattle.contract_callers.proofs.minimum_runs.turns_of_halves.Goals as goal
 
 pub returns : goal.returns

@@ -1,4 +1,4 @@
-use Rattle.std.proofs.Common.{[], ◌∷◌, refl}
+use Rattle.scop_syntax.proofs.Common.{[], ◌∷◌, refl}
 use Rattle.contract_callers.specs.Halves.{doubled}
 use Rattle.contract_callers.proofs.moves.first_rows_of_halves.Goals as goal
 

@@ -1,4 +1,4 @@
-use Rattle.std.proofs.Common.{[], ◌∷◌, arith, refl}
+use Rattle.scop_syntax.proofs.Common.{[], ◌∷◌, arith, refl}
 use Rattle.contract_callers.proofs.moves.lines_of_a_buffer.Goals as goal
 
 pub returns : goal.returns

@@ -1,5 +1,4 @@
-use Rattle.std.proofs.Common.{[], ◌∷◌, ◌≡◌, arith, refl}
-use Rattle.std.specs.Prelude.{Ok}
+use Rattle.scop_syntax.proofs.Common.{[], ◌∷◌, ◌≡◌, arith, refl, Ok}
 use Rattle.whole_numbers.specs.Content.{gcd_of}
 use Rattle.wide_math.specs.Checked.{checked, cross_of}
 use Rattle.tableau_rows.specs.Moves.{crossed_run, lowest_row, row_at, row_run, rows_run}

@@ -1,8 +1,5 @@
-use Rattle.std.proofs.Common.{[], ◌∷◌, ◌≡◌, arith, refl, pos, ℤ}
-use Rattle.std.specs.Prelude.{Ok, Some}
-use Rattle.std.proofs.lemmas.Int.{ints}
+use Rattle.scop_syntax.proofs.Common.{[], ◌∷◌, ◌≡◌, arith, refl, pos, ℤ, Ok, Some, ints, IsFloor}
 use Rattle.whole_numbers.specs.Content.{gcd_of}
-use Rattle.whole_numbers.specs.Division.{IsFloor}
 use Rattle.tableau_rows.specs.Moves.{cut_run, lowest_row, row_at}
 use Rattle.tableau_rows.specs.Solutions.{IsTied}
 use Rattle.wide_math.specs.Checked.{checked}

@@ -1,4 +1,4 @@
-use Rattle.std.proofs.lemmas.Result.{on_ok_weaker}
+use Rattle.scop_syntax.proofs.Common.{on_ok_weaker}
 use Rattle.contract_callers.proofs.nodes.pivoted.Goals as goal
 
 pub returns-clause-again : goal.returns-clause-again

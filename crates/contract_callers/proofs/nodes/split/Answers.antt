@@ -1,4 +1,4 @@
-use Rattle.std.proofs.lemmas.Result.{IfOk-weaker}
+use Rattle.scop_syntax.proofs.Common.{IfOk-weaker}
 use Rattle.contract_callers.proofs.nodes.split.Goals as goal
 
 pub returns-clause-again : goal.returns-clause-again

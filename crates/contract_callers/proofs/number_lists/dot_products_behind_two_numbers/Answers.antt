@@ -1,4 +1,4 @@
-use Rattle.std.proofs.Common.{[], ◌∷◌, pos}
+use Rattle.scop_syntax.proofs.Common.{[], ◌∷◌, pos}
 use Rattle.contract_callers.proofs.number_lists.dot_products_behind_two_numbers.Goals as goal
 
 pub returns-clause-split : goal.returns-clause-split

@@ -1,4 +1,4 @@
-use Rattle.std.proofs.Common.{[], ◌∷◌, arith, negsuc, pos, refl}
+use Rattle.scop_syntax.proofs.Common.{[], ◌∷◌, arith, negsuc, pos, refl}
 use Rattle.contract_callers.proofs.number_lists.dot_products_of_short_parts.Goals as goal
 
 pub returns-clause-append : goal.returns-clause-append

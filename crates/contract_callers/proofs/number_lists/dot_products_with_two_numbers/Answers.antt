@@ -1,4 +1,4 @@
-use Rattle.std.proofs.Common.{[], ◌∷◌, negsuc, pos}
+use Rattle.scop_syntax.proofs.Common.{[], ◌∷◌, negsuc, pos}
 use Rattle.contract_callers.proofs.number_lists.dot_products_with_two_numbers.Goals as goal
 
 pub returns-clause-symmetric : goal.returns-clause-symmetric

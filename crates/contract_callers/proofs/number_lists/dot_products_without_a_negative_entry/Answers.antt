@@ -1,5 +1,4 @@
-use Rattle.std.proofs.Common.{[], ◌∷◌, arith, pos}
-use Rattle.std.proofs.lemmas.Int.{ints}
+use Rattle.scop_syntax.proofs.Common.{[], ◌∷◌, arith, pos, ints}
 use Rattle.contract_callers.proofs.number_lists.dot_products_without_a_negative_entry.Goals as goal
 
 pub returns-clause-sign : goal.returns-clause-sign

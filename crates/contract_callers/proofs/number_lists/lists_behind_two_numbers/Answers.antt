@@ -1,4 +1,4 @@
-use Rattle.std.proofs.Common.{[], ◌∷◌, pos, refl}
+use Rattle.scop_syntax.proofs.Common.{[], ◌∷◌, pos, refl}
 use Rattle.contract_callers.proofs.number_lists.lists_behind_two_numbers.Goals as goal
 
 pub returns : goal.returns

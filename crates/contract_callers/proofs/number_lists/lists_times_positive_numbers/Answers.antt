@@ -1,5 +1,4 @@
-use Rattle.std.proofs.Common.{[], ◌∷◌, arith, negsuc, pos, refl}
-use Rattle.std.proofs.lemmas.Int.{ints}
+use Rattle.scop_syntax.proofs.Common.{[], ◌∷◌, arith, negsuc, pos, refl, ints}
 use Rattle.contract_callers.proofs.number_lists.lists_times_positive_numbers.Goals as goal
 
 pub returns-clause-multiples : goal.returns-clause-multiples

@@ -1,5 +1,4 @@
-use Rattle.std.proofs.Common.{[], ◌∷◌, arith, inl, inr, pos, refl}
-use Rattle.std.proofs.lemmas.Int.{ints}
+use Rattle.scop_syntax.proofs.Common.{[], ◌∷◌, arith, inl, inr, pos, refl, ints}
 use Rattle.contract_callers.proofs.number_lists.sums_with_one_and_two.Goals as goal
 
 pub returns-clause-sums : goal.returns-clause-sums

@@ -1,5 +1,4 @@
-use Rattle.std.proofs.Common.{refl, pos, ◌^◌}
-use Rattle.std.specs.Prelude.{◌-◌}
+use Rattle.scop_syntax.proofs.Common.{refl, pos, ◌^◌, ◌-◌}
 use Rattle.wide_math.specs.Checked.{wide}
 use Rattle.wide_math.specs.declared.Op.TheVariants.{Add}
 use Rattle.contract_callers.proofs.numbers.a_sum_above_the_greatest.Goals as goal

@@ -1,5 +1,4 @@
-use Rattle.std.proofs.Common.{refl, pos, ◌^◌}
-use Rattle.std.specs.Prelude.{◌-◌}
+use Rattle.scop_syntax.proofs.Common.{refl, pos, ◌^◌, ◌-◌}
 use Rattle.wide_math.specs.declared.Op.TheVariants.{Add}
 use Rattle.contract_callers.proofs.numbers.the_greatest_sum.Goals as goal
 

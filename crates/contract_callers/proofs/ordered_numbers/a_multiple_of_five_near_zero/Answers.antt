@@ -1,5 +1,4 @@
-use Rattle.std.proofs.Common.{arith, pos}
-use Rattle.std.proofs.lemmas.Int.{ints}
+use Rattle.scop_syntax.proofs.Common.{arith, pos, ints}
 use Rattle.contract_callers.proofs.ordered_numbers.a_multiple_of_five_near_zero.Goals as goal
 
 pub returns : goal.returns

@@ -1,5 +1,4 @@
-use Rattle.std.proofs.Common.{arith, negsuc, pos}
-use Rattle.std.proofs.lemmas.Int.{ints}
+use Rattle.scop_syntax.proofs.Common.{arith, negsuc, pos, ints}
 use Rattle.contract_callers.proofs.ordered_numbers.a_third_of_a_bounded_number.Goals as goal
 
 pub returns-clause-at_most : goal.returns-clause-at_most

@@ -1,6 +1,4 @@
-use Rattle.std.proofs.Common.{◌^◌, arith, negsuc, pos, refl}
-use Rattle.std.specs.Prelude.{neg_ℤ}
-use Rattle.std.proofs.lemmas.Int.{ints}
+use Rattle.scop_syntax.proofs.Common.{◌^◌, arith, negsuc, pos, refl, neg_ℤ, ints}
 use Rattle.contract_callers.proofs.ordered_numbers.numbers_of_128_bits.Goals as goal
 
 pub returns-clause-least : goal.returns-clause-least

@@ -1,5 +1,4 @@
-use Rattle.std.proofs.Common.{negsuc, pos}
-use Rattle.std.specs.Prelude.{◌+ℤ◌, ◌*ℤ◌}
+use Rattle.scop_syntax.proofs.Common.{negsuc, pos, ◌+ℤ◌, ◌*ℤ◌}
 use Rattle.contract_callers.proofs.ordered_numbers.sums_and_products_with_small_numbers.Goals as goal
 
 pub returns-clause-sums_group : goal.returns-clause-sums_group

@@ -1,5 +1,4 @@
-use Rattle.std.specs.Prelude.{◌≡◌, ◌-◌, Result, Ok, Err, IfOk}
-use Rattle.std.proofs.Common.{ap, subst}
+use Rattle.scop_syntax.proofs.Common.{◌≡◌, ◌-◌, Result, Ok, Err, IfOk, ap, subst}
 use Rattle.integer_sets.specs.Constraints.{Constraints}
 use Rattle.fm_projection.specs.Alone.{LeavesAlone, ranged}
 use Rattle.fm_projection.specs.Projecting.{all_gone}

@@ -1,5 +1,4 @@
-use Rattle.std.proofs.Common.{[], ◌∷◌, pos, arith}
-use Rattle.std.proofs.lemmas.Int.{ints}
+use Rattle.scop_syntax.proofs.Common.{[], ◌∷◌, pos, arith, ints}
 use Rattle.contract_callers.proofs.projections.points_of_condensed_systems.Goals as goal
 
 pub returns-clause-points : goal.returns-clause-points

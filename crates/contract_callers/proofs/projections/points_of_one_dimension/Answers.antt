@@ -1,4 +1,4 @@
-use Rattle.std.proofs.Common.{[], ◌∷◌, refl}
+use Rattle.scop_syntax.proofs.Common.{[], ◌∷◌, refl}
 use Rattle.contract_callers.proofs.projections.points_of_one_dimension.Goals as goal
 
 pub returns-clause-one : goal.returns-clause-one

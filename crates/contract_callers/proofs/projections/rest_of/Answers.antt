@@ -1,6 +1,4 @@
-use Rattle.std.proofs.Common.{[], refl}
-use Rattle.std.proofs.lemmas.Result.{IfOk-weaker}
-use Rattle.std.specs.Prelude.{ℤ, List, ◌∷◌}
+use Rattle.scop_syntax.proofs.Common.{[], refl, IfOk-weaker, ℤ, List, ◌∷◌}
 use Rattle.integer_sets.specs.Points.{Satisfies}
 use Rattle.fm_projection.specs.Projecting.{Follow}
 use Rattle.traced_projections.specs.Projections.{system_in}

@@ -1,5 +1,4 @@
-use Rattle.std.specs.Prelude.{◌≡◌, ◌-◌, ℕ, Result, Ok, Err, IfOk}
-use Rattle.std.proofs.Common.{ap}
+use Rattle.scop_syntax.proofs.Common.{◌≡◌, ◌-◌, ℕ, Result, Ok, Err, IfOk, ap}
 use Rattle.integer_sets.specs.Constraints.{Constraints}
 use Rattle.fm_projection.specs.Projecting.{Drops}
 use Rattle.fm_projection.specs.declared.stop.FmStop.{FmStop}

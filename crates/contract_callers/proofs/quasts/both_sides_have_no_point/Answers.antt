@@ -1,5 +1,4 @@
-use Rattle.std.proofs.Common.{[], ◌∷◌, pos, refl}
-use Rattle.whole_numbers.specs.Affine.{form_of}
+use Rattle.scop_syntax.proofs.Common.{[], ◌∷◌, pos, refl, form_of}
 use Rattle.quast_trees.specs.Paths.{down, path_to, up}
 use Rattle.quast_trees.specs.Source.{unnamed}
 use Rattle.contract_callers.proofs.quasts.both_sides_have_no_point.Goals as goal

@@ -1,6 +1,4 @@
-use Rattle.std.proofs.Common.{[], ◌∷◌, ℤ, arith, refl}
-use Rattle.std.specs.List.{Contains}
-use Rattle.whole_numbers.specs.Affine.{Affine, values_of}
+use Rattle.scop_syntax.proofs.Common.{[], ◌∷◌, ℤ, arith, refl, Contains, Affine, values_of}
 use Rattle.quast_trees.specs.Paths.{bound, live_paths, path_to}
 use Rattle.quast_trees.specs.Source.{Forms}
 use Rattle.quast_trees.specs.Tree.{bind, leaf}

@@ -1,4 +1,4 @@
-use Rattle.std.proofs.Common.{ap, ◌∙◌}
+use Rattle.scop_syntax.proofs.Common.{ap, ◌∙◌}
 use Rattle.quast_trees.specs.Leaf.{mapped_leaf}
 use Rattle.contract_callers.proofs.quasts.maps_keep_the_initial_value.Goals as goal
 

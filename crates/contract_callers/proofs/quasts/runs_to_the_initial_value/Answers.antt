@@ -1,4 +1,4 @@
-use Rattle.std.proofs.Common.{sym}
+use Rattle.scop_syntax.proofs.Common.{sym}
 use Rattle.quast_trees.specs.Leaf.{initial}
 use Rattle.contract_callers.proofs.quasts.runs_to_the_initial_value.Goals as goal
 

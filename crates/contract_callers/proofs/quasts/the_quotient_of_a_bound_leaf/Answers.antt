@@ -1,4 +1,4 @@
-use Rattle.std.proofs.Common.{[], ◌∷◌, arith, refl}
+use Rattle.scop_syntax.proofs.Common.{[], ◌∷◌, arith, refl}
 use Rattle.quast_trees.specs.Paths.{bound, path_to}
 use Rattle.quast_trees.specs.Tree.{bind, leaf}
 use Rattle.contract_callers.proofs.quasts.the_quotient_of_a_bound_leaf.Goals as goal

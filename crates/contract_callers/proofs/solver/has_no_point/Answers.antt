@@ -1,4 +1,4 @@
-use Rattle.std.proofs.Common.{[], inl, inr, subst}
+use Rattle.scop_syntax.proofs.Common.{[], inl, inr, subst}
 use Rattle.pip_solver.specs.Promises.{Empties}
 use Rattle.contract_callers.proofs.solver.has_no_point.Goals as goal
 

@@ -1,5 +1,4 @@
-use Rattle.std.proofs.Common.{subst}
-use Rattle.std.proofs.lemmas.Result.{IfOk-weaker}
+use Rattle.scop_syntax.proofs.Common.{subst, IfOk-weaker}
 use Rattle.lexmin_runs.specs.Leaves.{IsAnswer}
 use Rattle.quast_trees.specs.Tree.{LeavesHave}
 use Rattle.tableau_rows.specs.Problem.{problem_of}

@@ -1,5 +1,4 @@
-use Rattle.std.proofs.Common.{subst}
-use Rattle.std.proofs.lemmas.Result.{IfOk-weaker}
+use Rattle.scop_syntax.proofs.Common.{subst, IfOk-weaker}
 use Rattle.pip_solver.specs.Minimum.{IsMinimum}
 use Rattle.contract_callers.proofs.solver.minimum_of_system.Goals as goal
 

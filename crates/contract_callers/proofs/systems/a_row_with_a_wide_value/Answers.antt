@@ -1,4 +1,4 @@
-use Rattle.std.proofs.Common.{[], ◌∷◌, ◌^◌, pos, Bool, Result, Ok, Err, ap, refl}
+use Rattle.scop_syntax.proofs.Common.{[], ◌∷◌, ◌^◌, pos, Bool, Result, Ok, Err, ap, refl}
 use Rattle.affine_forms.specs.Runs.{multiply_add_run, value_run}
 use Rattle.wide_math.specs.Checked.{checked, wide}
 use Rattle.wide_math.specs.declared.Wide.{Wide}

@@ -1,9 +1,5 @@
-use Rattle.std.proofs.Common.{◌≡◌, ℤ, List, length, pos, [], ◌∷◌, ◌++◌, refl, arith, inl, inr}
-use Rattle.std.specs.Prelude.{◌≤ℤ◌}
-use Rattle.std.proofs.lemmas.Int.{ints}
-use Rattle.std.proofs.lemmas.List.Elements.{All-from_recursion, All-nil, recursion_from_All}
-use Rattle.whole_numbers.specs.Affine.{Affine, value_of}
-use Rattle.whole_numbers.specs.Lexicographic.{LexLess}
+use Rattle.scop_syntax.proofs.Common.{◌≡◌, ℤ, List, length, pos, [], ◌∷◌, ◌++◌, refl, arith, inl, inr, ◌≤ℤ◌, ints}
+use Rattle.scop_syntax.proofs.Common.{All-from_recursion, All-nil, recursion_from_All, Affine, value_of, LexLess}
 use Rattle.integer_sets.specs.Points.{IsLeastPoint, Satisfies}
 use Rattle.contract_callers.specs.SmallRows.{from_half}
 use Rattle.contract_callers.proofs.systems.least_point_from_a_half.Goals as goal

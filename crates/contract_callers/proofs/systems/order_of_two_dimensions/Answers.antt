@@ -1,4 +1,4 @@
-use Rattle.std.proofs.Common.{[], ◌∷◌, refl}
+use Rattle.scop_syntax.proofs.Common.{[], ◌∷◌, refl}
 use Rattle.contract_callers.proofs.systems.order_of_two_dimensions.Goals as goal
 
 pub returns : goal.returns

@@ -1,5 +1,4 @@
-use Rattle.std.proofs.Common.{inl, inr}
-use Rattle.std.specs.Prelude.{codes}
+use Rattle.scop_syntax.proofs.Common.{inl, inr, codes}
 use Rattle.contract_callers.proofs.LexedTexts.{at_front, refused}
 use Rattle.contract_callers.proofs.tokens.a_character_of_no_token.Goals as goal
 

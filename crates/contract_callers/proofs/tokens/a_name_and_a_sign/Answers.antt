@@ -1,5 +1,4 @@
-use Rattle.std.proofs.Common.{subst, sym}
-use Rattle.std.specs.Prelude.{codes}
+use Rattle.scop_syntax.proofs.Common.{subst, sym, codes}
 use Rattle.scop_lexer.specs.Tokens.{HasTokens}
 use Rattle.contract_callers.proofs.LexedTexts.{lexed, name_and_sign}
 use Rattle.contract_callers.proofs.tokens.a_name_and_a_sign.Goals as goal

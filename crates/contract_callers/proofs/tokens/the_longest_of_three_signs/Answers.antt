@@ -1,5 +1,4 @@
-use Rattle.std.proofs.Common.{arith, refl}
-use Rattle.std.specs.Prelude.{codes}
+use Rattle.scop_syntax.proofs.Common.{arith, refl, codes}
 use Rattle.scop_expressions.specs.Assign.TheVariants.{ShiftLeft}
 use Rattle.scop_lexer.specs.Signs.{assigns}
 use Rattle.contract_callers.proofs.tokens.the_longest_of_three_signs.Goals as goal

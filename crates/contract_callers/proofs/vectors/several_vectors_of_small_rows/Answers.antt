@@ -1,4 +1,4 @@
-use Rattle.std.proofs.Common.{arith}
+use Rattle.scop_syntax.proofs.Common.{arith}
 use Rattle.contract_callers.proofs.vectors.several_vectors_of_small_rows.Goals as goal
 
 pub returns : goal.returns

@@ -1,4 +1,4 @@
-use Rattle.std.proofs.lemmas.Result.{IfOk-weaker}
+use Rattle.scop_syntax.proofs.Common.{IfOk-weaker}
 use Rattle.contract_callers.proofs.vectors.vectors_of_columns.Goals as goal
 
 pub returns : goal.returns

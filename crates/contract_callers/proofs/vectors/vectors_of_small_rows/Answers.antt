@@ -1,4 +1,4 @@
-use Rattle.std.proofs.Common.{[], ◌∷◌, pos, negsuc}
+use Rattle.scop_syntax.proofs.Common.{[], ◌∷◌, pos, negsuc}
 use Rattle.whole_numbers.specs.Content.{gcd_of}
 use Rattle.contract_callers.proofs.vectors.vectors_of_small_rows.Goals as goal
 

@@ -1,7 +1,4 @@
-use Rattle.std.proofs.Common.{[], ◌∷◌, refl}
-use Rattle.scop_syntax.specs.Examples.{falling_by_two}
-use Rattle.scop_syntax.specs.Walk.{walk_of}
-use Rattle.scop_syntax.proofs.FallingLoop.{falling}
+use Rattle.scop_syntax.proofs.Common.{[], ◌∷◌, refl, falling_by_two, walk_of, falling}
 use Rattle.contract_callers.proofs.walks.cells_along_a_falling_loop.Goals as goal
 
 pub returns : goal.returns

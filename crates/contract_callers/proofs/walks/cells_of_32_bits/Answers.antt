@@ -1,7 +1,5 @@
-use Rattle.std.proofs.Common.{Bool, List, refl, subst, sym}
-use Rattle.scop_syntax.specs.Execution.{before_place, exec, layout}
-use Rattle.scop_syntax.specs.Walk.{walk_of}
-use Rattle.scop_syntax.specs.Widths.{HoldTypes, HoldWidths}
+use Rattle.scop_syntax.proofs.Common.{Bool, List, refl, subst, sym, before_place, exec, layout, walk_of, HoldWidths}
+use Rattle.scop_syntax.specs.Widths.{HoldTypes}
 use Rattle.contract_callers.proofs.walks.cells_of_32_bits.Goals as goal
 
 pub returns-clause-before : goal.returns-clause-before

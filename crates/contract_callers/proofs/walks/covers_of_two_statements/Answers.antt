@@ -1,5 +1,4 @@
-use Rattle.std.proofs.Common.{[], ◌∷◌, inl, inr, pos, refl, suc, zero}
-use Rattle.scop_syntax.specs.Walk.{walk_of}
+use Rattle.scop_syntax.proofs.Common.{[], ◌∷◌, inl, inr, pos, refl, suc, zero, walk_of}
 use Rattle.conflict_deps.specs.Examples.{two}
 use Rattle.contract_callers.proofs.walks.covers_of_two_statements.Goals as goal
 

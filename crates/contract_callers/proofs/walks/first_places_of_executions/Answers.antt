@@ -1,5 +1,4 @@
-use Rattle.std.proofs.Common.{◌∷◌, ◌∙◌, ap, sym, refl}
-use Rattle.scop_syntax.specs.Execution.{before_place}
+use Rattle.scop_syntax.proofs.Common.{◌∷◌, ◌∙◌, ap, sym, refl, before_place}
 use Rattle.contract_callers.proofs.walks.first_places_of_executions.Goals as goal
 
 pub returns-clause-goes_on : goal.returns-clause-goes_on

@@ -1,5 +1,4 @@
-use Rattle.std.proofs.Common.{ℕ, ◌<◌, inl, refl, subst}
-use Rattle.scop_syntax.specs.Members.{Sorted}
+use Rattle.scop_syntax.proofs.Common.{ℕ, ◌<◌, inl, refl, subst, Sorted}
 use Rattle.contract_callers.proofs.walks.marks_of_programs.Goals as goal
 
 pub returns-clause-sums : goal.returns-clause-sums

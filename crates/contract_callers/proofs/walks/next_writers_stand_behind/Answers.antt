@@ -1,4 +1,4 @@
-use Rattle.std.proofs.Common.{arith}
+use Rattle.scop_syntax.proofs.Common.{arith}
 use Rattle.contract_callers.proofs.walks.next_writers_stand_behind.Goals as goal
 
 pub returns-clause-next : goal.returns-clause-next

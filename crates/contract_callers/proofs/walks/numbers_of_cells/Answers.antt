@@ -1,6 +1,4 @@
-use Rattle.std.proofs.Common.{[], ◌∷◌}
-use Rattle.scop_syntax.specs.Examples.{falling_by_two}
-use Rattle.scop_syntax.proofs.FallingLoop.{falling}
+use Rattle.scop_syntax.proofs.Common.{[], ◌∷◌, falling_by_two, falling}
 use Rattle.contract_callers.proofs.walks.numbers_of_cells.Goals as goal
 
 pub returns-clause-below : goal.returns-clause-below

@@ -1,9 +1,6 @@
-use Rattle.std.proofs.Common.{[], ◌∷◌, subst, sym, arith, pos, negsuc}
-use Rattle.std.specs.Prelude.{◌-ℤ◌}
-use Rattle.std.proofs.lemmas.Int.{ints}
+use Rattle.scop_syntax.proofs.Common.{[], ◌∷◌, subst, sym, arith, pos, negsuc, ◌-ℤ◌, ints, condition_at, falling}
 use Rattle.scop_syntax.specs.Examples.{form, head}
-use Rattle.scop_syntax.specs.Walk.{Falls, condition_at}
-use Rattle.scop_syntax.proofs.FallingLoop.{falling}
+use Rattle.scop_syntax.specs.Walk.{Falls}
 use Rattle.contract_callers.proofs.walks.turns_of_a_falling_loop.Goals as goal
 
 pub returns-clause-falls : goal.returns-clause-falls

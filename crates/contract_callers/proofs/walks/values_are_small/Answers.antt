@@ -1,8 +1,6 @@
-use Rattle.std.proofs.Common.{[], ◌∷◌, ◌^◌, pos, refl, arith}
-use Rattle.scop_syntax.specs.Examples.{falling_by_two, form}
-use Rattle.scop_syntax.specs.Limits.{has_parameters}
-use Rattle.scop_syntax.specs.Tree.{moved_left}
-use Rattle.scop_syntax.proofs.FallingLoop.{falling}
+use Rattle.scop_syntax.proofs.Common.{[], ◌∷◌, ◌^◌, pos, refl, arith, falling_by_two, has_parameters, moved_left}
+use Rattle.scop_syntax.proofs.Common.{falling}
+use Rattle.scop_syntax.specs.Examples.{form}
 use Rattle.contract_callers.proofs.walks.values_are_small.Goals as goal
 
 pub returns-clause-moved : goal.returns-clause-moved

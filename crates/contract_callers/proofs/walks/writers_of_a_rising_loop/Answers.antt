@@ -1,6 +1,5 @@
-use Rattle.std.proofs.Common.{[], refl}
+use Rattle.scop_syntax.proofs.Common.{[], refl, walk_of}
 use Rattle.scop_syntax.specs.Examples.{rising}
-use Rattle.scop_syntax.specs.Walk.{walk_of}
 use Rattle.contract_callers.proofs.walks.writers_of_a_rising_loop.Goals as goal
 
 pub returns-clause-last : goal.returns-clause-last

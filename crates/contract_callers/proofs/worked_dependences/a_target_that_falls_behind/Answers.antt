@@ -1,5 +1,4 @@
-use Rattle.std.proofs.Common.{[], ◌∷◌, pos, arith}
-use Rattle.std.proofs.lemmas.Int.{ints}
+use Rattle.scop_syntax.proofs.Common.{[], ◌∷◌, pos, arith, ints}
 use Rattle.farkas.specs.Unknowns.{layout_of}
 use Rattle.contract_callers.proofs.Turns.{instance}
 use Rattle.contract_callers.proofs.worked_dependences.a_target_that_falls_behind.Goals as goal

@@ -1,4 +1,4 @@
-use Rattle.std.proofs.Common.{[], ◌∷◌, refl}
+use Rattle.scop_syntax.proofs.Common.{[], ◌∷◌, refl}
 use Rattle.farkas.specs.Unknowns.{layout_of}
 use Rattle.farkas.specs.declared.claim.Claim.TheVariants.{Legality}
 use Rattle.contract_callers.specs.Worked.{end}

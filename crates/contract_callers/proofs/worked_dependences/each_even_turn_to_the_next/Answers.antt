@@ -1,5 +1,4 @@
-use Rattle.std.proofs.Common.{arith, pos}
-use Rattle.std.proofs.lemmas.Int.{ints}
+use Rattle.scop_syntax.proofs.Common.{arith, pos, ints}
 use Rattle.contract_callers.proofs.Evens.{half_of, pair}
 use Rattle.contract_callers.proofs.worked_dependences.each_even_turn_to_the_next.Goals as goal
 

@@ -1,7 +1,4 @@
-use Rattle.std.proofs.Common.{[], ◌∷◌, pos, subst, sym, arith}
-use Rattle.std.specs.Prelude.{◌+ℤ◌, ◌≤ℤ◌, get_or}
-use Rattle.std.proofs.lemmas.Int.{ints}
-use Rattle.whole_numbers.specs.Lists.{dot}
+use Rattle.scop_syntax.proofs.Common.{[], ◌∷◌, pos, subst, sym, arith, ◌+ℤ◌, ◌≤ℤ◌, get_or, ints, dot}
 use Rattle.farkas.specs.Meaning.{phi}
 use Rattle.farkas.specs.Unknowns.{bounds_of, layout_of}
 use Rattle.contract_callers.proofs.Turns.{at_each, bounded, instance, kept}

@@ -1,4 +1,4 @@
-use Rattle.std.proofs.Common.{arith, refl}
+use Rattle.scop_syntax.proofs.Common.{arith, refl}
 use Rattle.contract_callers.specs.Worked.{end}
 use Rattle.contract_callers.proofs.worked_dependences.layouts_of_one_loop_each.Goals as goal
 

@@ -1,5 +1,5 @@
 -- The next token tells the name.
-use Rattle.std.proofs.Common.{◌∙◌}
+use Rattle.scop_syntax.proofs.Common.{◌∙◌}
 use Rattle.data_lines.proofs.HeadLemmas.{name_of_token, no_name_of_fault, no_name_of_gap}
 use Rattle.data_lines.proofs.head.name_len.Goals as goal
 

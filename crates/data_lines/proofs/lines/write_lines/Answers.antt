@@ -1,6 +1,6 @@
 -- A line is written, or stops the lines with its refusal.
-use Rattle.std.proofs.Common.{◌≡◌, ◌∙◌, [], ◌∷◌, sym, ap, drop, length, length-drop, arith}
-use Rattle.scop_syntax.specs.View.{program_of}
+use Rattle.scop_syntax.proofs.Common.{◌≡◌, ◌∙◌, [], ◌∷◌, sym, ap, drop, length, arith, program_of}
+use Rattle.std.proofs.Common.{length-drop}
 use Rattle.data_lines.specs.Words.{is_line_feed, lines_of}
 use Rattle.data_lines.specs.Sheets.{sheet_of}
 use Rattle.data_lines.proofs.PartLemmas.{parts_behind, some_line, only_line, next_line, nothing_left}

@@ -1,7 +1,5 @@
 -- What the lines so far have written, and the lines to come, are what all lines say.
-use Rattle.std.proofs.Common.{◌≡◌, ◌+◌, ◌≤◌, length}
-use Rattle.std.specs.Prelude.{Ok}
-use Rattle.scop_syntax.specs.View.{program_of}
+use Rattle.scop_syntax.proofs.Common.{◌≡◌, ◌+◌, ◌≤◌, length, Ok, program_of}
 use Rattle.data_lines.specs.Words.{lines_of}
 use Rattle.data_lines.specs.Sheets.{IsSheetOf, sheet_of}
 use Rattle.data_lines.specs.Entries.{with_lines}

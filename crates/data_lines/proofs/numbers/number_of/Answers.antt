@@ -1,6 +1,5 @@
 -- The digits end, or one more leaves 64 bits, or a byte is none.
-use Rattle.std.proofs.Common.{◌∙◌, sym, ap, drop_of_length-le}
-use Rattle.std.specs.List.{list_all}
+use Rattle.scop_syntax.proofs.Common.{◌∙◌, sym, ap, drop_of_length-le, list_all}
 use Rattle.scop_lexer.specs.Bytes.{is_digit}
 use Rattle.scop_lexer.specs.Constants.{number_behind}
 use Rattle.data_lines.proofs.NumberLemmas.{number_is, no_number}

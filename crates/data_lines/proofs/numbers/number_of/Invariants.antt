@@ -1,6 +1,5 @@
 -- The bytes so far are digits, and the number so far with the digits to come is that of all.
-use Rattle.std.proofs.Common.{◌≡◌, ◌^◌, ◌<◌, drop}
-use Rattle.std.specs.List.{list_all}
+use Rattle.scop_syntax.proofs.Common.{◌≡◌, ◌^◌, ◌<◌, drop, list_all}
 use Rattle.scop_lexer.specs.Bytes.{is_digit}
 use Rattle.scop_lexer.specs.Constants.{number_behind}
 use Rattle.data_lines.specs.Numbers.{decimal_value}

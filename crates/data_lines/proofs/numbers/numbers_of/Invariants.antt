@@ -1,5 +1,5 @@
 -- The numbers so far and those of the words to come are the numbers of all.
-use Rattle.std.proofs.Common.{◌≡◌, length}
+use Rattle.scop_syntax.proofs.Common.{◌≡◌, length}
 use Rattle.data_lines.specs.Words.{words_of}
 use Rattle.data_lines.specs.Numbers.{numbers_of}
 use Rattle.data_lines.proofs.NumberLemmas.{with_numbers}

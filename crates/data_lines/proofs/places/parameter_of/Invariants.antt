@@ -1,7 +1,5 @@
 -- The name is not among the names so far.
-use Rattle.std.proofs.Common.{◌≡◌, drop, map}
-use Rattle.std.specs.List.{position_from}
-use Rattle.std.specs.Str.{bytes_eq}
+use Rattle.scop_syntax.proofs.Common.{◌≡◌, drop, map, position_from, bytes_eq}
 use Rattle.data_lines.specs.Sheets.{found}
 use Rattle.data_lines.proofs.places.parameter_of.Given as goal
 

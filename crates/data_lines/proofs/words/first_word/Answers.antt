@@ -1,7 +1,7 @@
 -- What stands in front of the next blank is the first word, or nothing is left.
-use Rattle.std.proofs.Common.{◌≡◌, ◌<◌, ◌∙◌, sym, ap, subst, length, take, drop, ◌∷◌, length-take-le, arith}
-use Rattle.std.specs.List.{position_or_len}
-use Rattle.std.proofs.Common.{rules}
+use Rattle.scop_syntax.proofs.Common.{◌≡◌, ◌<◌, ◌∙◌, sym, ap, subst, length, take, drop, ◌∷◌, arith, position_or_len}
+use Rattle.scop_syntax.proofs.Common.{rules}
+use Rattle.std.proofs.Common.{length-take-le}
 use Rattle.scop_lexer.specs.Bytes.{is_blank}
 use Rattle.data_lines.specs.Words.{words_of, unindented}
 use Rattle.data_lines.proofs.PartLemmas.{words-unindented, none_left, next_word}

@@ -1,9 +1,8 @@
 -- The digits end the buffer, and the space before them is left of its first filling.
-use Rattle.std.proofs.Common.{rules, ◌≡◌, ◌∙◌, ◌-◌, ◌≤◌, ap, length, append-nil, drop, decimal, subst, arith}
+use Rattle.scop_syntax.proofs.Common.{rules, ◌≡◌, ◌∙◌, ◌-◌, ◌≤◌, ap, length, append-nil, drop, decimal, subst, arith}
+use Rattle.scop_syntax.proofs.Common.{replicate, get_or-replicate}
 use Rattle.std.proofs.Common.{length-drop, take_all}
 use Rattle.std.proofs.lemmas.Fmt.{length-decimal-le}
-use Rattle.std.specs.Prelude.{replicate}
-use Rattle.std.proofs.lemmas.List.{get_or-replicate}
 use Rattle.io_ports.specs.Writes.{Puts}
 use Rattle.data_text.proofs.ArrayTextLemmas.{space_and_digits}
 use Rattle.data_text.proofs.array_text.put_cell.Goals as goal

@@ -1,5 +1,5 @@
 -- One more cell was put, or a front of it reached the sink.
-use Rattle.std.proofs.Common.{◌∙◌, ◌++◌, ap, sym, drop, ◌+◌, get_or}
+use Rattle.scop_syntax.proofs.Common.{◌∙◌, ◌++◌, ap, sym, drop, ◌+◌, get_or}
 use Rattle.io_ports.proofs.PutTexts.{next_put, next_piece_cut}
 use Rattle.data_text.specs.ArrayText.{cell_text, cells_text}
 use Rattle.data_text.proofs.ArrayTextLemmas.{cells_next}

@@ -1,5 +1,5 @@
 -- What was put so far and the text of the cells to come are the text of all cells.
-use Rattle.std.proofs.Common.{◌≡◌, ◌++◌, ℕ, List, drop}
+use Rattle.scop_syntax.proofs.Common.{◌≡◌, ◌++◌, ℕ, List, drop}
 use Rattle.io_ports.specs.Writes.{Sends}
 use Rattle.data_text.specs.ArrayText.{cells_text}
 use Rattle.data_text.proofs.array_text.put_cells.Given as goal

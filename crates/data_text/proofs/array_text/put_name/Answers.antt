@@ -1,4 +1,4 @@
-use Rattle.std.specs.Prelude.{codes}
+use Rattle.scop_syntax.proofs.Common.{codes}
 use Rattle.io_ports.proofs.PutTexts.{cut_before}
 use Rattle.data_text.proofs.ArrayTextLemmas.{puts_then}
 use Rattle.data_text.proofs.array_text.put_name.Goals as goal

@@ -1,7 +1,6 @@
 -- One more line was put, or a front of it reached the sink.
-use Rattle.std.proofs.Common.{◌∙◌, sym, ap, subst, append-nil, ◌++◌, ◌+◌, map, drop, codes, arith}
-use Rattle.std.proofs.lemmas.List.{length-map}
-use Rattle.scop_syntax.specs.Tree.{Declaration}
+use Rattle.scop_syntax.proofs.Common.{◌∙◌, sym, ap, subst, append-nil, ◌++◌, ◌+◌, map, drop, codes, arith, length-map}
+use Rattle.scop_syntax.proofs.Common.{Declaration}
 use Rattle.io_ports.specs.Writes.{Sends}
 use Rattle.io_ports.proofs.PutTexts.{next_put, next_piece_cut}
 use Rattle.data_text.specs.ArrayText.{row_text, rows_text}

@@ -1,5 +1,5 @@
 -- What was put so far and the lines to come are all the lines.
-use Rattle.std.proofs.Common.{◌≡◌, ◌++◌, ℕ, List, map, drop}
+use Rattle.scop_syntax.proofs.Common.{◌≡◌, ◌++◌, ℕ, List, map, drop}
 use Rattle.io_ports.specs.Writes.{Sends}
 use Rattle.data_text.specs.ArrayText.{rows_text}
 use Rattle.data_text.proofs.array_text.put_rows.Given as goal

@@ -1,5 +1,5 @@
 -- The lines are the kernel's arrays', and what was pending went out behind them.
-use Rattle.std.proofs.Common.{subst, refl, []}
+use Rattle.scop_syntax.proofs.Common.{subst, refl, []}
 use Rattle.io_ports.specs.Writes.{Writes, CutsOff}
 use Rattle.io_ports.proofs.PutTexts.{written}
 use Rattle.data_text.proofs.ArrayTextLemmas.{kernel_rows}

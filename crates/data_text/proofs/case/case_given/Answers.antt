@@ -1,12 +1,6 @@
 -- Within the limits there is a layout, and lists that are as long as their arrays fill it.
-use Rattle.std.proofs.Common.{◌≡◌, ◌≤◌, ◌∙◌, sym, ap₂, subst, length, map, List, arith}
-use Rattle.std.specs.Prelude.{ℤ, All}
-use Rattle.std.proofs.lemmas.List.{length-map}
-use Rattle.scop_syntax.specs.Tree.{Declaration}
-use Rattle.scop_syntax.specs.View.{program_of}
-use Rattle.scop_syntax.specs.Cells.{values}
-use Rattle.scop_syntax.specs.Execution.{layout, size_of}
-use Rattle.scop_syntax.specs.Kernel.{IsDeclaration, narrow_arrays}
+use Rattle.scop_syntax.proofs.Common.{◌≡◌, ◌≤◌, ◌∙◌, sym, ap₂, subst, length, map, List, arith, ℤ, All, length-map}
+use Rattle.scop_syntax.proofs.Common.{Declaration, program_of, values, layout, size_of, IsDeclaration, narrow_arrays}
 use Rattle.data_lines.specs.Sheets.{given_of}
 use Rattle.data_text.specs.Conditions.{AreParameters, IsLayout}
 use Rattle.data_text.proofs.LayoutLemmas.{are_layouts}

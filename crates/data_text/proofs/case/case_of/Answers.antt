@@ -1,11 +1,6 @@
 -- No rule is broken, so the case lies within the limits.
-use Rattle.std.proofs.Common.{◌≡◌, ◌≤◌, ◌^◌, ◌∙◌, sym, ap, subst, length, map, None, arith}
-use Rattle.std.proofs.lemmas.List.{length-map}
-use Rattle.scop_syntax.specs.Tree.{Declaration}
-use Rattle.scop_syntax.specs.View.{program_of}
-use Rattle.scop_syntax.specs.Cells.{values}
-use Rattle.scop_syntax.specs.Execution.{layout, total_cells, size_of}
-use Rattle.scop_syntax.specs.Kernel.{narrow_arrays}
+use Rattle.scop_syntax.proofs.Common.{◌≡◌, ◌≤◌, ◌^◌, ◌∙◌, sym, ap, subst, length, map, None, arith, length-map}
+use Rattle.scop_syntax.proofs.Common.{Declaration, program_of, values, layout, total_cells, size_of, narrow_arrays}
 use Rattle.data_lines.specs.Sheets.{given_of}
 use Rattle.data_text.specs.Cases.{bad_layout, first_miscount, param_of, params_of, too_many}
 use Rattle.data_text.specs.Conditions.{AreParameters}

@@ -1,7 +1,5 @@
 -- What a text says has the width of its cells.
-use Rattle.std.proofs.Common.{◌≡◌, ◌∙◌, ap}
-use Rattle.std.proofs.lemmas.Result.{IfOk-weaker}
-use Rattle.scop_syntax.specs.View.{program_of}
+use Rattle.scop_syntax.proofs.Common.{◌≡◌, ◌∙◌, ap, IfOk-weaker, program_of}
 use Rattle.data_lines.specs.Naming.{line_of}
 use Rattle.data_lines.specs.Sheets.{sheet_of}
 use Rattle.data_text.specs.Cases.{case_of_lines, case_said, ok_said}

@@ -1,8 +1,6 @@
 -- The cells of the next array are put behind the others.
-use Rattle.std.proofs.Common.{◌∙◌, ap, ap₂, ◌∷◌, [], ◌++◌, ◌+◌, ◌<◌, map, drop, length, arith}
-use Rattle.std.proofs.lemmas.List.{map-append}
-use Rattle.scop_syntax.specs.Kernel.{narrow_arrays}
-use Rattle.scop_syntax.specs.View.{program_of}
+use Rattle.scop_syntax.proofs.Common.{◌∙◌, ap, ap₂, ◌∷◌, [], ◌++◌, ◌+◌, ◌<◌, map, drop, length, arith, map-append}
+use Rattle.scop_syntax.proofs.Common.{narrow_arrays, program_of}
 use Rattle.data_lines.specs.Sheets.{given_of}
 use Rattle.data_text.specs.Cases.{contents_said, cells_said}
 use Rattle.data_text.proofs.ContentLemmas.{contents_next}

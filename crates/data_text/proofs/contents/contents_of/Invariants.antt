@@ -1,7 +1,5 @@
 -- The contents so far and those to come are all contents.
-use Rattle.std.proofs.Common.{◌≡◌, ◌++◌, length, drop, map}
-use Rattle.scop_syntax.specs.Kernel.{narrow_arrays}
-use Rattle.scop_syntax.specs.View.{program_of}
+use Rattle.scop_syntax.proofs.Common.{◌≡◌, ◌++◌, length, drop, map, narrow_arrays, program_of}
 use Rattle.data_lines.specs.Sheets.{given_of}
 use Rattle.data_text.specs.Cases.{contents_said}
 use Rattle.data_text.proofs.contents.contents_of.Given as goal

@@ -1,6 +1,5 @@
 -- At most four extents of at most 2^23.
-use Rattle.std.proofs.Common.{◌≤◌, ◌+◌, ◌*◌, ◌^◌, ◌∙◌, sym, ap, subst, drop, arith}
-use Rattle.scop_syntax.specs.Execution.{cell_count}
+use Rattle.scop_syntax.proofs.Common.{◌≤◌, ◌+◌, ◌*◌, ◌^◌, ◌∙◌, sym, ap, subst, drop, arith, cell_count}
 use Rattle.data_text.proofs.CountLemmas.{count_next, count_small, count_most}
 use Rattle.data_text.proofs.counts.cell_count.Goals as goal
 

@@ -1,6 +1,5 @@
 -- The product so far times that of the extents to come is that of all.
-use Rattle.std.proofs.Common.{◌≡◌, ◌≤◌, ◌*◌, ◌^◌, drop}
-use Rattle.scop_syntax.specs.Execution.{cell_count}
+use Rattle.scop_syntax.proofs.Common.{◌≡◌, ◌≤◌, ◌*◌, ◌^◌, drop, cell_count}
 use Rattle.data_text.proofs.counts.cell_count.Given as goal
 
 abbrev pub invariant-loop-extent : goal.invariant-loop-extent

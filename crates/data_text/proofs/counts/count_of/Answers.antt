@@ -1,5 +1,4 @@
-use Rattle.std.proofs.Common.{◌∙◌, ap, arith}
-use Rattle.scop_syntax.specs.Execution.{cell_count}
+use Rattle.scop_syntax.proofs.Common.{◌∙◌, ap, arith, cell_count}
 use Rattle.data_text.proofs.CountLemmas.{count_below}
 use Rattle.data_text.proofs.counts.count_of.Goals as goal
 

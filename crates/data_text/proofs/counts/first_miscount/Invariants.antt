@@ -1,5 +1,5 @@
 -- The earliest list so far, and those to come.
-use Rattle.std.proofs.Common.{◌≡◌, None, drop, map}
+use Rattle.scop_syntax.proofs.Common.{◌≡◌, None, drop, map}
 use Rattle.data_lines.specs.Sheets.{given_of}
 use Rattle.data_text.specs.Cases.{first_miscount}
 use Rattle.data_text.proofs.counts.first_miscount.Given as goal

@@ -1,6 +1,5 @@
 -- The sum so far and that of the arrays to come is that of all.
-use Rattle.std.proofs.Common.{◌≡◌, ◌≤◌, ◌+◌, ◌*◌, ◌^◌, drop}
-use Rattle.scop_syntax.specs.Execution.{total_cells}
+use Rattle.scop_syntax.proofs.Common.{◌≡◌, ◌≤◌, ◌+◌, ◌*◌, ◌^◌, drop, total_cells}
 use Rattle.data_text.proofs.counts.total_cells.Given as goal
 
 abbrev pub invariant-loop-array : goal.invariant-loop-array

@@ -1,6 +1,5 @@
 -- Each extent so far is positive.
-use Rattle.std.proofs.Common.{◌≡◌, ◌+◌, drop}
-use Rattle.scop_syntax.specs.Cells.{values}
+use Rattle.scop_syntax.proofs.Common.{◌≡◌, ◌+◌, drop, values}
 use Rattle.data_text.specs.Cases.{bad_dimension}
 use Rattle.data_text.proofs.extents.bad_dimension.Given as goal
 

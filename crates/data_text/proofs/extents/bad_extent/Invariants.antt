@@ -1,5 +1,5 @@
 -- Each extent of the arrays so far is positive.
-use Rattle.std.proofs.Common.{◌≡◌, drop}
+use Rattle.scop_syntax.proofs.Common.{◌≡◌, drop}
 use Rattle.data_text.specs.Cases.{bad_extent}
 use Rattle.data_text.proofs.extents.bad_extent.Given as goal
 

@@ -1,7 +1,4 @@
-use Rattle.std.proofs.Common.{◌≡◌, take, map}
-use Rattle.scop_syntax.specs.Tree.{Declaration}
-use Rattle.scop_syntax.specs.Cells.{values}
-use Rattle.scop_syntax.specs.Execution.{size_of}
+use Rattle.scop_syntax.proofs.Common.{◌≡◌, take, map, Declaration, values, size_of}
 use Rattle.data_text.proofs.extents.layout_of.Given as goal
 
 abbrev pub invariant-loop-array : goal.invariant-loop-array

@@ -1,10 +1,5 @@
-use Rattle.std.proofs.Common.{◌∙◌, sym, ap, subst, map, arith}
-use Rattle.std.specs.Prelude.{All}
-use Rattle.scop_syntax.specs.Tree.{Declaration}
-use Rattle.scop_syntax.specs.View.{program_of}
-use Rattle.scop_syntax.specs.Cells.{values}
-use Rattle.scop_syntax.specs.Execution.{size_of}
-use Rattle.scop_syntax.specs.Kernel.{IsDeclaration}
+use Rattle.scop_syntax.proofs.Common.{◌∙◌, sym, ap, subst, map, arith, All, Declaration, program_of, values, size_of}
+use Rattle.scop_syntax.proofs.Common.{IsDeclaration}
 use Rattle.data_text.specs.Conditions.{AreLayouts}
 use Rattle.data_text.proofs.LayoutLemmas.{are_layouts}
 use Rattle.data_text.proofs.extents.layout_said.Goals as goal

@@ -1,6 +1,4 @@
-use Rattle.std.proofs.Common.{◌≡◌, take, map}
-use Rattle.scop_syntax.specs.Cells.{values}
-use Rattle.scop_syntax.specs.Execution.{size_of}
+use Rattle.scop_syntax.proofs.Common.{◌≡◌, take, map, values, size_of}
 use Rattle.data_text.proofs.extents.sizes_at.Given as goal
 
 abbrev pub invariant-loop-extent : goal.invariant-loop-extent

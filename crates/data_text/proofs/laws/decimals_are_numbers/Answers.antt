@@ -1,4 +1,4 @@
-use Rattle.std.proofs.Common.{refl}
+use Rattle.scop_syntax.proofs.Common.{refl}
 use Rattle.data_text.proofs.NumeralLemmas.{decimal_is_number}
 use Rattle.data_text.proofs.laws.decimals_are_numbers.Goals as goal
 

@@ -1,4 +1,4 @@
-use Rattle.std.specs.Prelude.{Ok}
+use Rattle.scop_syntax.proofs.Common.{Ok}
 use Rattle.std.proofs.lemmas.List.Splits.{join_with_byte-slice_split}
 use Rattle.data_text.proofs.CaseLemmas.{in_order, refusal_stands}
 use Rattle.data_text.proofs.laws.lines_are_judged_in_order.Goals as goal

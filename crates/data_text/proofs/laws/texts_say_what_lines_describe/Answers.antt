@@ -1,4 +1,4 @@
-use Rattle.std.specs.Prelude.{Err}
+use Rattle.scop_syntax.proofs.Common.{Err}
 use Rattle.data_text.specs.Cases.{ok_said}
 use Rattle.data_text.proofs.DescribedLemmas.{LineLaws, SheetLaws, text_tells}
 use Rattle.data_text.proofs.OneCaseLemmas.{described_is_said}

@@ -1,6 +1,5 @@
 -- One value more, and at the end all of them.
-use Rattle.std.proofs.Common.{◌∙◌, sym, ap, drop_of_length-le}
-use Rattle.std.proofs.lemmas.List.{take_all}
+use Rattle.scop_syntax.proofs.Common.{◌∙◌, sym, ap, drop_of_length-le, take_all}
 use Rattle.data_text.specs.Cases.{missing, params_of}
 use Rattle.data_text.proofs.parameters.params_said.Goals as goal
 

@@ -1,5 +1,5 @@
 -- Each parameter so far has a value.
-use Rattle.std.proofs.Common.{◌≡◌, take, drop}
+use Rattle.scop_syntax.proofs.Common.{◌≡◌, take, drop}
 use Rattle.data_text.specs.Cases.{missing, params_of}
 use Rattle.data_text.proofs.parameters.params_said.Given as goal
 

@@ -1,4 +1,4 @@
-use Rattle.std.proofs.Common.{◌∙◌, Ok, ap, refl, sym}
+use Rattle.scop_syntax.proofs.Common.{◌∙◌, Ok, ap, refl, sym}
 use Rattle.quast_trees.specs.Postfix.{tree_of}
 use Rattle.quast_joins.specs.Limits.{leaf_limit}
 use Rattle.dataflow.specs.Steps.{nodes_fit}

@@ -1,5 +1,4 @@
-use Rattle.std.proofs.Common.{◌≡◌, ◌++◌, ◌∙◌, ℕ, List, Ok, ap, sym, subst}
-use Rattle.whole_numbers.specs.Affine.{Affine}
+use Rattle.scop_syntax.proofs.Common.{◌≡◌, ◌++◌, ◌∙◌, ℕ, List, Ok, ap, sym, subst, Affine}
 use Rattle.quast_trees.specs.Mapped.{Suits, map_run}
 use Rattle.quast_trees.specs.Postfix.{tree_of}
 use Rattle.dataflow.specs.Problems.{all_below, top}

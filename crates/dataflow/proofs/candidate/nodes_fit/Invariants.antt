@@ -1,4 +1,4 @@
-use Rattle.std.proofs.Common.{◌≡◌, drop}
+use Rattle.scop_syntax.proofs.Common.{◌≡◌, drop}
 use Rattle.quast_joins.specs.Limits.{leaf_limit}
 use Rattle.dataflow.specs.Steps.{nodes_fit}
 use Rattle.dataflow.proofs.candidate.nodes_fit.Given as goal

@@ -1,4 +1,4 @@
-use Rattle.std.proofs.Common.{rules, ◌≡◌, ◌<◌, ◌∙◌, List, Some, ap, length, subst, sym}
+use Rattle.scop_syntax.proofs.Common.{rules, ◌≡◌, ◌<◌, ◌∙◌, List, Some, ap, length, subst, sym}
 use Rattle.iteration_domains.specs.declared.dep.DepEnd.{DepEnd}
 use Rattle.iteration_domains.specs.Model.{Modelled}
 use Rattle.dataflow.specs.Posed.{CanPose}

@@ -1,4 +1,4 @@
-use Rattle.std.proofs.Common.{◌≡◌, ◌∙◌, ℕ, List, Some, None, ap, ap₂, sym, subst, length}
+use Rattle.scop_syntax.proofs.Common.{◌≡◌, ◌∙◌, ℕ, List, Some, None, ap, ap₂, sym, subst, length}
 use Rattle.quast_trees.specs.Postfix.{tree_of}
 use Rattle.quast_trees.specs.Source.{source_of}
 use Rattle.quast_trees.specs.Tree.{named}

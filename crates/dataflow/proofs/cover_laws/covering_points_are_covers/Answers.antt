@@ -1,6 +1,5 @@
-use Rattle.std.proofs.Common.{pos, [], ◌≤ℤ◌, ◌<ℤ◌, ◌^◌, All, length, map, subst, sym, refl}
-use Rattle.scop_syntax.specs.Statements.{statements_of}
-use Rattle.scop_syntax.specs.Walk.{Visit}
+use Rattle.scop_syntax.proofs.Common.{pos, [], ◌≤ℤ◌, ◌<ℤ◌, ◌^◌, All, length, map, subst, sym, refl, statements_of}
+use Rattle.scop_syntax.proofs.Common.{Visit}
 use Rattle.iteration_domains.specs.Model.{modelled}
 use Rattle.iteration_domains.proofs.TreeStatements.{model_is_one}
 use Rattle.dataflow.proofs.CandidateSolutions.{up_bounded}

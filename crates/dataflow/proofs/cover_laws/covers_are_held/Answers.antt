@@ -1,5 +1,4 @@
-use Rattle.std.proofs.Common.{pos, ◌≤ℤ◌, ◌<ℤ◌, ◌^◌, All, subst, sym}
-use Rattle.scop_syntax.specs.Walk.{Visit}
+use Rattle.scop_syntax.proofs.Common.{pos, ◌≤ℤ◌, ◌<ℤ◌, ◌^◌, All, subst, sym, Visit}
 use Rattle.dataflow.proofs.CoverFacts.{cover_laws}
 use Rattle.dataflow.proofs.HeldCovers.{covers_held}
 use Rattle.dataflow.proofs.cover_laws.covers_are_held.Goals as goal

@@ -1,7 +1,5 @@
-use Rattle.std.proofs.Common.{ℕ, ℤ, pos, List, ◌≤ℤ◌, ◌<ℤ◌, ◌^◌, All, map, subst, sym}
-use Rattle.scop_syntax.specs.Limits.{HasParameters}
-use Rattle.scop_syntax.specs.Tree.{Program}
-use Rattle.scop_syntax.specs.Walk.{Visit}
+use Rattle.scop_syntax.proofs.Common.{ℕ, ℤ, pos, List, ◌≤ℤ◌, ◌<ℤ◌, ◌^◌, All, map, subst, sym, HasParameters, Program}
+use Rattle.scop_syntax.proofs.Common.{Visit}
 use Rattle.iteration_domains.specs.Model.{model_of}
 use Rattle.dataflow.specs.Flow.{tree_in}
 use Rattle.dataflow.specs.ReadSources.{reads_of}

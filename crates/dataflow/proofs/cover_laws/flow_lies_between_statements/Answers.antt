@@ -1,4 +1,4 @@
-use Rattle.std.proofs.Common.{subst, sym}
+use Rattle.scop_syntax.proofs.Common.{subst, sym}
 use Rattle.iteration_domains.specs.Sizes.{IsKernelModel}
 use Rattle.iteration_domains.proofs.TreeStatements.{one_model}
 use Rattle.dataflow.proofs.HeldSources.{flow_between}

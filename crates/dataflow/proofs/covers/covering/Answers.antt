@@ -1,7 +1,4 @@
-use Rattle.std.proofs.Common.{◌≡◌, subst}
-use Rattle.scop_syntax.specs.Members.{In}
-use Rattle.std.specs.List.{flat_map}
-use Rattle.scop_syntax.proofs.Members.{member_at}
+use Rattle.scop_syntax.proofs.Common.{◌≡◌, subst, In, flat_map, member_at}
 use Rattle.conflict_deps.specs.Conflicts.{sides_of}
 use Rattle.conflict_deps.proofs.GatheredDependences.{statement_has, statements_step}
 use Rattle.dataflow.specs.Covering.{covers_at}

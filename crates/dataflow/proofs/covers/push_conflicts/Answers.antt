@@ -1,4 +1,4 @@
-use Rattle.std.proofs.Common.{◌++◌, ◌∷◌, []}
+use Rattle.scop_syntax.proofs.Common.{◌++◌, ◌∷◌, []}
 use Rattle.dataflow.specs.Covering.{is_in_role}
 use Rattle.dataflow.specs.WriterRuns.{chosen_deps}
 use Rattle.dataflow.proofs.LeafFacts.{chosen_next, given_more}

@@ -1,4 +1,4 @@
-use Rattle.std.proofs.Common.{ℕ, subst, sym}
+use Rattle.scop_syntax.proofs.Common.{ℕ, subst, sym}
 use Rattle.conflict_deps.specs.View.{side_of}
 use Rattle.dataflow.specs.LeafSteps.{CanWrite}
 use Rattle.dataflow.proofs.covers.push_leaf.Goals as goal

@@ -1,7 +1,4 @@
-use Rattle.std.proofs.Common.{◌∙◌, refl, subst, sym}
-use Rattle.std.specs.Prelude.{All}
-use Rattle.std.specs.List.{flat_map}
-use Rattle.std.proofs.lemmas.List.Elements.{All-get_or}
+use Rattle.scop_syntax.proofs.Common.{◌∙◌, refl, subst, sym, All, flat_map, All-get_or}
 use Rattle.conflict_deps.specs.View.{side_of}
 use Rattle.dataflow.specs.LeafSteps.{CanTellWriter}
 use Rattle.dataflow.specs.Leaves.{deps_of_leaf}

@@ -1,5 +1,4 @@
-use Rattle.std.proofs.Common.{◌≡◌, ◌++◌, drop}
-use Rattle.std.specs.List.{flat_map}
+use Rattle.scop_syntax.proofs.Common.{◌≡◌, ◌++◌, drop, flat_map}
 use Rattle.conflict_deps.specs.View.{side_of}
 use Rattle.dataflow.specs.Leaves.{deps_of_leaf}
 use Rattle.dataflow.proofs.covers.push_leaves.Given as goal

@@ -1,5 +1,4 @@
-use Rattle.std.proofs.Common.{◌+◌, ◌++◌, ◌∙◌, ℕ, List, ap, length, subst, sym}
-use Rattle.std.proofs.lemmas.Result.{on_ok_weaker}
+use Rattle.scop_syntax.proofs.Common.{◌+◌, ◌++◌, ◌∙◌, ℕ, List, ap, length, subst, sym, on_ok_weaker}
 use Rattle.quast_trees.specs.Postfix.{tree_of}
 use Rattle.iteration_domains.specs.Dependence.{Dependence}
 use Rattle.iteration_domains.specs.Sizes.{IsKernelModel}

@@ -1,8 +1,5 @@
-use Rattle.std.proofs.Common.{◌≡◌, ◌∙◌, ◌++◌, List, Some, ap, subst, sym}
-use Rattle.std.specs.Prelude.{slice_get}
-use Rattle.std.specs.List.{flat_map}
-use Rattle.std.proofs.lemmas.Option.{slice_get-get_or}
-use Rattle.scop_syntax.specs.Tree.{Access}
+use Rattle.scop_syntax.proofs.Common.{◌≡◌, ◌∙◌, ◌++◌, List, Some, ap, subst, sym, slice_get, flat_map, slice_get-get_or}
+use Rattle.scop_syntax.proofs.Common.{Access}
 use Rattle.conflict_deps.specs.Conflicts.{sides_from}
 use Rattle.conflict_deps.proofs.GatheredDependences.{pair_can, sides_step}
 use Rattle.dataflow.specs.Covering.{covers_at}

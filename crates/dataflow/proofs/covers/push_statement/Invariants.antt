@@ -1,5 +1,4 @@
-use Rattle.std.proofs.Common.{◌≡◌, ◌++◌, drop}
-use Rattle.std.specs.List.{flat_map}
+use Rattle.scop_syntax.proofs.Common.{◌≡◌, ◌++◌, drop, flat_map}
 use Rattle.conflict_deps.specs.Conflicts.{sides_from}
 use Rattle.dataflow.specs.Covering.{covers_at}
 use Rattle.dataflow.proofs.covers.push_statement.Given as goal

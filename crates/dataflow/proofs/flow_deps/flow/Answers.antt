@@ -1,8 +1,4 @@
-use Rattle.std.proofs.Common.{◌+◌, All, drop, map, subst, sym}
-use Rattle.std.proofs.lemmas.List.Elements.{All-drop}
-use Rattle.std.specs.List.{flat_map}
-use Rattle.scop_syntax.specs.Members.{In}
-use Rattle.scop_syntax.proofs.Members.{member_at}
+use Rattle.scop_syntax.proofs.Common.{◌+◌, All, drop, map, subst, sym, All-drop, flat_map, In, member_at}
 use Rattle.dataflow.specs.Flow.{AreLastSourcesOf, IsResolved, flow_from, read_sides, tree_in}
 use Rattle.dataflow.specs.ReadSources.{reads_in, reads_of_statement}
 use Rattle.dataflow.proofs.FlowReads.{OwnSources, flow_step, own_sources}

@@ -1,5 +1,4 @@
-use Rattle.std.proofs.Common.{◌≡◌, ◌++◌, All, drop, map}
-use Rattle.std.specs.List.{flat_map}
+use Rattle.scop_syntax.proofs.Common.{◌≡◌, ◌++◌, All, drop, map, flat_map}
 use Rattle.dataflow.specs.Flow.{AreLastSourcesOf, IsResolved, flow_from, read_sides, tree_in}
 use Rattle.dataflow.specs.ReadSources.{reads_in}
 use Rattle.dataflow.proofs.flow_deps.flow.Given as goal

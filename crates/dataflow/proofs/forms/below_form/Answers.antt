@@ -1,8 +1,5 @@
-use Rattle.std.proofs.Common.{◌≡◌, List, ℤ, pos, negsuc, set, sym, subst, rules, to_z}
-use Rattle.std.specs.Prelude.{IfOk}
-use Rattle.std.specs.Int.{w128}
-use Rattle.whole_numbers.specs.Affine.{form_of}
-use Rattle.whole_numbers.specs.Lists.{zeros}
+use Rattle.scop_syntax.proofs.Common.{◌≡◌, List, ℤ, pos, negsuc, set, sym, subst, rules, to_z, IfOk, w128, form_of}
+use Rattle.scop_syntax.proofs.Common.{zeros}
 use Rattle.dataflow.proofs.Lists.{opposite_unit}
 use Rattle.dataflow.proofs.forms.below_form.Goals as goal
 

@@ -1,5 +1,4 @@
-use Rattle.std.proofs.Common.{◌≡◌, Err}
-use Rattle.std.specs.Prelude.{negsuc}
+use Rattle.scop_syntax.proofs.Common.{◌≡◌, Err, negsuc}
 use Rattle.affine_forms.specs.declared.stop.FormStop.TheVariants.{Wide as TooWide}
 use Rattle.affine_forms.specs.Gives.{Fails}
 use Rattle.affine_forms.specs.Runs.{scaled_run}

@@ -1,4 +1,4 @@
-use Rattle.std.proofs.Common.{◌≡◌, ◌+◌, ◌-◌, ◌++◌, pos}
+use Rattle.scop_syntax.proofs.Common.{◌≡◌, ◌+◌, ◌-◌, ◌++◌, pos}
 use Rattle.dataflow.specs.Problems.{all_below}
 use Rattle.dataflow.proofs.forms.push_below.Given as goal
 

@@ -1,5 +1,4 @@
-use Rattle.std.proofs.Common.{◌≡◌, ◌++◌, map, drop}
-use Rattle.whole_numbers.specs.Affine.{composed}
+use Rattle.scop_syntax.proofs.Common.{◌≡◌, ◌++◌, map, drop, composed}
 use Rattle.dataflow.proofs.forms.push_composed.Given as goal
 
 abbrev pub invariant-loop-form : goal.invariant-loop-form

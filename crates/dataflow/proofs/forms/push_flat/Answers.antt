@@ -1,5 +1,4 @@
-use Rattle.std.proofs.Common.{◌++◌, ◌^◌, ◌≤◌, arith, map, subst, sym}
-use Rattle.whole_numbers.specs.Affine.{Affine, composed}
+use Rattle.scop_syntax.proofs.Common.{◌++◌, ◌^◌, ◌≤◌, arith, map, subst, sym, Affine, composed}
 use Rattle.iteration_domains.specs.Sizes.{CanCompose, form_size}
 use Rattle.dataflow.specs.Problems.{flat}
 use Rattle.dataflow.proofs.Lists.{composed_small, flat_put, one_at}

@@ -1,5 +1,4 @@
-use Rattle.std.proofs.Common.{◌≡◌, ◌++◌, map, drop}
-use Rattle.whole_numbers.specs.Affine.{composed}
+use Rattle.scop_syntax.proofs.Common.{◌≡◌, ◌++◌, map, drop, composed}
 use Rattle.dataflow.specs.Problems.{flat}
 use Rattle.dataflow.proofs.forms.push_flat.Given as goal
 

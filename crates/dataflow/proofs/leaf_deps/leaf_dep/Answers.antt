@@ -1,6 +1,4 @@
-use Rattle.std.proofs.Common.{◌≡◌, ◌∙◌, ℕ, List, ap, ap₂, length, subst, sym, arith}
-use Rattle.std.proofs.lemmas.List.{length-map}
-use Rattle.std.proofs.lemmas.Result.{IfOk-weaker}
+use Rattle.scop_syntax.proofs.Common.{◌≡◌, ◌∙◌, ℕ, List, ap, ap₂, length, subst, sym, arith, length-map, IfOk-weaker}
 use Rattle.quast_trees.specs.Paths.{LeafPath, Turn, binds_in}
 use Rattle.quast_trees.specs.steps.Ways.{turn_held, turns_held}
 use Rattle.quast_joins.specs.declared.way.Way.{Way}

@@ -1,5 +1,4 @@
-use Rattle.std.proofs.Common.{◌≡◌, ◌++◌, ◌∙◌, List, ap, map}
-use Rattle.whole_numbers.specs.Affine.{Affine}
+use Rattle.scop_syntax.proofs.Common.{◌≡◌, ◌++◌, ◌∙◌, List, ap, map, Affine}
 use Rattle.integer_sets.specs.Constraints.{Constraints}
 use Rattle.quast_trees.specs.Paths.{LeafPath}
 use Rattle.quast_trees.specs.Source.{Forms}

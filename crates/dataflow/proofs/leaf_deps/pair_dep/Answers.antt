@@ -1,5 +1,4 @@
-use Rattle.std.proofs.Common.{◌≡◌, ◌+◌, ◌∙◌, ℕ, List, ap, ap₂, subst, sym, arith}
-use Rattle.whole_numbers.specs.Affine.{Affine}
+use Rattle.scop_syntax.proofs.Common.{◌≡◌, ◌+◌, ◌∙◌, ℕ, List, ap, ap₂, subst, sym, arith, Affine}
 use Rattle.integer_sets.specs.Constraints.{IsSized, system_of}
 use Rattle.fm_projection.specs.Condensed.{condensed}
 use Rattle.iteration_domains.specs.Dependence.{IsDependence, dependence}

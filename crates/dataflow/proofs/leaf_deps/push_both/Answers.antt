@@ -1,5 +1,4 @@
-use Rattle.std.proofs.Common.{◌∙◌}
-use Rattle.std.proofs.lemmas.Result.{on_ok_weaker}
+use Rattle.scop_syntax.proofs.Common.{◌∙◌, on_ok_weaker}
 use Rattle.dataflow.proofs.LeafShapes.{both_put}
 use Rattle.dataflow.proofs.leaf_deps.push_both.Goals as goal
 

@@ -1,6 +1,4 @@
-use Rattle.std.proofs.Common.{◌+◌, ◌∙◌, ap, subst, sym}
-use Rattle.std.specs.Prelude.{All}
-use Rattle.scop_syntax.specs.Tree.{Access}
+use Rattle.scop_syntax.proofs.Common.{◌+◌, ◌∙◌, ap, subst, sym, All, Access}
 use Rattle.iteration_domains.specs.Sizes.{IsNarrow}
 use Rattle.conflict_deps.specs.View.{side_of}
 use Rattle.dataflow.proofs.LeafShapes.{narrow_bound}

@@ -1,4 +1,4 @@
-use Rattle.std.proofs.Common.{◌≡◌, ◌+◌, ◌≤◌, drop}
+use Rattle.scop_syntax.proofs.Common.{◌≡◌, ◌+◌, ◌≤◌, drop}
 use Rattle.quast_trees.specs.Paths.{binds_in}
 use Rattle.quast_trees.specs.steps.Ways.{turns_held}
 use Rattle.dataflow.proofs.leaf_rows.binds_in.Given as goal

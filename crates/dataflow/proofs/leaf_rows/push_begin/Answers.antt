@@ -1,11 +1,5 @@
-use Rattle.std.proofs.Common.{rules, ◌≡◌, pos, ap, ◌∙◌, FitsSigned, ◌++◌, ◌∷◌, [], arith}
-use Rattle.std.specs.Prelude.{◌-ℤ◌, neg_ℤ}
-use Rattle.std.specs.Int.{w128}
-use Rattle.std.proofs.lemmas.Int.{ints, to_z-of_z}
-use Rattle.std.proofs.lemmas.Result.{on_ok_weaker}
-use Rattle.whole_numbers.specs.Affine.{Affine}
-use Rattle.whole_numbers.specs.Fits.{fits}
-use Rattle.whole_numbers.proofs.Fits.{fits_iff}
+use Rattle.scop_syntax.proofs.Common.{rules, ◌≡◌, pos, ap, ◌∙◌, FitsSigned, ◌++◌, ◌∷◌, [], arith, ◌-ℤ◌, neg_ℤ, w128}
+use Rattle.scop_syntax.proofs.Common.{ints, to_z-of_z, on_ok_weaker, Affine, fits, fits_iff}
 use Rattle.dataflow.proofs.LeafForms.{begin_put}
 use Rattle.dataflow.proofs.leaf_rows.push_begin.Goals as goal
 

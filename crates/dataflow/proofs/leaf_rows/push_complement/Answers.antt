@@ -1,10 +1,5 @@
-use Rattle.std.proofs.Common.{rules, ℤ, negsuc, List, ap, ◌∙◌, FitsSigned, ◌++◌, ◌∷◌, []}
-use Rattle.std.specs.Prelude.{◌-ℤ◌}
-use Rattle.std.specs.Int.{w128}
-use Rattle.std.proofs.lemmas.Int.{to_z-of_z}
-use Rattle.std.proofs.lemmas.Result.{on_ok_weaker}
-use Rattle.whole_numbers.specs.Affine.{Affine, form_of}
-use Rattle.whole_numbers.specs.Lists.{multiples}
+use Rattle.scop_syntax.proofs.Common.{rules, ℤ, negsuc, List, ap, ◌∙◌, FitsSigned, ◌++◌, ◌∷◌, [], ◌-ℤ◌, w128, to_z-of_z}
+use Rattle.scop_syntax.proofs.Common.{on_ok_weaker, Affine, form_of, multiples}
 use Rattle.dataflow.specs.LeafRows.{placed_numbers}
 use Rattle.dataflow.proofs.LeafForms.{can_opposite, complement_put}
 use Rattle.dataflow.proofs.leaf_rows.push_complement.Goals as goal

@@ -1,12 +1,5 @@
-use Rattle.std.proofs.Common.{rules, ◌≡◌, ℤ, negsuc, pos, ap, ◌∙◌, sym, subst, FitsSigned, ◌++◌, ◌∷◌, []}
-use Rattle.std.specs.Prelude.{◌-ℤ◌}
-use Rattle.std.specs.Int.{w128}
-use Rattle.std.proofs.lemmas.Int.{to_z-of_z}
-use Rattle.std.proofs.lemmas.Result.{on_ok_weaker}
-use Rattle.whole_numbers.specs.Affine.{Affine}
-use Rattle.whole_numbers.specs.Fits.{fits}
-use Rattle.whole_numbers.specs.Lists.{multiples}
-use Rattle.whole_numbers.proofs.Fits.{fits_iff}
+use Rattle.scop_syntax.proofs.Common.{rules, ◌≡◌, ℤ, negsuc, pos, ap, ◌∙◌, sym, subst, FitsSigned, ◌++◌, ◌∷◌, [], ◌-ℤ◌}
+use Rattle.scop_syntax.proofs.Common.{w128, to_z-of_z, on_ok_weaker, Affine, fits, multiples, fits_iff}
 use Rattle.dataflow.specs.LeafSteps.{HoldOpposites}
 use Rattle.dataflow.proofs.LeafForms.{can_opposite, end_put, opposed_of}
 use Rattle.dataflow.proofs.leaf_rows.push_end.Goals as goal

@@ -1,6 +1,4 @@
-use Rattle.std.proofs.Common.{◌≡◌, ◌+◌, ◌++◌, length, subst, sym, arith}
-use Rattle.std.proofs.lemmas.List.Elements.{All-get_or}
-use Rattle.whole_numbers.specs.Affine.{Affine}
+use Rattle.scop_syntax.proofs.Common.{◌≡◌, ◌+◌, ◌++◌, length, subst, sym, arith, All-get_or, Affine}
 use Rattle.dataflow.specs.LeafRows.{turn_equalities}
 use Rattle.dataflow.specs.LeafSteps.{HoldsOpposite}
 use Rattle.dataflow.proofs.LeafLoops.{equality_end, equality_more, free_at}

@@ -1,4 +1,4 @@
-use Rattle.std.proofs.Common.{◌≡◌, ◌+◌, ◌++◌, drop}
+use Rattle.scop_syntax.proofs.Common.{◌≡◌, ◌+◌, ◌++◌, drop}
 use Rattle.dataflow.specs.LeafRows.{turn_equalities}
 use Rattle.dataflow.proofs.leaf_rows.push_turn_equalities.Given as goal
 

@@ -1,12 +1,6 @@
-use Rattle.std.proofs.Common.{rules, ◌≡◌, ◌+◌, negsuc, pos, ap, ◌∙◌, subst, FitsSigned, ◌++◌, ◌∷◌, [], arith, get_or}
-use Rattle.std.specs.Prelude.{◌-ℤ◌, neg_ℤ}
-use Rattle.std.specs.Int.{w128}
-use Rattle.std.proofs.lemmas.Int.{ints, to_z-of_z}
-use Rattle.std.proofs.lemmas.Result.{on_ok_weaker}
-use Rattle.whole_numbers.specs.Affine.{Affine}
-use Rattle.whole_numbers.specs.Fits.{fits}
-use Rattle.whole_numbers.specs.Lists.{multiples}
-use Rattle.whole_numbers.proofs.Fits.{fits_iff}
+use Rattle.scop_syntax.proofs.Common.{rules, ◌≡◌, ◌+◌, negsuc, pos, ap, ◌∙◌, subst, FitsSigned, ◌++◌, ◌∷◌, [], arith}
+use Rattle.scop_syntax.proofs.Common.{get_or, ◌-ℤ◌, neg_ℤ, w128, ints, to_z-of_z, on_ok_weaker, Affine, fits, multiples}
+use Rattle.scop_syntax.proofs.Common.{fits_iff}
 use Rattle.dataflow.specs.LeafRows.{placed_numbers}
 use Rattle.dataflow.proofs.LeafForms.{can_opposite, equality_put}
 use Rattle.dataflow.proofs.leaf_rows.push_turn_equality.Goals as goal

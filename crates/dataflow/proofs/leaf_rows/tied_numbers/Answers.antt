@@ -1,6 +1,5 @@
-use Rattle.std.proofs.Common.{rules, ◌≡◌, ℤ, List, length, set, ap, ◌∙◌, to_z, of_z, FitsSigned, arith}
-use Rattle.std.specs.Int.{w128}
-use Rattle.std.proofs.lemmas.Int.{to_z-of_z}
+use Rattle.scop_syntax.proofs.Common.{rules, ◌≡◌, ℤ, List, length, set, ap, ◌∙◌, to_z, of_z, FitsSigned, arith, w128}
+use Rattle.scop_syntax.proofs.Common.{to_z-of_z}
 use Rattle.std.proofs.Math.ListN.{length-set}
 use Rattle.affine_forms.proofs.Steps.{refill_same}
 use Rattle.dataflow.specs.LeafRows.{placed_numbers}

@@ -1,7 +1,4 @@
-use Rattle.std.proofs.Common.{◌≡◌, rules, true, ℤ, List, All, FitsSigned, subst}
-use Rattle.std.specs.Int.{w128}
-use Rattle.whole_numbers.specs.Fits.{fits}
-use Rattle.whole_numbers.proofs.Fits.{fits_iff}
+use Rattle.scop_syntax.proofs.Common.{◌≡◌, rules, true, ℤ, List, All, FitsSigned, subst, w128, fits, fits_iff}
 use Rattle.dataflow.proofs.numbers.look_at_form.Goals as goal
 
 pub returns : goal.returns

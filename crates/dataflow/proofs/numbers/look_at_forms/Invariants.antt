@@ -1,4 +1,4 @@
-use Rattle.std.proofs.Common.{All, take}
+use Rattle.scop_syntax.proofs.Common.{All, take}
 use Rattle.quast_trees.specs.Turns.{IsHeld}
 use Rattle.dataflow.proofs.numbers.look_at_forms.Given as goal
 

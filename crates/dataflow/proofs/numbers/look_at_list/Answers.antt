@@ -1,9 +1,5 @@
-use Rattle.std.proofs.Common.{◌≡◌, rules, true, pos, get_or, FitsSigned}
-use Rattle.std.specs.Int.{w128}
-use Rattle.std.proofs.lemmas.List.Elements.{All-more}
-use Rattle.whole_numbers.specs.Fits.{fits}
-use Rattle.whole_numbers.proofs.Fits.{fits_iff}
-use Rattle.whole_numbers.proofs.Entries.{all_taken}
+use Rattle.scop_syntax.proofs.Common.{◌≡◌, rules, true, pos, get_or, FitsSigned, w128, All-more, fits, fits_iff}
+use Rattle.scop_syntax.proofs.Common.{all_taken}
 use Rattle.dataflow.proofs.numbers.look_at_list.Goals as goal
 
 pub loop-number-preserved : goal.loop-number-preserved

@@ -1,5 +1,4 @@
-use Rattle.std.proofs.Common.{◌≡◌, All, take, true}
-use Rattle.whole_numbers.specs.Fits.{fits}
+use Rattle.scop_syntax.proofs.Common.{◌≡◌, All, take, true, fits}
 use Rattle.dataflow.proofs.numbers.look_at_list.Given as goal
 
 abbrev pub invariant-loop-number : goal.invariant-loop-number

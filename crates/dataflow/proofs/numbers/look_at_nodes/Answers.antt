@@ -1,4 +1,4 @@
-use Rattle.whole_numbers.proofs.Entries.{all_next, all_taken}
+use Rattle.scop_syntax.proofs.Common.{all_next, all_taken}
 use Rattle.dataflow.specs.Steps.{IsHeldNode}
 use Rattle.dataflow.proofs.numbers.look_at_nodes.Goals as goal
 

@@ -1,4 +1,4 @@
-use Rattle.std.proofs.Common.{All, take}
+use Rattle.scop_syntax.proofs.Common.{All, take}
 use Rattle.dataflow.specs.Steps.{IsHeldNode}
 use Rattle.dataflow.proofs.numbers.look_at_nodes.Given as goal
 

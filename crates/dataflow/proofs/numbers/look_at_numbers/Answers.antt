@@ -1,5 +1,4 @@
-use Rattle.std.proofs.Common.{subst}
-use Rattle.std.specs.Prelude.{All, List}
+use Rattle.scop_syntax.proofs.Common.{subst, All, List}
 use Rattle.quast_trees.specs.declared.node.Node.{Node}
 use Rattle.quast_trees.specs.Postfix.{tree_of}
 use Rattle.dataflow.specs.Steps.{IsHeldNode}

@@ -1,4 +1,4 @@
-use Rattle.std.proofs.Common.{◌∙◌, ap, length}
+use Rattle.scop_syntax.proofs.Common.{◌∙◌, ap, length}
 use Rattle.integer_sets.specs.Constraints.{Constraints}
 use Rattle.dataflow.proofs.PosableCandidates.{reader_can}
 use Rattle.dataflow.proofs.problem.context_of.Goals as goal

@@ -1,6 +1,4 @@
-use Rattle.std.proofs.Common.{◌+◌, ◌-◌, ◌∙◌, All, ap, drop, length}
-use Rattle.std.proofs.lemmas.List.Elements.{All-take, All-drop}
-use Rattle.whole_numbers.specs.Affine.{Affine}
+use Rattle.scop_syntax.proofs.Common.{◌+◌, ◌-◌, ◌∙◌, All, ap, drop, length, All-take, All-drop, Affine}
 use Rattle.integer_sets.specs.Constraints.{Constraints}
 use Rattle.iteration_domains.specs.Dependence.{Dependence}
 use Rattle.iteration_domains.specs.Sizes.{CanCompose}

@@ -1,5 +1,4 @@
-use Rattle.std.proofs.Common.{◌+◌, ◌∙◌, ℕ, ap, ap₂, subst, sym}
-use Rattle.scop_syntax.proofs.Members.{member_at}
+use Rattle.scop_syntax.proofs.Common.{◌+◌, ◌∙◌, ℕ, ap, ap₂, subst, sym, member_at}
 use Rattle.dataflow.specs.WriterRuns.{is_candidate}
 use Rattle.dataflow.proofs.CandidateRuns.{Running, numbers_are, run_begins, run_on, run_past}
 use Rattle.dataflow.proofs.UnmarkedConflicts.{candidates_held}

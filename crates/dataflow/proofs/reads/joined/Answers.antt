@@ -1,4 +1,4 @@
-use Rattle.std.proofs.Common.{◌≤◌, ◌∙◌, ℕ, ap, subst}
+use Rattle.scop_syntax.proofs.Common.{◌≤◌, ◌∙◌, ℕ, ap, subst}
 use Rattle.quast_trees.specs.Tree.{count}
 use Rattle.quast_trees.specs.Postfix.{tree_of}
 use Rattle.quast_joins.specs.Counts.{join_count}

@@ -1,5 +1,5 @@
+use Rattle.scop_syntax.proofs.Common.{IfOk-weaker}
 use Rattle.quast_joins.specs.declared.way.Way.TheVariants.{Later}
-use Rattle.std.proofs.lemmas.Result.{IfOk-weaker}
 use Rattle.dataflow.proofs.CandidateRuns.{all_named}
 use Rattle.dataflow.proofs.reads.last_writes.Goals as goal
 

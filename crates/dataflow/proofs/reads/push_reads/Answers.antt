@@ -1,5 +1,4 @@
-use Rattle.std.proofs.Common.{◌++◌, ◌<◌, ℕ, All, List, ap, length, subst, sym}
-use Rattle.std.proofs.lemmas.List.Elements.{All-push}
+use Rattle.scop_syntax.proofs.Common.{◌++◌, ◌<◌, ℕ, All, List, ap, length, subst, sym, All-push}
 use Rattle.dataflow.specs.ReadSources.{reads_of_statement}
 use Rattle.dataflow.specs.Steps.{IsHeldSource}
 use Rattle.dataflow.specs.declared.source.ReadSource.{ReadSource}

@@ -1,4 +1,4 @@
-use Rattle.std.proofs.Common.{ℕ, List, ◌++◌, ◌-◌, All, length}
+use Rattle.scop_syntax.proofs.Common.{ℕ, List, ◌++◌, ◌-◌, All, length}
 use Rattle.dataflow.specs.ReadSources.{AreSources, reads_from, reads_of_statement}
 use Rattle.dataflow.specs.Steps.{IsHeldSource}
 use Rattle.dataflow.proofs.CandidateRuns.{Gathered}

@@ -1,4 +1,4 @@
-use Rattle.std.proofs.Common.{rules, ◌<◌, ◌^◌}
+use Rattle.scop_syntax.proofs.Common.{rules, ◌<◌, ◌^◌}
 use Rattle.dataflow.proofs.CandidateRuns.{numbers_are}
 use Rattle.dataflow.proofs.TellableSources.{loops_are, told_if_ok}
 use Rattle.dataflow.proofs.reads.source_of.Goals as goal

@@ -1,6 +1,4 @@
-use Rattle.std.proofs.Common.{rules, List, subst, ◌<◌, ◌^◌}
-use Rattle.scop_syntax.specs.Members.{In}
-use Rattle.scop_syntax.proofs.Members.{member_at}
+use Rattle.scop_syntax.proofs.Common.{rules, List, subst, ◌<◌, ◌^◌, In, member_at}
 use Rattle.iteration_domains.specs.Model.{Modelled}
 use Rattle.dataflow.specs.ReadSources.{AreSources, reads_in, reads_of}
 use Rattle.dataflow.proofs.CandidateRuns.{Gathered, all_gathered, dropped, statement_gathered}

@@ -1,4 +1,4 @@
-use Rattle.std.proofs.Common.{All, drop}
+use Rattle.scop_syntax.proofs.Common.{All, drop}
 use Rattle.dataflow.specs.ReadSources.{reads_in}
 use Rattle.dataflow.specs.Steps.{IsHeldSource}
 use Rattle.dataflow.proofs.CandidateRuns.{Gathered}

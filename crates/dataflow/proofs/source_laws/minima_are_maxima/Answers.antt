@@ -1,4 +1,4 @@
-use Rattle.std.proofs.Common.{[], length, refl}
+use Rattle.scop_syntax.proofs.Common.{[], length, refl}
 use Rattle.iteration_domains.proofs.RowLaws.{goes_on_last}
 use Rattle.dataflow.proofs.Maxima.{flip-order, flip_twice}
 use Rattle.dataflow.proofs.ProblemPoints.{all_below-values}

@@ -1,6 +1,4 @@
-use Rattle.std.proofs.Common.{pos, ◌≤ℤ◌, ◌<ℤ◌, ◌^◌, All, subst, sym}
-use Rattle.scop_syntax.specs.Walk.{Visit, walk_of}
-use Rattle.scop_syntax.proofs.Members.{in_from_place}
+use Rattle.scop_syntax.proofs.Common.{pos, ◌≤ℤ◌, ◌<ℤ◌, ◌^◌, All, subst, sym, Visit, walk_of, in_from_place}
 use Rattle.quast_joins.specs.declared.way.Way.TheVariants.{Earlier}
 use Rattle.dataflow.proofs.CandidateSolutions.{minimum_wanted, in_statements}
 use Rattle.dataflow.proofs.source_laws.minima_are_the_next_writers.Goals as goal

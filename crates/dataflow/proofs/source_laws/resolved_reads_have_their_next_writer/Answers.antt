@@ -1,7 +1,5 @@
-use Rattle.std.proofs.Common.{pos, ◌≤ℤ◌, ◌<ℤ◌, ◌^◌, All, length, map, subst, sym, refl}
-use Rattle.scop_syntax.specs.Walk.{Visit, walk_of}
-use Rattle.scop_syntax.specs.Statements.{statements_of}
-use Rattle.scop_syntax.proofs.Members.{in_from_place}
+use Rattle.scop_syntax.proofs.Common.{pos, ◌≤ℤ◌, ◌<ℤ◌, ◌^◌, All, length, map, subst, sym, refl, Visit, walk_of}
+use Rattle.scop_syntax.proofs.Common.{statements_of, in_from_place}
 use Rattle.iteration_domains.specs.Model.{modelled}
 use Rattle.iteration_domains.proofs.TreeStatements.{model_is_one}
 use Rattle.quast_joins.specs.declared.way.Way.TheVariants.{Earlier}

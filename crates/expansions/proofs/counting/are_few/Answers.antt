@@ -1,4 +1,4 @@
-use Rattle.std.proofs.Common.{ap, arith, length}
+use Rattle.scop_syntax.proofs.Common.{ap, arith, length}
 use Rattle.expansions.proofs.counting.are_few.Goals as goal
 
 pub loop-count-preserved : goal.loop-count-preserved

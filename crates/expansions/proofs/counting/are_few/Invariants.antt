@@ -1,4 +1,4 @@
-use Rattle.std.proofs.Common.{◌≡◌, ◌+◌, ◌≤◌, length}
+use Rattle.scop_syntax.proofs.Common.{◌≡◌, ◌+◌, ◌≤◌, length}
 use Rattle.loop_tree.specs.SpotView.{IsSpotOf, to_come}
 use Rattle.loop_tree.specs.View.{trees_in}
 use Rattle.expansions.proofs.counting.are_few.Given as goal

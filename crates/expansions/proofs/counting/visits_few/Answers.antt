@@ -1,4 +1,4 @@
-use Rattle.std.proofs.Common.{ap, arith, length}
+use Rattle.scop_syntax.proofs.Common.{ap, arith, length}
 use Rattle.expansions.proofs.counting.visits_few.Goals as goal
 
 pub are_few-requires-clause-spot : goal.are_few-requires-clause-spot

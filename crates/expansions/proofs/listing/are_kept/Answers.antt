@@ -1,4 +1,4 @@
-use Rattle.std.proofs.Common.{◌≡◌, arith, rules, pos, get_or}
+use Rattle.scop_syntax.proofs.Common.{◌≡◌, arith, rules, pos, get_or}
 use Rattle.expansions.proofs.ListedEntries.{turns_on}
 use Rattle.expansions.proofs.listing.are_kept.Goals as goal
 

@@ -1,5 +1,4 @@
-use Rattle.std.proofs.Common.{◌≡◌, ◌∙◌, arith, refl, rules, pos, get_or}
-use Rattle.std.proofs.lemmas.List.{length-set}
+use Rattle.scop_syntax.proofs.Common.{◌≡◌, ◌∙◌, arith, refl, rules, pos, get_or, length-set}
 use Rattle.expansions.proofs.ListedEntries.{turns_more}
 use Rattle.expansions.proofs.listing.entry_of.Goals as goal
 

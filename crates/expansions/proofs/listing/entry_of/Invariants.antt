@@ -1,4 +1,4 @@
-use Rattle.std.proofs.Common.{◌≡◌, length}
+use Rattle.scop_syntax.proofs.Common.{◌≡◌, length}
 use Rattle.expansions.specs.steps.Listing.{AreTurns}
 use Rattle.expansions.proofs.listing.entry_of.Given as goal
 

@@ -1,6 +1,4 @@
-use Rattle.std.proofs.Common.{◌≡◌, ◌<◌, arith, length, rules, subst, sym}
-use Rattle.std.specs.Prelude.{IfSome}
-use Rattle.scop_syntax.specs.View.{instance_of}
+use Rattle.scop_syntax.proofs.Common.{◌≡◌, ◌<◌, arith, length, rules, subst, sym, IfSome, instance_of}
 use Rattle.expansions.specs.steps.Listing.{IsPlaceIn, entries_in}
 use Rattle.expansions.proofs.ListedEntries.{entries_own, entries_same}
 use Rattle.expansions.proofs.listing.find.Goals as goal

@@ -1,6 +1,4 @@
-use Rattle.std.proofs.Common.{◌≡◌, subst, refl, rules, ap, ◌∙◌, length}
-use Rattle.std.specs.Prelude.{slice_get}
-use Rattle.scop_syntax.specs.View.{instance_of}
+use Rattle.scop_syntax.proofs.Common.{◌≡◌, subst, refl, rules, ap, ◌∙◌, length, slice_get, instance_of}
 use Rattle.expansions.specs.steps.Listing.{AreTurns}
 use Rattle.expansions.proofs.ListedEntries.{listed_more, listed_same}
 use Rattle.expansions.proofs.listing.list.Goals as goal

@@ -1,4 +1,4 @@
-use Rattle.std.proofs.Common.{◌≡◌, ◌∙◌, [], ap, rules}
+use Rattle.scop_syntax.proofs.Common.{◌≡◌, ◌∙◌, [], ap, rules}
 use Rattle.expansions.specs.steps.Listing.{entries_in}
 use Rattle.expansions.proofs.ListedEntries.{entries_more}
 use Rattle.expansions.proofs.listing.reach.Goals as goal

@@ -1,4 +1,4 @@
-use Rattle.std.proofs.Common.{◌≡◌, ◌-◌, ℕ, length, suc}
+use Rattle.scop_syntax.proofs.Common.{◌≡◌, ◌-◌, ℕ, length, suc}
 use Rattle.expansions.specs.steps.Listing.{entries_in}
 use Rattle.expansions.proofs.listing.reach.Given as goal
 

@@ -1,4 +1,4 @@
-use Rattle.std.proofs.Common.{◌+◌, arith}
+use Rattle.scop_syntax.proofs.Common.{◌+◌, arith}
 use Rattle.expansions.proofs.KeptMarks.{is_marked}
 use Rattle.expansions.proofs.marking.mark.Goals as goal
 

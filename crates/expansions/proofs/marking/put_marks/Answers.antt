@@ -1,5 +1,4 @@
-use Rattle.std.proofs.Common.{◌≡◌, ◌∙◌, ◌+◌, ◌++◌, ℕ, ap, arith, suc}
-use Rattle.std.specs.Prelude.{slice_get}
+use Rattle.scop_syntax.proofs.Common.{◌≡◌, ◌∙◌, ◌+◌, ◌++◌, ℕ, ap, arith, suc, slice_get}
 use Rattle.expansions.specs.steps.Marks.{firsts, mark_of, read_marks}
 use Rattle.expansions.proofs.Firsts.{firsts_more}
 use Rattle.expansions.proofs.marking.put_marks.Goals as goal

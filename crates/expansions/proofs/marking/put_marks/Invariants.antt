@@ -1,4 +1,4 @@
-use Rattle.std.proofs.Common.{◌≡◌, ◌++◌}
+use Rattle.scop_syntax.proofs.Common.{◌≡◌, ◌++◌}
 use Rattle.expansions.specs.steps.Marks.{firsts, read_marks}
 use Rattle.expansions.proofs.marking.put_marks.Given as goal
 

@@ -1,4 +1,4 @@
-use Rattle.std.proofs.Common.{◌≡◌, ◌-◌, ℕ, get_or, length, suc}
+use Rattle.scop_syntax.proofs.Common.{◌≡◌, ◌-◌, ℕ, get_or, length, suc}
 use Rattle.expansions.proofs.marking.reach.Given as goal
 
 abbrev pub invariant-loop-marks : goal.invariant-loop-marks

@@ -1,7 +1,5 @@
-use Rattle.std.proofs.Common.{◌≡◌, ◌∙◌, [], suc, ap, arith, drop, rules, sym}
-use Rattle.std.proofs.lemmas.Option.{slice_get_within}
-use Rattle.scop_syntax.specs.Limits.{has_parameters}
-use Rattle.scop_syntax.specs.View.{instance_of, program_of}
+use Rattle.scop_syntax.proofs.Common.{◌≡◌, ◌∙◌, [], suc, ap, arith, drop, rules, sym, slice_get_within, has_parameters}
+use Rattle.scop_syntax.proofs.Common.{instance_of, program_of}
 use Rattle.loop_tree.specs.Plans.{walked}
 use Rattle.loop_tree.specs.SpotView.{to_come}
 use Rattle.loop_tree.specs.View.{trees_in}

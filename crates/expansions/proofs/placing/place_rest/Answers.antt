@@ -1,9 +1,6 @@
-use Rattle.std.proofs.Common.{◌≡◌, ◌∙◌, ◌++◌, ◌∷◌, List, [], ap, inl, refl, rules, subst, sym}
+use Rattle.scop_syntax.proofs.Common.{◌≡◌, ◌∙◌, ◌++◌, ◌∷◌, List, [], ap, inl, refl, rules, subst, sym, In, instance_of}
+use Rattle.scop_syntax.proofs.Common.{program_of, Instance, in_back}
 use Rattle.std.proofs.lemmas.List.{append-nil, append_assoc}
-use Rattle.scop_syntax.specs.Members.{In}
-use Rattle.scop_syntax.specs.View.{instance_of, program_of}
-use Rattle.scop_syntax.specs.Walk.{Instance}
-use Rattle.scop_syntax.proofs.Members.{in_back}
 use Rattle.loop_tree.specs.Plans.{walked}
 use Rattle.loop_tree.specs.SpotView.{to_come}
 use Rattle.loop_tree.specs.View.{trees_in}

@@ -1,6 +1,4 @@
-use Rattle.std.proofs.Common.{◌≡◌, ◌++◌, List, length}
-use Rattle.scop_syntax.specs.View.{program_of}
-use Rattle.scop_syntax.specs.Walk.{Instance}
+use Rattle.scop_syntax.proofs.Common.{◌≡◌, ◌++◌, List, length, program_of, Instance}
 use Rattle.loop_tree.specs.Plans.{walked}
 use Rattle.loop_tree.specs.SpotView.{IsSpotOf, to_come}
 use Rattle.loop_tree.specs.View.{trees_in}

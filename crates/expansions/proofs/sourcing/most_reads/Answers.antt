@@ -1,5 +1,4 @@
-use Rattle.std.proofs.Common.{◌≤◌, arith, rules}
-use Rattle.std.proofs.lemmas.Option.{slice_get_within}
+use Rattle.scop_syntax.proofs.Common.{◌≤◌, arith, rules, slice_get_within}
 use Rattle.tile_table.specs.declared.table.Row.{Row}
 use Rattle.expansions.proofs.Firsts.{few_more}
 use Rattle.expansions.proofs.sourcing.most_reads.Goals as goal

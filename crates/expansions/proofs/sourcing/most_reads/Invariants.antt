@@ -1,5 +1,4 @@
-use Rattle.std.proofs.Common.{◌≡◌, ◌<◌, ◌≤◌, ℕ, Some}
-use Rattle.std.specs.Prelude.{slice_get}
+use Rattle.scop_syntax.proofs.Common.{◌≡◌, ◌<◌, ◌≤◌, ℕ, Some, slice_get}
 use Rattle.tile_table.specs.declared.table.Row.{Row}
 use Rattle.expansions.proofs.sourcing.most_reads.Given as goal
 

@@ -1,6 +1,4 @@
-use Rattle.std.proofs.Common.{◌≡◌, List, [], rules, subst}
-use Rattle.scop_syntax.specs.View.{instance_of, program_of}
-use Rattle.scop_syntax.specs.Walk.{Instance}
+use Rattle.scop_syntax.proofs.Common.{◌≡◌, List, [], rules, subst, instance_of, program_of, Instance}
 use Rattle.loop_tree.specs.SpotView.{to_come}
 use Rattle.loop_tree.specs.View.{trees_in}
 use Rattle.tile_table.proofs.Visits.{WalkLaws}

@@ -1,8 +1,4 @@
-use Rattle.std.proofs.Common.{ap, arith, length}
-use Rattle.std.proofs.lemmas.List.{length-map}
-use Rattle.scop_syntax.specs.Limits.{has_parameters}
-use Rattle.scop_syntax.specs.View.{program_of}
-use Rattle.scop_syntax.specs.Walk.{instance, walk_of}
+use Rattle.scop_syntax.proofs.Common.{ap, arith, length, length-map, has_parameters, program_of, instance, walk_of}
 use Rattle.expansions.proofs.sourcing.sources_if_few.Goals as goal
 
 pub of_source-requires : goal.of_source-requires

@@ -1,5 +1,4 @@
-use Rattle.std.proofs.Common.{◌≡◌, ◌∙◌, List, [], refl, rules, subst}
-use Rattle.scop_syntax.specs.View.{program_of}
+use Rattle.scop_syntax.proofs.Common.{◌≡◌, ◌∙◌, List, [], refl, rules, subst, program_of}
 use Rattle.tile_table.specs.declared.table.Row.{Row}
 use Rattle.tile_table.proofs.Visits.{WalkLaws}
 use Rattle.expansions.specs.steps.Passing.{ReadFew}

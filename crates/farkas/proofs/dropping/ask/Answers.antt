@@ -1,4 +1,4 @@
-use Rattle.std.proofs.Common.{◌∙◌, sym, subst, get_or}
+use Rattle.whole_numbers.proofs.Common.{◌∙◌, sym, subst, get_or}
 use Rattle.farkas.specs.declared.stuck.Stuck.TheVariants as stuck
 use Rattle.farkas.specs.Run.{implied_run, others}
 use Rattle.farkas.specs.Gives.{Halts}

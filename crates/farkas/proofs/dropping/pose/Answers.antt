@@ -1,5 +1,4 @@
-use Rattle.std.proofs.Common.{◌∙◌, ◌+◌, ◌<◌, ◌++◌, ◌∷◌, [], ℕ, List, length, sym, ap, subst}
-use Rattle.whole_numbers.specs.Affine.{Affine}
+use Rattle.whole_numbers.proofs.Common.{◌∙◌, ◌+◌, ◌<◌, ◌++◌, ◌∷◌, [], ℕ, List, length, sym, ap, subst, Affine}
 use Rattle.integer_sets.specs.Constraints.{IsSized}
 use Rattle.farkas.proofs.RowQuestions.{question-sized}
 use Rattle.farkas.proofs.dropping.pose.Goals as goal

@@ -1,4 +1,4 @@
-use Rattle.std.proofs.Common.{◌-◌, length}
+use Rattle.whole_numbers.proofs.Common.{◌-◌, length}
 use Rattle.farkas.proofs.RowQuestions.{settled-sized}
 use Rattle.farkas.proofs.dropping.settle.Goals as goal
 

@@ -1,5 +1,4 @@
-use Rattle.std.proofs.Common.{◌≡◌, ◌∙◌, ◌<◌, ◌≤◌, length, sym, ap, subst, arith, pos, []}
-use Rattle.whole_numbers.specs.Affine.{Affine, form_of}
+use Rattle.whole_numbers.proofs.Common.{◌≡◌, ◌∙◌, ◌<◌, ◌≤◌, length, sym, ap, subst, arith, pos, [], Affine, form_of}
 use Rattle.farkas.specs.Run.{kept_from}
 use Rattle.farkas.proofs.Chains.{halts-same}
 use Rattle.farkas.proofs.RowQuestions.{Went, went, went-on, went-less, asked-halts, dropped-halts, dropped-ends}

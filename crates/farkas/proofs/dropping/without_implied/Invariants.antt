@@ -1,4 +1,4 @@
-use Rattle.std.proofs.Common.{◌≡◌, ◌-◌, length}
+use Rattle.whole_numbers.proofs.Common.{◌≡◌, ◌-◌, length}
 use Rattle.farkas.specs.Run.{kept_from}
 use Rattle.farkas.proofs.dropping.without_implied.Given as goal
 

@@ -1,5 +1,4 @@
-use Rattle.std.proofs.Common.{◌∙◌, ◌-◌, sym, ap, ap₂, subst, ℕ}
-use Rattle.std.specs.Prelude.{map}
+use Rattle.whole_numbers.proofs.Common.{◌∙◌, ◌-◌, sym, ap, ap₂, subst, ℕ, map}
 use Rattle.integer_sets.specs.Constraints.{Constraints, system_of}
 use Rattle.fractions.specs.Elimination.{narrowed}
 use Rattle.farkas.specs.declared.stuck.Stuck.TheVariants as stuck

@@ -1,4 +1,4 @@
-use Rattle.std.proofs.Common.{◌∙◌, ◌-◌, ◌<◌, ap, arith}
+use Rattle.whole_numbers.proofs.Common.{◌∙◌, ◌-◌, ◌<◌, ap, arith}
 use Rattle.farkas.specs.Run.{left_run}
 use Rattle.farkas.proofs.EliminationRuns.{narrowing-shape, left-halts-first, left-halts-second, Left, left-step}
 use Rattle.farkas.proofs.elimination.without_multipliers.Goals as goal

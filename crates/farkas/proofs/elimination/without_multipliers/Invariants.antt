@@ -1,4 +1,4 @@
-use Rattle.std.proofs.Common.{◌≡◌, ◌≤◌, ◌-◌}
+use Rattle.whole_numbers.proofs.Common.{◌≡◌, ◌≤◌, ◌-◌}
 use Rattle.farkas.specs.Run.{left_run}
 use Rattle.farkas.proofs.elimination.without_multipliers.Given as goal
 

@@ -1,4 +1,4 @@
-use Rattle.std.proofs.Common.{◌≡◌, drop}
+use Rattle.whole_numbers.proofs.Common.{◌≡◌, drop}
 use Rattle.farkas.specs.Matching.{equality_columns_run}
 use Rattle.farkas.specs.Gives.{with_more}
 use Rattle.farkas.proofs.matching.append_equalities.Given as goal

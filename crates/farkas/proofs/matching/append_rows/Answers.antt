@@ -1,11 +1,8 @@
-use Rattle.std.proofs.Common.{rules, ◌≡◌, ◌∙◌, sym, ap, subst, arith, ◌+◌, drop, ℤ, List, pos, FitsSigned}
-use Rattle.std.specs.Prelude.{Result, Ok}
+use Rattle.whole_numbers.proofs.Common.{rules, ◌≡◌, ◌∙◌, sym, ap, subst, arith, ◌+◌, drop, ℤ, List, pos, FitsSigned}
+use Rattle.whole_numbers.proofs.Common.{Result, Ok, Affine, w128, to_z-of_z}
 use Rattle.std.proofs.lemmas.List.{append-nil}
 use Rattle.std.proofs.Math.ListN.{drop_of_length-le}
-use Rattle.whole_numbers.specs.Affine.{Affine}
 use Rattle.affine_forms.specs.Parts.{variables_of}
-use Rattle.std.specs.Int.{w128}
-use Rattle.std.proofs.lemmas.Int.{to_z-of_z}
 use Rattle.wide_math.specs.declared.Wide.{Wide}
 use Rattle.wide_math.specs.Checked.{difference_of}
 use Rattle.farkas.specs.Matching.{HasEntry, row_columns_run}

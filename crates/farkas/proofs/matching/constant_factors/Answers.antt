@@ -1,4 +1,4 @@
-use Rattle.std.proofs.Common.{arith}
+use Rattle.whole_numbers.proofs.Common.{arith}
 use Rattle.farkas.proofs.ClaimedForms.{facts}
 use Rattle.farkas.proofs.matching.constant_factors.Goals as goal
 

@@ -1,9 +1,8 @@
-use Rattle.std.proofs.Common.{◌∙◌, ap, ℕ, ◌≡◌, ◌+◌, ◌-◌, ◌++◌, sym, subst, arith, pos, List}
-use Rattle.std.specs.Prelude.{Ok}
+use Rattle.whole_numbers.proofs.Common.{◌∙◌, ap, ℕ, ◌≡◌, ◌+◌, ◌-◌, ◌++◌, sym, subst, arith, pos, List, Ok, Affine}
+use Rattle.whole_numbers.proofs.Common.{form_of}
 use Rattle.std.proofs.lemmas.List.{append-nil}
 use Rattle.fm_projection.proofs.RemovedEntries.{same_ok}
 use Rattle.wide_math.specs.declared.Wide.{Wide}
-use Rattle.whole_numbers.specs.Affine.{Affine, form_of}
 use Rattle.fractions.specs.Farkas.{own_rows}
 use Rattle.farkas.specs.Claims.{only}
 use Rattle.farkas.proofs.Steps.{own_rows_more}

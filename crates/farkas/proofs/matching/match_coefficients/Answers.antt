@@ -1,7 +1,4 @@
-use Rattle.std.proofs.Common.{rules, ◌≡◌, sym, subst, arith, ℤ, FitsSigned}
-use Rattle.std.specs.Prelude.{Ok}
-use Rattle.std.specs.Int.{w128}
-use Rattle.std.proofs.lemmas.Int.{to_z-of_z}
+use Rattle.whole_numbers.proofs.Common.{rules, ◌≡◌, sym, subst, arith, ℤ, FitsSigned, Ok, w128, to_z-of_z}
 use Rattle.affine_forms.specs.Gives.{Fails}
 use Rattle.iteration_domains.specs.Dependence.{binds_between}
 use Rattle.farkas.specs.Claims.{iterators, linear}

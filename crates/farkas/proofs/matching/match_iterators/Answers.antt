@@ -1,9 +1,6 @@
-use Rattle.std.proofs.Common.{rules, ◌∙◌, List, ap, sym, ◌≡◌, ◌+◌, ◌-◌, ◌++◌, ◌∷◌, [], suc, subst, arith, ℕ, FitsSigned}
-use Rattle.std.specs.Prelude.{Ok}
-use Rattle.std.specs.Int.{w128}
+use Rattle.whole_numbers.proofs.Common.{rules, ◌∙◌, List, ap, sym, ◌≡◌, ◌+◌, ◌-◌, ◌++◌, ◌∷◌, [], suc, subst, arith, ℕ}
+use Rattle.whole_numbers.proofs.Common.{FitsSigned, Ok, w128, Affine, to_z-of_z}
 use Rattle.std.proofs.lemmas.List.{append-nil}
-use Rattle.whole_numbers.specs.Affine.{Affine}
-use Rattle.std.proofs.lemmas.Int.{to_z-of_z}
 use Rattle.farkas.specs.Claims.{only, iterators}
 use Rattle.farkas.specs.Matching.{coefficients_run}
 use Rattle.farkas.specs.Gives.{with_more}

@@ -1,5 +1,4 @@
-use Rattle.std.proofs.Common.{◌∙◌, subst, List, ℤ, pos}
-use Rattle.whole_numbers.proofs.Dot.{replicate-zeros}
+use Rattle.whole_numbers.proofs.Common.{◌∙◌, subst, List, ℤ, pos, replicate-zeros}
 use Rattle.affine_forms.specs.Gives.{Gives}
 use Rattle.farkas.specs.Matching.{matched_run}
 use Rattle.farkas.specs.declared.matching.Entry.TheVariants as entry

@@ -1,5 +1,4 @@
-use Rattle.std.proofs.Common.{rules, ◌≡◌, ◌+◌, ◌-◌, ◌<◌, ◌++◌, ◌∷◌, [], suc, subst, arith, ℕ}
-use Rattle.whole_numbers.specs.Lists.{zeros}
+use Rattle.whole_numbers.proofs.Common.{rules, ◌≡◌, ◌+◌, ◌-◌, ◌<◌, ◌++◌, ◌∷◌, [], suc, subst, arith, ℕ, zeros}
 use Rattle.farkas.specs.Claims.{nones}
 use Rattle.farkas.specs.Matching.{coefficients_run}
 use Rattle.farkas.specs.Gives.{with_more}

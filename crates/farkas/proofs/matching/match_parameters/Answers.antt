@@ -1,8 +1,5 @@
-use Rattle.std.proofs.Common.{rules, ◌≡◌, ◌+◌, ◌-◌, ◌<◌, ◌++◌, ◌∷◌, [], suc, subst, arith, ℕ, pos, add-one}
-use Rattle.std.proofs.Common.{FitsSigned}
-use Rattle.std.specs.Prelude.{Ok}
-use Rattle.std.specs.Int.{w128}
-use Rattle.std.proofs.lemmas.Int.{to_z-of_z}
+use Rattle.whole_numbers.proofs.Common.{rules, ◌≡◌, ◌+◌, ◌-◌, ◌<◌, ◌++◌, ◌∷◌, [], suc, subst, arith, ℕ, pos, add-one}
+use Rattle.whole_numbers.proofs.Common.{FitsSigned, Ok, w128, to_z-of_z}
 use Rattle.affine_forms.specs.Gives.{Fails}
 use Rattle.farkas.specs.declared.matching.Entry.TheVariants as entry
 use Rattle.farkas.specs.Claims.{only, parameters}

@@ -1,4 +1,4 @@
-use Rattle.std.proofs.Common.{◌≡◌, ◌+◌, ◌-◌}
+use Rattle.whole_numbers.proofs.Common.{◌≡◌, ◌+◌, ◌-◌}
 use Rattle.farkas.specs.Claims.{parameters}
 use Rattle.farkas.specs.Matching.{coefficients_run}
 use Rattle.farkas.specs.Gives.{with_more}

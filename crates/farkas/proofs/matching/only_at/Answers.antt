@@ -1,7 +1,4 @@
-use Rattle.std.proofs.Common.{rules, ◌∙◌, ap, ℤ, List, set, FitsSigned}
-use Rattle.std.specs.Int.{w128}
-use Rattle.std.proofs.lemmas.Int.{to_z-of_z}
-use Rattle.whole_numbers.proofs.Dot.{replicate-zeros}
+use Rattle.whole_numbers.proofs.Common.{rules, ◌∙◌, ap, ℤ, List, set, FitsSigned, w128, to_z-of_z, replicate-zeros}
 use Rattle.farkas.proofs.matching.only_at.Goals as goal
 
 pub returns-in-Ok-clause-factors : goal.returns-in-Ok-clause-factors

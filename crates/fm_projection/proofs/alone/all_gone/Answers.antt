@@ -1,4 +1,4 @@
-use Rattle.std.proofs.Common.{◌≡◌, ◌∙◌, ap, subst, refl, arith}
+use Rattle.whole_numbers.proofs.Common.{◌≡◌, ◌∙◌, ap, subst, refl, arith}
 use Rattle.integer_sets.specs.Constraints.{Constraints}
 use Rattle.fm_projection.specs.Projecting.{all_gone}
 use Rattle.fm_projection.specs.Alone.{AllPass}

@@ -1,4 +1,4 @@
-use Rattle.std.proofs.Common.{◌≡◌, ◌+◌}
+use Rattle.whole_numbers.proofs.Common.{◌≡◌, ◌+◌}
 use Rattle.fm_projection.specs.Projecting.{all_gone}
 use Rattle.fm_projection.specs.Alone.{AllPass}
 use Rattle.fm_projection.proofs.alone.all_gone.Given as goal

@@ -1,6 +1,5 @@
-use Rattle.std.proofs.Common.{rules, ◌≡◌, ◌∙◌, ◌-◌, ◌++◌, ◌∷◌, [], ap, sym, refl, List, arith}
+use Rattle.whole_numbers.proofs.Common.{rules, ◌≡◌, ◌∙◌, ◌-◌, ◌++◌, ◌∷◌, [], ap, sym, refl, List, arith, Affine}
 use Rattle.std.proofs.lemmas.List.{append-nil}
-use Rattle.whole_numbers.specs.Affine.{Affine}
 use Rattle.fm_projection.specs.Alone.{range_rows}
 use Rattle.fm_projection.proofs.RangeRows.{least_row, most_row, two_more, range_more, range_end}
 use Rattle.fm_projection.proofs.alone.append_range.Goals as goal

@@ -1,5 +1,4 @@
-use Rattle.std.proofs.Common.{◌≡◌, ◌-◌, ◌++◌, List}
-use Rattle.whole_numbers.specs.Affine.{Affine}
+use Rattle.whole_numbers.proofs.Common.{◌≡◌, ◌-◌, ◌++◌, List, Affine}
 use Rattle.fm_projection.specs.Alone.{range_rows}
 use Rattle.fm_projection.proofs.alone.append_range.Given as goal
 

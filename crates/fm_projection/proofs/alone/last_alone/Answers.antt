@@ -1,4 +1,4 @@
-use Rattle.std.proofs.Common.{◌-◌, ap, arith}
+use Rattle.whole_numbers.proofs.Common.{◌-◌, ap, arith}
 use Rattle.integer_sets.specs.Constraints.{Constraints}
 use Rattle.fm_projection.proofs.EliminationRuns.{gone_dimensions}
 use Rattle.fm_projection.proofs.alone.last_alone.Goals as goal

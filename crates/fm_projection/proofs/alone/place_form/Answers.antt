@@ -1,8 +1,4 @@
-use Rattle.std.proofs.Common.{◌≡◌, ◌∙◌, sym, ap, ℤ, List, set}
-use Rattle.std.proofs.lemmas.Int.{to_z-of_z}
-use Rattle.whole_numbers.specs.Lists.{zeros}
-use Rattle.whole_numbers.specs.Affine.{form_of}
-use Rattle.whole_numbers.proofs.Dot.{replicate-zeros}
+use Rattle.whole_numbers.proofs.Common.{◌≡◌, ◌∙◌, sym, ap, ℤ, List, set, to_z-of_z, zeros, form_of, replicate-zeros}
 use Rattle.wide_math.specs.declared.Wide.{Wide}
 use Rattle.fm_projection.proofs.RemovedEntries.{same_ok}
 use Rattle.fm_projection.proofs.alone.place_form.Goals as goal

@@ -1,6 +1,4 @@
-use Rattle.std.proofs.Common.{◌≡◌, ◌+◌, ◌-◌, ap, sym, subst, arith, ℕ, List, All}
-use Rattle.std.proofs.lemmas.List.Elements.{All-append}
-use Rattle.whole_numbers.specs.Affine.{Affine}
+use Rattle.whole_numbers.proofs.Common.{◌≡◌, ◌+◌, ◌-◌, ap, sym, subst, arith, ℕ, List, All, All-append, Affine}
 use Rattle.affine_forms.specs.Parts.{variables_of}
 use Rattle.integer_sets.specs.Constraints.{Constraints, variables_in}
 use Rattle.fm_projection.specs.Alone.{range_rows}

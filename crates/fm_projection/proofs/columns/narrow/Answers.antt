@@ -1,6 +1,4 @@
-use Rattle.std.proofs.Common.{◌∙◌, List, map, ap, arith}
-use Rattle.std.proofs.lemmas.List.{take_all}
-use Rattle.whole_numbers.specs.Affine.{Affine}
+use Rattle.whole_numbers.proofs.Common.{◌∙◌, List, map, ap, arith, take_all, Affine}
 use Rattle.fractions.specs.Elimination.{narrowed}
 use Rattle.fm_projection.proofs.RemovedEntries.{narrowed_more}
 use Rattle.fm_projection.proofs.columns.narrow.Goals as goal

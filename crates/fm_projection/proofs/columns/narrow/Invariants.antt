@@ -1,4 +1,4 @@
-use Rattle.std.proofs.Common.{◌≡◌, map, take}
+use Rattle.whole_numbers.proofs.Common.{◌≡◌, map, take}
 use Rattle.fractions.specs.Elimination.{narrowed}
 use Rattle.fm_projection.proofs.columns.narrow.Given as goal
 

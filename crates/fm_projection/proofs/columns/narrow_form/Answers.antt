@@ -1,7 +1,5 @@
-use Rattle.std.proofs.Common.{rules, ◌≡◌, ◌∙◌, ◌++◌, suc, sym, ap, ap₂, ℤ, List, take, drop, FitsSigned}
-use Rattle.std.specs.Int.{w128}
-use Rattle.std.proofs.lemmas.Int.{to_z-of_z}
-use Rattle.whole_numbers.specs.Affine.{form_of}
+use Rattle.whole_numbers.proofs.Common.{rules, ◌≡◌, ◌∙◌, ◌++◌, suc, sym, ap, ap₂, ℤ, List, take, drop, FitsSigned, w128}
+use Rattle.whole_numbers.proofs.Common.{to_z-of_z, form_of}
 use Rattle.wide_math.specs.declared.Wide.{Wide}
 use Rattle.fractions.specs.Elimination.{removed}
 use Rattle.fm_projection.proofs.RemovedEntries.{removed_is, same_ok}

@@ -1,6 +1,4 @@
-use Rattle.std.proofs.Common.{◌≡◌, ◌∙◌, ◌+◌, ◌-◌, ◌<◌, suc, ap, ap₂, subst, arith, ℕ, List, All}
-use Rattle.std.specs.Prelude.{map}
-use Rattle.whole_numbers.specs.Affine.{Affine}
+use Rattle.whole_numbers.proofs.Common.{◌≡◌, ◌∙◌, ◌+◌, ◌-◌, ◌<◌, suc, ap, ap₂, subst, arith, ℕ, List, All, map, Affine}
 use Rattle.affine_forms.specs.Parts.{variables_of}
 use Rattle.fractions.specs.Elimination.{narrowed}
 use Rattle.integer_sets.specs.Constraints.{variables_in, system_of}

@@ -1,5 +1,4 @@
-use Rattle.std.proofs.Common.{◌≡◌, ◌<◌, ◌∙◌, ℕ, false, refl, subst, ap, arith}
-use Rattle.std.specs.Prelude.{Ok}
+use Rattle.whole_numbers.proofs.Common.{◌≡◌, ◌<◌, ◌∙◌, ℕ, false, refl, subst, ap, arith, Ok}
 use Rattle.affine_forms.specs.Parts.{variables_of}
 use Rattle.fractions.specs.Elimination.{coefficient_of, is_zero}
 use Rattle.fm_projection.specs.Runs.{reduced_run}

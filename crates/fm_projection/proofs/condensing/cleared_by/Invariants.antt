@@ -1,4 +1,4 @@
-use Rattle.std.proofs.Common.{◌≡◌, drop}
+use Rattle.whole_numbers.proofs.Common.{◌≡◌, drop}
 use Rattle.fm_projection.specs.Condensed.{cleared_by}
 use Rattle.fm_projection.proofs.condensing.cleared_by.Given as goal
 

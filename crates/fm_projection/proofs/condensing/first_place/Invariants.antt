@@ -1,4 +1,4 @@
-use Rattle.std.proofs.Common.{◌≡◌, ◌+◌, drop}
+use Rattle.whole_numbers.proofs.Common.{◌≡◌, ◌+◌, drop}
 use Rattle.fm_projection.specs.Condensed.{first_place}
 use Rattle.fm_projection.proofs.condensing.first_place.Given as goal
 

@@ -1,4 +1,4 @@
-use Rattle.std.proofs.Common.{◌≡◌, [], drop}
+use Rattle.whole_numbers.proofs.Common.{◌≡◌, [], drop}
 use Rattle.fm_projection.specs.Condensed.{with_equalities}
 use Rattle.fm_projection.proofs.condensing.own_equalities.Given as goal
 

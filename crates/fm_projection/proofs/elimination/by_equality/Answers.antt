@@ -1,11 +1,7 @@
-use Rattle.std.proofs.Common.{ℕ, ◌≡◌, ◌<◌, ◌+◌, ◌-◌, arith, List, ◌++◌, take, drop, get_or, length}
-use Rattle.std.proofs.Common.{add-one, refl, All}
-use Rattle.std.proofs.lemmas.List.Elements.{All-take, All-drop}
+use Rattle.whole_numbers.proofs.Common.{ℕ, ◌≡◌, ◌<◌, ◌+◌, ◌-◌, arith, List, ◌++◌, take, drop, get_or, length, add-one}
+use Rattle.whole_numbers.proofs.Common.{refl, All, All-take, All-drop, Some, take_all, length-drop, Affine}
 use Rattle.affine_forms.specs.Parts.{variables_of}
 use Rattle.integer_sets.specs.Constraints.{variables_in}
-use Rattle.std.specs.Prelude.{Some}
-use Rattle.std.proofs.lemmas.List.{take_all, length-drop}
-use Rattle.whole_numbers.specs.Affine.{Affine}
 use Rattle.fractions.specs.Elimination.{first_with}
 use Rattle.fm_projection.specs.Runs.{eliminated_run, place_of}
 use Rattle.fm_projection.proofs.JoinedLists.{chain-stop, first_with_place}

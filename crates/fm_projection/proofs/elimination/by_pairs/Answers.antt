@@ -1,5 +1,4 @@
-use Rattle.std.proofs.Common.{rules, ◌≡◌, refl}
-use Rattle.std.specs.Prelude.{map}
+use Rattle.whole_numbers.proofs.Common.{rules, ◌≡◌, refl, map}
 use Rattle.whole_numbers.specs.Content.{lowest_of_form}
 use Rattle.fm_projection.specs.Runs.{eliminated_run}
 use Rattle.fm_projection.proofs.JoinedLists.{chain-stop, first_with_none}

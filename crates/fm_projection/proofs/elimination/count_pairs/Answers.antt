@@ -1,5 +1,4 @@
-use Rattle.std.proofs.Common.{ℕ, arith, refl, ap₂, [], pos, ◌*◌}
-use Rattle.whole_numbers.specs.Affine.{form_of}
+use Rattle.whole_numbers.proofs.Common.{ℕ, arith, refl, ap₂, [], pos, ◌*◌, form_of}
 use Rattle.fm_projection.proofs.JoinedLists.{first_with_place, first_with_none}
 use Rattle.fm_projection.proofs.elimination.count_pairs.Goals as goal
 

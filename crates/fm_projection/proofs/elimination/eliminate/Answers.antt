@@ -1,5 +1,4 @@
-use Rattle.std.proofs.Common.{rules, ℕ, ◌≡◌, arith, List, Ok}
-use Rattle.whole_numbers.specs.Affine.{Affine}
+use Rattle.whole_numbers.proofs.Common.{rules, ℕ, ◌≡◌, arith, List, Ok, Affine}
 use Rattle.fractions.specs.Elimination.{first_with}
 use Rattle.integer_sets.specs.Constraints.{Constraints, IsSized, system_of, variables_in}
 use Rattle.fm_projection.specs.Runs.{eliminated_run, pairs_in, pairs_by}

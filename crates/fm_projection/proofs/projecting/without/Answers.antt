@@ -1,5 +1,4 @@
-use Rattle.std.proofs.Common.{◌∙◌, ap, subst}
-use Rattle.std.specs.Prelude.{Ok}
+use Rattle.whole_numbers.proofs.Common.{◌∙◌, ap, subst, Ok}
 use Rattle.integer_sets.specs.Constraints.{Constraints}
 use Rattle.fm_projection.specs.Gives.{Eliminates}
 use Rattle.fm_projection.specs.Projecting.{without_column}

@@ -1,4 +1,4 @@
-use Rattle.std.proofs.Common.{refl}
+use Rattle.whole_numbers.proofs.Common.{refl}
 use Rattle.fm_projection.proofs.JoinedLists.{chain-stop}
 use Rattle.fm_projection.proofs.rows.append.Goals as goal
 

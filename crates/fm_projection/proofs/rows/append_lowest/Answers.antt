@@ -1,4 +1,4 @@
-use Rattle.std.proofs.Common.{◌∙◌, drop, ◌+◌}
+use Rattle.whole_numbers.proofs.Common.{◌∙◌, drop, ◌+◌}
 use Rattle.fm_projection.proofs.Loops.{ahead, lowered}
 use Rattle.fm_projection.proofs.rows.append_lowest.Goals as goal
 

@@ -1,5 +1,4 @@
-use Rattle.std.proofs.Common.{◌≡◌, ◌++◌, drop}
-use Rattle.std.specs.Prelude.{map}
+use Rattle.whole_numbers.proofs.Common.{◌≡◌, ◌++◌, drop, map}
 use Rattle.whole_numbers.specs.Content.{lowest_of_form}
 use Rattle.fm_projection.proofs.rows.append_lowest.Given as goal
 

@@ -1,6 +1,5 @@
-use Rattle.std.proofs.Common.{◌∙◌, sym, drop, ◌∷◌, ◌+◌, arith}
+use Rattle.whole_numbers.proofs.Common.{◌∙◌, sym, drop, ◌∷◌, ◌+◌, arith, ints}
 use Rattle.std.proofs.Math.ListN.{drop_of_length-le}
-use Rattle.std.proofs.lemmas.Int.{ints}
 use Rattle.fractions.specs.Elimination.{is_positive, is_negative, chosen}
 use Rattle.fm_projection.specs.Runs.{pairs_run}
 use Rattle.fm_projection.proofs.Loops.{passes, stays, paired, stops, ends, pairs_stop, positive, not_positive}

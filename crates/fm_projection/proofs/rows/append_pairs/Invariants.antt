@@ -1,4 +1,4 @@
-use Rattle.std.proofs.Common.{◌≡◌, drop}
+use Rattle.whole_numbers.proofs.Common.{◌≡◌, drop}
 use Rattle.fractions.specs.Elimination.{chosen, is_positive, is_negative}
 use Rattle.fm_projection.specs.Runs.{behind, pairs_run}
 use Rattle.fm_projection.proofs.rows.append_pairs.Given as goal

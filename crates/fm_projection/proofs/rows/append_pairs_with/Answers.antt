@@ -1,6 +1,5 @@
-use Rattle.std.proofs.Common.{◌∙◌, sym, drop, ◌∷◌, ◌+◌, arith}
+use Rattle.whole_numbers.proofs.Common.{◌∙◌, sym, drop, ◌∷◌, ◌+◌, arith, ints}
 use Rattle.std.proofs.Math.ListN.{drop_of_length-le}
-use Rattle.std.proofs.lemmas.Int.{ints}
 use Rattle.fractions.specs.Elimination.{is_negative, chosen}
 use Rattle.fm_projection.specs.Runs.{pair_run, forms_run}
 use Rattle.fm_projection.proofs.Loops.{passes, stays, gained, stops, ends, first_stops, negative, not_negative}

@@ -1,4 +1,4 @@
-use Rattle.std.proofs.Common.{◌≡◌, drop}
+use Rattle.whole_numbers.proofs.Common.{◌≡◌, drop}
 use Rattle.fractions.specs.Elimination.{chosen, is_negative}
 use Rattle.fm_projection.specs.Runs.{behind, forms_run, pair_run}
 use Rattle.fm_projection.proofs.rows.append_pairs_with.Given as goal

@@ -1,4 +1,4 @@
-use Rattle.std.proofs.Common.{◌≡◌, drop}
+use Rattle.whole_numbers.proofs.Common.{◌≡◌, drop}
 use Rattle.fractions.specs.Elimination.{chosen, is_not_zero}
 use Rattle.fm_projection.specs.Runs.{behind, forms_run, reduced_run}
 use Rattle.fm_projection.proofs.rows.append_reduced.Given as goal

@@ -1,5 +1,4 @@
-use Rattle.std.proofs.Common.{◌∙◌, drop, ◌+◌, arith, refl}
-use Rattle.std.proofs.lemmas.Int.{ints}
+use Rattle.whole_numbers.proofs.Common.{◌∙◌, drop, ◌+◌, arith, refl, ints}
 use Rattle.fractions.specs.Elimination.{is_zero, chosen}
 use Rattle.fm_projection.proofs.Loops.{passes, stays, lowered, zero_is, zero_not}
 use Rattle.fm_projection.proofs.rows.append_without.Goals as goal

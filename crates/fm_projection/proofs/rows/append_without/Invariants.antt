@@ -1,5 +1,4 @@
-use Rattle.std.proofs.Common.{◌≡◌, ◌++◌, drop}
-use Rattle.std.specs.Prelude.{map}
+use Rattle.whole_numbers.proofs.Common.{◌≡◌, ◌++◌, drop, map}
 use Rattle.whole_numbers.specs.Content.{lowest_of_form}
 use Rattle.fractions.specs.Elimination.{chosen, is_zero}
 use Rattle.fm_projection.proofs.rows.append_without.Given as goal

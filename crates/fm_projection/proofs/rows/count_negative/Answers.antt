@@ -1,5 +1,4 @@
-use Rattle.std.proofs.Common.{arith, length}
-use Rattle.std.proofs.lemmas.Int.{ints}
+use Rattle.whole_numbers.proofs.Common.{arith, length, ints}
 use Rattle.fractions.specs.Elimination.{is_negative, chosen}
 use Rattle.fm_projection.proofs.Loops.{counts, skips, negative, not_negative}
 use Rattle.fm_projection.proofs.rows.count_negative.Goals as goal

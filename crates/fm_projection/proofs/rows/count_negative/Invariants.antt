@@ -1,4 +1,4 @@
-use Rattle.std.proofs.Common.{◌≡◌, drop, ◌+◌, ◌≤◌, length}
+use Rattle.whole_numbers.proofs.Common.{◌≡◌, drop, ◌+◌, ◌≤◌, length}
 use Rattle.fractions.specs.Elimination.{chosen, is_negative}
 use Rattle.fm_projection.proofs.rows.count_negative.Given as goal
 

@@ -1,5 +1,4 @@
-use Rattle.std.proofs.Common.{arith, length}
-use Rattle.std.proofs.lemmas.Int.{ints}
+use Rattle.whole_numbers.proofs.Common.{arith, length, ints}
 use Rattle.fractions.specs.Elimination.{is_positive, chosen}
 use Rattle.fm_projection.proofs.Loops.{counts, skips, positive, not_positive}
 use Rattle.fm_projection.proofs.rows.count_positive.Goals as goal

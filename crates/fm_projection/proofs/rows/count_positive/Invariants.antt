@@ -1,4 +1,4 @@
-use Rattle.std.proofs.Common.{◌≡◌, drop, ◌+◌, ◌≤◌, length}
+use Rattle.whole_numbers.proofs.Common.{◌≡◌, drop, ◌+◌, ◌≤◌, length}
 use Rattle.fractions.specs.Elimination.{chosen, is_positive}
 use Rattle.fm_projection.proofs.rows.count_positive.Given as goal
 

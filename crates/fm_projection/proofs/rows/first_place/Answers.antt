@@ -1,5 +1,4 @@
-use Rattle.std.proofs.Common.{arith, refl}
-use Rattle.std.proofs.lemmas.Int.{ints}
+use Rattle.whole_numbers.proofs.Common.{arith, refl, ints}
 use Rattle.fm_projection.proofs.Loops.{passed, found, zero_is, zero_not}
 use Rattle.fm_projection.proofs.rows.first_place.Goals as goal
 

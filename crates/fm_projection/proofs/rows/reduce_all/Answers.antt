@@ -1,6 +1,4 @@
-use Rattle.std.proofs.Common.{rules, ◌≡◌, ◌∙◌, sym, ap, subst, List, ◌++◌}
-use Rattle.std.specs.Prelude.{map, Result, Ok}
-use Rattle.whole_numbers.specs.Affine.{Affine}
+use Rattle.whole_numbers.proofs.Common.{rules, ◌≡◌, ◌∙◌, sym, ap, subst, List, ◌++◌, map, Result, Ok, Affine}
 use Rattle.wide_math.specs.declared.Wide.{Wide}
 use Rattle.affine_forms.specs.Gives.{Fails}
 use Rattle.whole_numbers.specs.Content.{lowest_of_form}

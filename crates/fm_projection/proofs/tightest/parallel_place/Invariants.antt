@@ -1,4 +1,4 @@
-use Rattle.std.proofs.Common.{◌≡◌, ◌+◌, drop}
+use Rattle.whole_numbers.proofs.Common.{◌≡◌, ◌+◌, drop}
 use Rattle.fm_projection.specs.steps.Places.{parallel_place}
 use Rattle.fm_projection.proofs.tightest.parallel_place.Given as goal
 

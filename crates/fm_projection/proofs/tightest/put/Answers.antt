@@ -1,8 +1,5 @@
+use Rattle.whole_numbers.proofs.Common.{rules, set, sym, ◌≡◌, ◌<◌, ◌≤◌, length, subst, arith, List, OnOk, ints, Affine}
 use Rattle.fm_projection.specs.Tightest.{with_row}
-use Rattle.std.proofs.Common.{rules, set, sym, ◌≡◌, ◌<◌, ◌≤◌, length, subst, arith, List}
-use Rattle.std.specs.Prelude.{OnOk}
-use Rattle.std.proofs.lemmas.Int.{ints}
-use Rattle.whole_numbers.specs.Affine.{Affine}
 use Rattle.fm_projection.specs.steps.Places.{parallel_place}
 use Rattle.fm_projection.proofs.TightestRows.{put_behind, put_tighter, put_looser}
 use Rattle.fm_projection.proofs.tightest.put.Goals as goal

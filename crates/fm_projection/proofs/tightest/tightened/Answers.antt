@@ -1,5 +1,4 @@
-use Rattle.std.proofs.Common.{rules, sym, subst, ap₂, List, All, ℕ, ◌+◌, ◌≡◌}
-use Rattle.whole_numbers.specs.Affine.{Affine}
+use Rattle.whole_numbers.proofs.Common.{rules, sym, subst, ap₂, List, All, ℕ, ◌+◌, ◌≡◌, Affine}
 use Rattle.affine_forms.specs.Parts.{variables_of}
 use Rattle.integer_sets.specs.Constraints.{IsSized, variables_in}
 use Rattle.fm_projection.specs.Tightest.{tightest}

@@ -1,4 +1,4 @@
-use Rattle.std.proofs.Common.{◌≡◌, drop}
+use Rattle.whole_numbers.proofs.Common.{◌≡◌, drop}
 use Rattle.fm_projection.specs.Tightest.{with_rows, tightest}
 use Rattle.fm_projection.proofs.tightest.tightest.Given as goal
 

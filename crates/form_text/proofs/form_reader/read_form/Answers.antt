@@ -1,7 +1,5 @@
-use Rattle.std.proofs.Common.{rules, ◌≡◌, ◌++◌, ◌∷◌, ◌<◌, ◌≤◌, [], false, length, true}
-use Rattle.std.specs.Prelude.{FitsSigned}
-use Rattle.std.specs.Int.{w128}
-use Rattle.std.proofs.lemmas.Int.{to_z-of_z}
+use Rattle.whole_numbers.proofs.Common.{rules, ◌≡◌, ◌++◌, ◌∷◌, ◌<◌, ◌≤◌, [], false, length, true, FitsSigned, w128}
+use Rattle.whole_numbers.proofs.Common.{to_z-of_z}
 use Rattle.form_text.specs.Reading.{read_form}
 use Rattle.form_text.specs.View.{next_read}
 use Rattle.form_text.proofs.StrippedFronts.{terms_last, terms_more}

@@ -1,5 +1,5 @@
 -- The coefficients so far, in front of what is still read, are those of all.
-use Rattle.std.proofs.Common.{◌≡◌, map, drop, true}
+use Rattle.whole_numbers.proofs.Common.{◌≡◌, map, drop, true}
 use Rattle.form_text.specs.Reading.{read_terms}
 use Rattle.form_text.proofs.StrippedFronts.{joined}
 use Rattle.form_text.proofs.form_reader.read_form.Given as goal

@@ -1,4 +1,4 @@
-use Rattle.std.proofs.Common.{rules, ◌≡◌, ◌∙◌, ◌+◌, ◌-◌, ◌*◌, ◌^◌, ◌<◌, length, ap, sym, arith}
+use Rattle.whole_numbers.proofs.Common.{rules, ◌≡◌, ◌∙◌, ◌+◌, ◌-◌, ◌*◌, ◌^◌, ◌<◌, length, ap, sym, arith}
 use Rattle.form_text.specs.Reading.{number_in_front, behind_digits}
 use Rattle.form_text.specs.View.{saturated}
 use Rattle.form_text.proofs.StrippedFronts.{saturated_same, stops_at_end}

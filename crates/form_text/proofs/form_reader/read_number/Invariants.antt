@@ -1,5 +1,5 @@
 -- The number so far with the digits to come is that of all.
-use Rattle.std.proofs.Common.{◌≡◌, ◌^◌, ◌<◌, length}
+use Rattle.whole_numbers.proofs.Common.{◌≡◌, ◌^◌, ◌<◌, length}
 use Rattle.form_text.specs.Reading.{number_in_front, behind_digits}
 use Rattle.form_text.specs.View.{saturated}
 use Rattle.form_text.proofs.form_reader.read_number.Given as goal

@@ -1,5 +1,5 @@
+use Rattle.whole_numbers.proofs.Common.{Decides-eqb}
 use Rattle.std.proofs.lemmas.Slice.Eq.{strip_prefix_is}
-use Rattle.std.proofs.lemmas.Bool.Decides.{Decides-eqb}
 use Rattle.form_text.proofs.StrippedFronts.{stripped}
 use Rattle.form_text.proofs.form_reader.strip.Goals as goal
 

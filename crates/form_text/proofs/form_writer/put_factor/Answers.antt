@@ -1,4 +1,4 @@
-use Rattle.std.proofs.Common.{rules, ◌≡◌, ◌++◌, ◌<◌, decimal, length, OnOk, subst, ap, ◌∙◌}
+use Rattle.whole_numbers.proofs.Common.{rules, ◌≡◌, ◌++◌, ◌<◌, decimal, length, OnOk, subst, ap, ◌∙◌}
 use Rattle.form_text.specs.Forms.{factor_text}
 use Rattle.form_text.proofs.PutTexts.{put_product}
 use Rattle.form_text.proofs.form_writer.put_factor.Goals as goal

@@ -1,8 +1,5 @@
-use Rattle.std.proofs.Common.{rules, ◌≡◌, ◌∙◌, ◌++◌, ◌<◌, OnOk, ℕ, List, ap, arith, drop, get_or, length, map}
-use Rattle.std.proofs.Common.{pos, subst, sym}
-use Rattle.std.specs.Prelude.{FitsSigned}
-use Rattle.std.specs.Int.{w128}
-use Rattle.std.proofs.lemmas.Int.{to_z-of_z}
+use Rattle.whole_numbers.proofs.Common.{rules, ◌≡◌, ◌∙◌, ◌++◌, ◌<◌, OnOk, ℕ, List, ap, arith, drop, get_or, length, map}
+use Rattle.whole_numbers.proofs.Common.{pos, subst, sym, FitsSigned, w128, to_z-of_z}
 use Rattle.form_text.specs.Forms.{form_text, term_text}
 use Rattle.form_text.proofs.PutTexts.{behind_all, term_put}
 use Rattle.form_text.proofs.form_writer.put_form.Goals as goal

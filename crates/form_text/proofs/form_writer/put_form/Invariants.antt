@@ -1,5 +1,5 @@
 -- What is put so far, and the terms to come, are those of the whole form.
-use Rattle.std.proofs.Common.{◌≡◌, ◌++◌, map, drop, true}
+use Rattle.whole_numbers.proofs.Common.{◌≡◌, ◌++◌, map, drop, true}
 use Rattle.form_text.specs.Forms.{terms_text}
 use Rattle.form_text.proofs.form_writer.put_form.Given as goal
 

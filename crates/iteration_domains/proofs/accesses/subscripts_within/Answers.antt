@@ -1,6 +1,4 @@
-use Rattle.std.proofs.Common.{sym, subst}
-use Rattle.whole_numbers.specs.Affine.{composed}
-use Rattle.whole_numbers.proofs.Entries.{map_more, map_end}
+use Rattle.scop_syntax.proofs.Common.{sym, subst, composed, map_more, map_end}
 use Rattle.iteration_domains.specs.Sizes.{CanCompose}
 use Rattle.iteration_domains.proofs.accesses.subscripts_within.Goals as goal
 

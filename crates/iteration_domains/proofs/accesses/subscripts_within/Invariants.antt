@@ -1,5 +1,4 @@
-use Rattle.std.proofs.Common.{◌≡◌, ◌++◌, map, drop}
-use Rattle.whole_numbers.specs.Affine.{composed}
+use Rattle.scop_syntax.proofs.Common.{◌≡◌, ◌++◌, map, drop, composed}
 use Rattle.iteration_domains.proofs.accesses.subscripts_within.Given as goal
 
 abbrev pub invariant-loop-subscript : goal.invariant-loop-subscript

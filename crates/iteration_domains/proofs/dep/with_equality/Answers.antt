@@ -1,4 +1,4 @@
-use Rattle.std.proofs.Common.{subst}
+use Rattle.scop_syntax.proofs.Common.{subst}
 use Rattle.integer_sets.specs.Constraints.{Constraints, IsSized, variables_in}
 use Rattle.iteration_domains.proofs.AddedConstraints.{equality_sized}
 use Rattle.iteration_domains.proofs.dep.with_equality.Goals as goal

@@ -1,4 +1,4 @@
-use Rattle.std.proofs.Common.{sym, ◌∙◌}
+use Rattle.scop_syntax.proofs.Common.{sym, ◌∙◌}
 use Rattle.iteration_domains.proofs.Instances.{has_statement, instance_is_point, point_is_instance}
 use Rattle.iteration_domains.proofs.domain_laws.domains_hold_the_instances.Goals as goal
 

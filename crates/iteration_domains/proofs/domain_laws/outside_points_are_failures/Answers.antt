@@ -1,8 +1,6 @@
-use Rattle.std.proofs.Common.{◌≡◌, length, ap, subst, sym, ◌∙◌}
+use Rattle.scop_syntax.proofs.Common.{◌≡◌, length, ap, subst, sym, ◌∙◌, layout, walk_of}
 use Rattle.integer_sets.specs.Constraints.{Constraints}
 use Rattle.integer_sets.specs.Points.{Satisfies}
-use Rattle.scop_syntax.specs.Execution.{layout}
-use Rattle.scop_syntax.specs.Walk.{walk_of}
 use Rattle.iteration_domains.proofs.Instances.{WalkLaws, cells_are_touched, instance_is_point, point_is_instance}
 use Rattle.iteration_domains.proofs.FixedForms.{outside_points}
 use Rattle.iteration_domains.proofs.OutsideLaws.{asked_stands, asks_one, failure_satisfies, none_outside, point_fails}

@@ -1,5 +1,4 @@
-use Rattle.std.proofs.Common.{subst, sym}
-use Rattle.whole_numbers.specs.Affine.{Affine}
+use Rattle.scop_syntax.proofs.Common.{subst, sym, Affine}
 use Rattle.iteration_domains.specs.Sizes.{CanCompose}
 use Rattle.iteration_domains.proofs.forms.compose.Goals as goal
 

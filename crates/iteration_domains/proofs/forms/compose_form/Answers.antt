@@ -1,4 +1,4 @@
-use Rattle.std.proofs.Common.{◌≡◌, Err}
+use Rattle.scop_syntax.proofs.Common.{◌≡◌, Err}
 use Rattle.integer_sets.specs.FormStop.TheVariants.{Wide as TooWide}
 use Rattle.integer_sets.specs.FormGives.{Fails}
 use Rattle.integer_sets.specs.FormRuns.{compose_run}

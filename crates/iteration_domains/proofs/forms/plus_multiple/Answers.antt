@@ -1,7 +1,5 @@
-use Rattle.std.proofs.Common.{◌≡◌, ℤ, Ok, Err, rules, FitsSigned, to_z, of_z, pos, subst}
-use Rattle.std.specs.Int.{w128}
-use Rattle.std.proofs.lemmas.Int.{to_z-of_z}
-use Rattle.whole_numbers.specs.Affine.{Affine}
+use Rattle.scop_syntax.proofs.Common.{◌≡◌, ℤ, Ok, Err, rules, FitsSigned, to_z, of_z, pos, subst, w128, to_z-of_z}
+use Rattle.scop_syntax.proofs.Common.{Affine}
 use Rattle.integer_sets.specs.FormStop.TheVariants.{Wide as TooWide}
 use Rattle.integer_sets.specs.FormGives.{Fails}
 use Rattle.integer_sets.specs.FormRuns.{forms_sum_run}

@@ -1,4 +1,4 @@
-use Rattle.std.proofs.Common.{◌++◌, arith}
+use Rattle.scop_syntax.proofs.Common.{◌++◌, arith}
 use Rattle.iteration_domains.specs.Rows.{variables}
 use Rattle.iteration_domains.proofs.Surroundings.{variables_step}
 use Rattle.iteration_domains.proofs.forms.push_variables.Goals as goal

@@ -1,4 +1,4 @@
-use Rattle.std.proofs.Common.{◌≡◌, ◌+◌, ◌-◌, ◌++◌}
+use Rattle.scop_syntax.proofs.Common.{◌≡◌, ◌+◌, ◌-◌, ◌++◌}
 use Rattle.iteration_domains.specs.Rows.{variables}
 use Rattle.iteration_domains.proofs.forms.push_variables.Given as goal
 

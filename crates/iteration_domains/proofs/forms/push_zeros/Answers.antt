@@ -1,9 +1,8 @@
-use Rattle.std.proofs.Common.{◌≡◌, ◌+◌, ◌++◌, ◌∙◌, ℕ, ℤ, List, pos, ap, length, take, replicate, arith}
+use Rattle.scop_syntax.proofs.Common.{◌≡◌, ◌+◌, ◌++◌, ◌∙◌, ℕ, ℤ, List, pos, ap, length, take, replicate, arith}
+use Rattle.scop_syntax.proofs.Common.{take_all, zeros, replicate-zeros}
 use Rattle.std.specs.List.{AppendsClonesOf}
-use Rattle.std.proofs.lemmas.List.{take_all, length-append}
+use Rattle.std.proofs.lemmas.List.{length-append}
 use Rattle.smallvec.proofs.Lists.{clones_same}
-use Rattle.whole_numbers.specs.Lists.{zeros}
-use Rattle.whole_numbers.proofs.Dot.{replicate-zeros}
 use Rattle.iteration_domains.proofs.forms.push_zeros.Goals as goal
 
 -- clones of 0 behind a whole list are zeros

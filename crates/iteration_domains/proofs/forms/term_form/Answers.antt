@@ -1,11 +1,6 @@
-use Rattle.std.proofs.Common.{◌≡◌, ℤ, List, length, set, rules, ap, ◌∙◌, subst, to_z, of_z, FitsSigned}
-use Rattle.std.specs.Prelude.{IfOk}
-use Rattle.std.specs.Int.{w128}
-use Rattle.std.proofs.lemmas.Int.{to_z-of_z}
+use Rattle.scop_syntax.proofs.Common.{◌≡◌, ℤ, List, length, set, rules, ap, ◌∙◌, subst, to_z, of_z, FitsSigned, IfOk}
+use Rattle.scop_syntax.proofs.Common.{w128, to_z-of_z, form_of, zeros, replicate-zeros}
 use Rattle.std.proofs.Math.ListN.{length-set}
-use Rattle.whole_numbers.specs.Affine.{form_of}
-use Rattle.whole_numbers.specs.Lists.{zeros}
-use Rattle.whole_numbers.proofs.Dot.{replicate-zeros}
 use Rattle.integer_sets.proofs.FormSteps.{refill_same}
 use Rattle.iteration_domains.proofs.forms.term_form.Goals as goal
 

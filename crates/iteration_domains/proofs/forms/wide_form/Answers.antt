@@ -1,9 +1,6 @@
-use Rattle.std.proofs.Common.{rules, ◌≡◌, ◌∙◌, ap, subst, sym, ◌++◌, ◌∷◌, [], take_all, pos, get_or, FitsSigned}
-use Rattle.std.specs.Prelude.{IfOk}
-use Rattle.std.specs.Int.{w64, w128}
-use Rattle.std.proofs.lemmas.Int.{to_z-of_z}
-use Rattle.std.proofs.lemmas.List.{take_more}
-use Rattle.whole_numbers.specs.Affine.{Affine, form_of}
+use Rattle.scop_syntax.proofs.Common.{rules, ◌≡◌, ◌∙◌, ap, subst, sym, ◌++◌, ◌∷◌, [], pos, get_or, FitsSigned, IfOk}
+use Rattle.scop_syntax.proofs.Common.{w64, w128, to_z-of_z, take_more, Affine, form_of}
+use Rattle.std.proofs.Common.{take_all}
 use Rattle.iteration_domains.proofs.forms.wide_form.Goals as goal
 
 pub loop-coefficient-preserved : goal.loop-coefficient-preserved

@@ -1,4 +1,4 @@
-use Rattle.std.proofs.Common.{◌≡◌, take}
+use Rattle.scop_syntax.proofs.Common.{◌≡◌, take}
 use Rattle.iteration_domains.proofs.forms.wide_form.Given as goal
 
 abbrev pub invariant-loop-coefficient : goal.invariant-loop-coefficient

@@ -1,9 +1,7 @@
-use Rattle.std.proofs.Common.{◌≡◌, ℕ, ◌+◌, ◌<◌, List, [], ◌∷◌, ◌++◌, length, vec_len, map, refl, ap, subst, sym}
-use Rattle.std.proofs.Common.{◌∙◌, rules, arith}
-use Rattle.scop_syntax.specs.Tree.{Head, more, none}
-use Rattle.scop_syntax.specs.Statements.{round, placed_all}
-use Rattle.scop_syntax.specs.View.{items_of, test_of, tree_of}
-use Rattle.scop_syntax.proofs.Weights.{weight, weight_all, item_weight}
+use Rattle.scop_syntax.proofs.Common.{◌≡◌, ℕ, ◌+◌, ◌<◌, List, [], ◌∷◌, ◌++◌, length, map, refl, ap, subst, sym, ◌∙◌}
+use Rattle.scop_syntax.proofs.Common.{rules, arith, Head, more, none, round, placed_all, items_of, test_of, tree_of}
+use Rattle.scop_syntax.proofs.Common.{weight, weight_all, item_weight}
+use Rattle.std.proofs.Common.{vec_len}
 use Rattle.iteration_domains.specs.Model.{Modelled}
 use Rattle.iteration_domains.specs.Path.{Path, CanModel, modelled_in, path_at, path_of, scope_of, scopes_of}
 use Rattle.iteration_domains.proofs.TreeStatements.{can_loop, can_guard, item_can, item_step, models_of_loop}

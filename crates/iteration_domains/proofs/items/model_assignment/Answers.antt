@@ -1,8 +1,6 @@
-use Rattle.std.proofs.Common.{◌≡◌, ℕ, ◌+◌, List, length, ap, subst, sym, ◌∙◌, rules}
-use Rattle.whole_numbers.specs.Affine.{Affine}
+use Rattle.scop_syntax.proofs.Common.{◌≡◌, ℕ, ◌+◌, List, length, ap, subst, sym, ◌∙◌, rules, Affine, Statement}
+use Rattle.scop_syntax.proofs.Common.{right_of}
 use Rattle.integer_sets.specs.Constraints.{IsSized}
-use Rattle.scop_syntax.specs.Tree.{Statement}
-use Rattle.scop_syntax.specs.View.{right_of}
 use Rattle.iteration_domains.specs.declared.rows.Scope.{Scope}
 use Rattle.iteration_domains.specs.Constraints.{equalities_in}
 use Rattle.iteration_domains.specs.Sizes.{IsModelled}

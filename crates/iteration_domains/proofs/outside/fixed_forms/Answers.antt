@@ -1,10 +1,5 @@
-use Rattle.std.proofs.Common.{rules, pos, get_or, FitsSigned}
-use Rattle.std.specs.Int.{w64, w128}
-use Rattle.std.proofs.lemmas.Int.{to_z-of_z}
-use Rattle.std.proofs.lemmas.List.{get_or_default}
-use Rattle.whole_numbers.specs.Affine.{form_of}
-use Rattle.whole_numbers.specs.Lists.{zeros}
-use Rattle.whole_numbers.proofs.Entries.{map_more, map_end}
+use Rattle.scop_syntax.proofs.Common.{rules, pos, get_or, FitsSigned, w64, w128, to_z-of_z, get_or_default, form_of}
+use Rattle.scop_syntax.proofs.Common.{zeros, map_more, map_end}
 use Rattle.iteration_domains.proofs.outside.fixed_forms.Goals as goal
 
 pub loop-param-preserved : goal.loop-param-preserved

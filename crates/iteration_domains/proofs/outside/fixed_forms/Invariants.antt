@@ -1,6 +1,4 @@
-use Rattle.std.proofs.Common.{◌≡◌, ◌++◌, drop, map}
-use Rattle.whole_numbers.specs.Affine.{form_of}
-use Rattle.whole_numbers.specs.Lists.{zeros}
+use Rattle.scop_syntax.proofs.Common.{◌≡◌, ◌++◌, drop, map, form_of, zeros}
 use Rattle.iteration_domains.specs.Outside.{fixed_forms}
 use Rattle.iteration_domains.proofs.outside.fixed_forms.Given as goal
 

@@ -1,5 +1,4 @@
-use Rattle.std.proofs.Common.{length, sym, subst}
-use Rattle.whole_numbers.proofs.Entries.{map_more, map_end}
+use Rattle.scop_syntax.proofs.Common.{length, sym, subst, map_more, map_end}
 use Rattle.iteration_domains.specs.Outside.{fixed}
 use Rattle.iteration_domains.specs.Sizes.{IsNarrow}
 use Rattle.iteration_domains.proofs.FixedForms.{can_fix}

@@ -1,4 +1,4 @@
-use Rattle.std.proofs.Common.{◌≡◌, ◌++◌, drop, map}
+use Rattle.scop_syntax.proofs.Common.{◌≡◌, ◌++◌, drop, map}
 use Rattle.iteration_domains.specs.Outside.{fixed}
 use Rattle.iteration_domains.proofs.outside.fixed_rows.Given as goal
 

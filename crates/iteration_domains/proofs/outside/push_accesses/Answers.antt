@@ -1,7 +1,4 @@
-use Rattle.std.proofs.Common.{◌≡◌, ◌∙◌, List, ap, get_or, length, subst, sym}
-use Rattle.std.specs.Prelude.{All}
-use Rattle.whole_numbers.specs.Affine.{Affine}
-use Rattle.scop_syntax.specs.Tree.{Access, Declaration}
+use Rattle.scop_syntax.proofs.Common.{◌≡◌, ◌∙◌, List, ap, get_or, length, subst, sym, All, Affine, Access, Declaration}
 use Rattle.iteration_domains.specs.Sizes.{IsNarrow}
 use Rattle.iteration_domains.specs.steps.Asking.{CanAsk, IsExtent}
 use Rattle.iteration_domains.proofs.OutsideSteps.{can_rank}

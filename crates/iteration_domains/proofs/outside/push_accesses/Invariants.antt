@@ -1,6 +1,4 @@
-use Rattle.std.proofs.Common.{◌≡◌, ◌++◌, drop}
-use Rattle.scop_syntax.specs.Execution.{layout}
-use Rattle.scop_syntax.specs.View.{program_of}
+use Rattle.scop_syntax.proofs.Common.{◌≡◌, ◌++◌, drop, layout, program_of}
 use Rattle.iteration_domains.specs.Outside.{outside_accesses}
 use Rattle.iteration_domains.proofs.outside.push_accesses.Given as goal
 

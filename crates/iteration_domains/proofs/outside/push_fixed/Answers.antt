@@ -1,9 +1,5 @@
-use Rattle.std.proofs.Common.{◌∙◌, ℕ, List, ap, length, subst, sym}
-use Rattle.std.specs.Prelude.{All}
-use Rattle.whole_numbers.specs.Affine.{Affine}
+use Rattle.scop_syntax.proofs.Common.{◌∙◌, ℕ, List, ap, length, subst, sym, All, Affine, Access, program_of}
 use Rattle.integer_sets.specs.Constraints.{Constraints}
-use Rattle.scop_syntax.specs.Tree.{Access}
-use Rattle.scop_syntax.specs.View.{program_of}
 use Rattle.iteration_domains.specs.Outside.{fixed_domain}
 use Rattle.iteration_domains.specs.Sizes.{IsNarrow}
 use Rattle.iteration_domains.specs.steps.Asking.{AreFixed, CanAsk}

@@ -1,4 +1,4 @@
-use Rattle.std.proofs.Common.{◌≡◌, ◌+◌, ◌∙◌, ap, arith, refl}
+use Rattle.scop_syntax.proofs.Common.{◌≡◌, ◌+◌, ◌∙◌, ap, arith, refl}
 use Rattle.integer_sets.specs.Parts.{variables_of}
 use Rattle.iteration_domains.proofs.FixedForms.{length-shifted}
 use Rattle.iteration_domains.proofs.outside.push_shifted.Goals as goal

@@ -1,4 +1,4 @@
-use Rattle.std.proofs.Common.{◌∙◌, ℕ, ap}
+use Rattle.scop_syntax.proofs.Common.{◌∙◌, ℕ, ap}
 use Rattle.integer_sets.specs.Constraints.{Constraints}
 use Rattle.iteration_domains.specs.Outside.{fixed_forms}
 use Rattle.iteration_domains.proofs.outside.push_statement.Goals as goal

@@ -1,5 +1,4 @@
-use Rattle.std.proofs.Common.{◌^◌, ◌≤◌, ℕ, subst, sym, ap, ◌∙◌}
-use Rattle.whole_numbers.specs.Affine.{Affine, composed}
+use Rattle.scop_syntax.proofs.Common.{◌^◌, ◌≤◌, ℕ, subst, sym, ap, ◌∙◌, Affine, composed}
 use Rattle.iteration_domains.specs.Sizes.{CanCompose, form_size}
 use Rattle.iteration_domains.proofs.FixedForms.{can_fix, size-fixed}
 use Rattle.iteration_domains.proofs.outside.push_subscript.Goals as goal

@@ -1,6 +1,4 @@
-use Rattle.std.proofs.Common.{◌≡◌, ◌<◌, ℕ, List, arith, get_or, length, map, subst, sym}
-use Rattle.scop_syntax.specs.Cells.{values}
-use Rattle.scop_syntax.specs.Execution.{size_of}
+use Rattle.scop_syntax.proofs.Common.{◌≡◌, ◌<◌, ℕ, List, arith, get_or, length, map, subst, sym, values, size_of}
 use Rattle.iteration_domains.proofs.OutsideSteps.{dimension_more, extent_at, extents_many}
 use Rattle.iteration_domains.proofs.outside.push_subscripts.Goals as goal
 

@@ -1,6 +1,4 @@
-use Rattle.std.proofs.Common.{◌≡◌, ◌++◌, drop, map}
-use Rattle.scop_syntax.specs.Cells.{values}
-use Rattle.scop_syntax.specs.Execution.{size_of}
+use Rattle.scop_syntax.proofs.Common.{◌≡◌, ◌++◌, drop, map, values, size_of}
 use Rattle.iteration_domains.specs.Outside.{outside_dimensions}
 use Rattle.iteration_domains.proofs.outside.push_subscripts.Given as goal
 

@@ -1,8 +1,5 @@
-use Rattle.std.proofs.Common.{◌≡◌, ◌+◌, ◌*◌, ◌^◌, ◌≤◌, ℤ, ap, subst, sym, ◌∙◌, rules, arith, FitsSigned}
-use Rattle.std.specs.Prelude.{unsigned_abs}
-use Rattle.std.specs.Int.{w128}
-use Rattle.std.proofs.lemmas.Int.{to_z-of_z}
-use Rattle.whole_numbers.proofs.Dot.{length-zeros}
+use Rattle.scop_syntax.proofs.Common.{◌≡◌, ◌+◌, ◌*◌, ◌^◌, ◌≤◌, ℤ, ap, subst, sym, ◌∙◌, rules, arith, FitsSigned}
+use Rattle.scop_syntax.proofs.Common.{unsigned_abs, w128, to_z-of_z, length-zeros}
 use Rattle.integer_sets.specs.Parts.{variables_of}
 use Rattle.iteration_domains.specs.Sizes.{form_size}
 use Rattle.iteration_domains.proofs.Sizes.{size-zeros}

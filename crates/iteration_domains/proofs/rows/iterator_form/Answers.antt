@@ -1,11 +1,7 @@
-use Rattle.std.proofs.Common.{◌≡◌, ◌+◌, ◌*◌, ◌^◌, ◌≤◌, ℤ, length, arith, ap, subst, sym, ◌∙◌, to_z, of_z, mul-le-mul}
-use Rattle.std.proofs.Common.{FitsSigned}
-use Rattle.std.specs.Prelude.{unsigned_abs}
-use Rattle.std.specs.Int.{w64, w128}
-use Rattle.std.proofs.lemmas.Int.{to_z-of_z, fits_signed_from_abs}
-use Rattle.whole_numbers.specs.Affine.{Affine, composed}
+use Rattle.scop_syntax.proofs.Common.{◌≡◌, ◌+◌, ◌*◌, ◌^◌, ◌≤◌, ℤ, length, arith, ap, subst, sym, ◌∙◌, to_z, of_z}
+use Rattle.scop_syntax.proofs.Common.{mul-le-mul, FitsSigned, unsigned_abs, w64, w128, to_z-of_z, fits_signed_from_abs}
+use Rattle.scop_syntax.proofs.Common.{Affine, composed, Head}
 use Rattle.integer_sets.specs.Parts.{variables_of}
-use Rattle.scop_syntax.specs.Tree.{Head}
 use Rattle.iteration_domains.specs.Sizes.{CanCompose, form_size, forms_size}
 use Rattle.iteration_domains.proofs.Surroundings.{can_compose, length-variable}
 use Rattle.iteration_domains.proofs.Sizes.{size-composed, size-variable}

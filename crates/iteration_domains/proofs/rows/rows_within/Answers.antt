@@ -1,5 +1,4 @@
-use Rattle.std.proofs.Common.{◌≡◌, ◌∙◌, List, ap, ap₂, sym, append-nil, subst, drop_of_length-le}
-use Rattle.whole_numbers.specs.Affine.{Affine}
+use Rattle.scop_syntax.proofs.Common.{◌≡◌, ◌∙◌, List, ap, ap₂, sym, append-nil, subst, drop_of_length-le, Affine}
 use Rattle.iteration_domains.specs.Path.{shown, scopes_of}
 use Rattle.iteration_domains.specs.declared.rows.Scope.{Scope as CodeScope}
 use Rattle.iteration_domains.specs.Standing.{Standing, Gathered, CanEnter, finished, starting}

@@ -1,8 +1,5 @@
 -- The case is that of its kind, which lies within the limits and inside.
-use Rattle.std.proofs.Common.{sym, subst, ◌∙◌}
-use Rattle.scop_syntax.specs.Tree.{Program}
-use Rattle.scop_syntax.specs.Execution.{IsInside}
-use Rattle.scop_syntax.specs.Limits.{WithinLimits}
+use Rattle.scop_syntax.proofs.Common.{sym, subst, ◌∙◌, Program, IsInside, WithinLimits}
 use Rattle.kernel_gen.specs.Cases.{program}
 use Rattle.kernel_gen.proofs.Sizes.{inside, within}
 use Rattle.kernel_gen.proofs.cases.generated.Goals as goal

@@ -1,9 +1,7 @@
 -- One statement more.
-use Rattle.std.proofs.Common.{◌≡◌, ◌∙◌, sym, ap, ap₂, subst, ◌∷◌, [], ◌++◌, List, map, arith}
-use Rattle.std.specs.List.{range_with_len}
+use Rattle.scop_syntax.proofs.Common.{◌≡◌, ◌∙◌, sym, ap, ap₂, subst, ◌∷◌, [], ◌++◌, List, map, arith, range_with_len}
+use Rattle.scop_syntax.proofs.Common.{Tree, tree_of, trees_of}
 use Rattle.std.proofs.lemmas.List.FromFn.{map-range_with_len_more}
-use Rattle.scop_syntax.specs.Tree.{Tree}
-use Rattle.scop_syntax.specs.View.{tree_of, trees_of}
 use Rattle.kernel_gen.specs.Programs.{chain_body, chained}
 use Rattle.kernel_gen.proofs.chain.statements.Goals as goal
 

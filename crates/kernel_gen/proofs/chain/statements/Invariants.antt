@@ -1,7 +1,5 @@
 -- The statements so far are the first ones.
-use Rattle.std.proofs.Common.{◌≡◌, map}
-use Rattle.std.specs.List.{range_with_len}
-use Rattle.scop_syntax.specs.View.{tree_of}
+use Rattle.scop_syntax.proofs.Common.{◌≡◌, map, range_with_len, tree_of}
 use Rattle.kernel_gen.specs.Programs.{chained}
 use Rattle.kernel_gen.proofs.chain.statements.Given as goal
 

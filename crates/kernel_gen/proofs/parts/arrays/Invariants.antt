@@ -1,6 +1,5 @@
 -- The arrays so far and those to come are all arrays.
-use Rattle.std.proofs.Common.{◌≡◌, ◌++◌, drop, map}
-use Rattle.whole_numbers.specs.Affine.{form_of}
+use Rattle.scop_syntax.proofs.Common.{◌≡◌, ◌++◌, drop, map, form_of}
 use Rattle.kernel_gen.specs.Programs.{arrays_of}
 use Rattle.kernel_gen.proofs.parts.arrays.Given as goal
 

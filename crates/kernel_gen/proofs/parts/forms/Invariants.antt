@@ -1,6 +1,5 @@
 -- The forms so far and those to come are all forms.
-use Rattle.std.proofs.Common.{◌≡◌, ◌++◌, drop, map}
-use Rattle.whole_numbers.specs.Affine.{form_of}
+use Rattle.scop_syntax.proofs.Common.{◌≡◌, ◌++◌, drop, map, form_of}
 use Rattle.kernel_gen.proofs.parts.forms.Given as goal
 
 abbrev pub invariant-loop-at : goal.invariant-loop-at

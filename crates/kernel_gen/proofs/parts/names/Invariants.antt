@@ -1,5 +1,5 @@
 -- The names so far and those to come are all names.
-use Rattle.std.proofs.Common.{◌≡◌, ◌++◌, drop, map}
+use Rattle.scop_syntax.proofs.Common.{◌≡◌, ◌++◌, drop, map}
 use Rattle.kernel_gen.proofs.parts.names.Given as goal
 
 abbrev pub invariant-loop-at : goal.invariant-loop-at

@@ -1,4 +1,4 @@
-use Rattle.std.proofs.Common.{arith}
+use Rattle.scop_syntax.proofs.Common.{arith}
 use Rattle.kernel_gen.proofs.Counts.{cells_of_shape}
 use Rattle.kernel_gen.proofs.totals.cells_in.Goals as goal
 

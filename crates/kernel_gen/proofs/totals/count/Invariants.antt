@@ -1,5 +1,5 @@
 -- The cells so far and those to come are all cells.
-use Rattle.std.proofs.Common.{◌≡◌, ◌+◌, drop}
+use Rattle.scop_syntax.proofs.Common.{◌≡◌, ◌+◌, drop}
 use Rattle.kernel_gen.specs.Totals.{cells_in}
 use Rattle.kernel_gen.proofs.totals.count.Given as goal
 

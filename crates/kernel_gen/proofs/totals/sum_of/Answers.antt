@@ -1,6 +1,6 @@
 -- Nothing is left, and the sum so far is below 2^64.
-use Rattle.std.proofs.Common.{◌≡◌, ◌+◌, ◌%◌, ◌^◌, ◌≤◌, ap, List, [], ℕ, drop, length, arith}
-use Rattle.std.specs.List.{sum, sum_by}
+use Rattle.scop_syntax.proofs.Common.{◌≡◌, ◌+◌, ◌%◌, ◌^◌, ◌≤◌, ap, List, [], ℕ, drop, length, arith, sum}
+use Rattle.std.specs.List.{sum_by}
 use Rattle.std.proofs.Math.ListN.{drop_of_length-le}
 use Rattle.kernel_gen.proofs.totals.sum_of.Goals as goal
 

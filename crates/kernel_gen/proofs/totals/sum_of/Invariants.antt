@@ -1,6 +1,6 @@
 -- The sum so far and the arrays to come make the whole sum.
-use Rattle.std.proofs.Common.{◌≡◌, ◌+◌, ◌%◌, ◌^◌, ◌<◌, drop}
-use Rattle.std.specs.List.{sum, sum_by}
+use Rattle.scop_syntax.proofs.Common.{◌≡◌, ◌+◌, ◌%◌, ◌^◌, ◌<◌, drop, sum}
+use Rattle.std.specs.List.{sum_by}
 use Rattle.kernel_gen.specs.Totals.{sum_of}
 use Rattle.kernel_gen.proofs.totals.sum_of.Given as goal
 

@@ -1,6 +1,5 @@
 -- The sum so far and the cells to come make the whole sum.
-use Rattle.std.proofs.Common.{◌≡◌, ◌+◌, ◌%◌, ◌^◌, drop}
-use Rattle.std.specs.List.{sum}
+use Rattle.scop_syntax.proofs.Common.{◌≡◌, ◌+◌, ◌%◌, ◌^◌, drop, sum}
 use Rattle.kernel_gen.proofs.totals.with_cells.Given as goal
 
 abbrev pub invariant-loop-cell : goal.invariant-loop-cell

@@ -1,4 +1,4 @@
-use Rattle.std.specs.Prelude.{Ok}
+use Rattle.whole_numbers.proofs.Common.{Ok}
 use Rattle.lexmin_runs.specs.Nodes as next
 use Rattle.lexmin_runs.proofs.Steps.{whole_step, resumed_step, resumed_stops}
 use Rattle.lexmin_runs.proofs.laws.runs_go_on_by_steps.Goals as goal

@@ -1,7 +1,5 @@
-use Rattle.std.proofs.Common.{rules, ℕ, ◌≡◌, ◌∙◌, ◌+◌, ◌<◌, List, map, ℤ, FitsSigned, to_z, of_z, length}
-use Rattle.std.proofs.Common.{get_or, ap, subst, sym, refl, arith, ◌≤ℤ◌, ◌<ℤ◌}
-use Rattle.std.specs.Int.{w128}
-use Rattle.std.proofs.lemmas.Int.{ints, to_z-of_z}
+use Rattle.scop_syntax.proofs.Common.{rules, ℕ, ◌≡◌, ◌∙◌, ◌+◌, ◌<◌, List, map, ℤ, FitsSigned, to_z, of_z, length}
+use Rattle.scop_syntax.proofs.Common.{get_or, ap, subst, sym, refl, arith, ◌≤ℤ◌, ◌<ℤ◌, w128, ints, to_z-of_z}
 use Rattle.loop_tree.specs.steps.Chain.{values_in}
 use Rattle.loop_tree.specs.Bookmarks.{CanStand}
 use Rattle.loop_tree.specs.Conditions.{CanWalk}

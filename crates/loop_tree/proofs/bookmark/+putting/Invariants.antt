@@ -1,4 +1,4 @@
-use Rattle.std.proofs.Common.{◌+◌}
+use Rattle.scop_syntax.proofs.Common.{◌+◌}
 use Rattle.loop_tree.specs.View.{nodes_of}
 use Rattle.loop_tree.proofs.Weights.{weight_all}
 use Rattle.loop_tree.proofs.bookmark.+putting.Given as goal

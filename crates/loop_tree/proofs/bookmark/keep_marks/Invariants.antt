@@ -1,4 +1,4 @@
-use Rattle.std.proofs.Common.{◌≡◌, ◌++◌, drop, length, map, take}
+use Rattle.scop_syntax.proofs.Common.{◌≡◌, ◌++◌, drop, length, map, take}
 use Rattle.loop_tree.specs.Bookmarks.{kept_in, without_last}
 use Rattle.loop_tree.specs.SpotView.{mark_of}
 use Rattle.loop_tree.proofs.bookmark.keep_marks.Given as goal

@@ -1,15 +1,11 @@
-use Rattle.std.proofs.Common.{rules, ◌≡◌, ◌∙◌, ℤ, ◌+◌, ◌*◌, ◌<◌, List, [], ◌∷◌, ◌++◌, drop, length, map, Bool, true, false}
-use Rattle.std.proofs.Common.{ap, ap₂, arith, drop_of_length-le, refl, subst, sym, to_z, of_z}
-use Rattle.std.specs.Prelude.{◌≤ℤ◌, ◌<ℤ◌, ◌-ℤ◌, FitsSigned}
-use Rattle.std.specs.Int.{w128}
-use Rattle.std.proofs.lemmas.Int.{ints, to_z-of_z}
-use Rattle.std.proofs.lemmas.Option.{IfSome_then}
+use Rattle.scop_syntax.proofs.Common.{rules, ◌≡◌, ◌∙◌, ℤ, ◌+◌, ◌*◌, ◌<◌, List, [], ◌∷◌, ◌++◌, drop, length, map, Bool}
+use Rattle.scop_syntax.proofs.Common.{true, false, ap, ap₂, arith, drop_of_length-le, refl, subst, sym, to_z, of_z}
+use Rattle.scop_syntax.proofs.Common.{◌≤ℤ◌, ◌<ℤ◌, ◌-ℤ◌, FitsSigned, w128, ints, to_z-of_z, IfSome_then, most_turns}
 use Rattle.loop_tree.specs.steps.Chain.{values_in}
 use Rattle.loop_tree.specs.steps.Counting.{AreWithin}
 use Rattle.loop_tree.specs.Conditions.{CanWalk}
 use Rattle.loop_tree.specs.Tree.{Tree, Trees, guard, loop, more, none}
 use Rattle.loop_tree.specs.View.{bounds_in, nodes_of, test_of, tree_of}
-use Rattle.scop_syntax.specs.Walk.{most_turns}
 use Rattle.loop_tree.specs.Walk.{Visit, between, lower, upper, walk_all}
 use Rattle.loop_tree.specs.declared.outer.Outer.TheVariants.{Within}
 use Rattle.loop_tree.specs.declared.tree.Node.{Node}

@@ -1,4 +1,4 @@
-use Rattle.std.proofs.Common.{◌≡◌, ◌+◌, List, ℤ, drop, length}
+use Rattle.scop_syntax.proofs.Common.{◌≡◌, ◌+◌, List, ℤ, drop, length}
 use Rattle.loop_tree.specs.steps.Chain.{values_in}
 use Rattle.loop_tree.specs.steps.Counting.{AreWithin}
 use Rattle.loop_tree.specs.Conditions.{CanWalk}

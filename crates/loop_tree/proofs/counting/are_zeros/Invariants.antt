@@ -1,4 +1,4 @@
-use Rattle.std.proofs.Common.{drop}
+use Rattle.scop_syntax.proofs.Common.{drop}
 use Rattle.loop_tree.specs.Fits.{AreZeros}
 use Rattle.loop_tree.proofs.counting.are_zeros.Given as goal
 

@@ -1,4 +1,4 @@
-use Rattle.std.proofs.Common.{rules, ◌≡◌, ℤ, List, ◌∙◌, ap, drop, length, subst, take}
+use Rattle.scop_syntax.proofs.Common.{rules, ◌≡◌, ℤ, List, ◌∙◌, ap, drop, length, subst, take}
 use Rattle.loop_tree.specs.steps.Chain.{values_in}
 use Rattle.loop_tree.specs.Fits.{AreZeros}
 use Rattle.loop_tree.proofs.counting.is_free.Goals as goal

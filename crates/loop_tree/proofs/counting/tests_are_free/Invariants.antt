@@ -1,4 +1,4 @@
-use Rattle.std.proofs.Common.{drop, length, map}
+use Rattle.scop_syntax.proofs.Common.{drop, length, map}
 use Rattle.loop_tree.specs.steps.Chain.{values_in}
 use Rattle.loop_tree.specs.steps.Counting.{TestsAreFree}
 use Rattle.loop_tree.specs.View.{test_of}

@@ -1,7 +1,5 @@
-use Rattle.std.proofs.Common.{rules, ◌≡◌, ◌∙◌, ◌+◌, ◌<◌, ◌++◌, ◌∷◌, [], true, ap, subst, sym, arith}
-use Rattle.std.proofs.Common.{FitsSigned, ◌≤ℤ◌}
-use Rattle.std.specs.Int.{w128}
-use Rattle.std.proofs.lemmas.Int.{ints, to_z-of_z}
+use Rattle.scop_syntax.proofs.Common.{rules, ◌≡◌, ◌∙◌, ◌+◌, ◌<◌, ◌++◌, ◌∷◌, [], true, ap, subst, sym, arith, FitsSigned}
+use Rattle.scop_syntax.proofs.Common.{◌≤ℤ◌, w128, ints, to_z-of_z}
 use Rattle.loop_tree.specs.Spot.{IsAt, mark as marked_at, rest_of}
 use Rattle.loop_tree.specs.SpotView.{marks_of}
 use Rattle.loop_tree.specs.Tree.{Tree, Trees, loop, more, none}

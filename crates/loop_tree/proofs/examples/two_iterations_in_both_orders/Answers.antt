@@ -1,4 +1,5 @@
-use Rattle.std.proofs.Common.{◌≡◌, ◌∙◌, ap, ap₂, refl, inl, inr, ℤ, pos, Bool, true, false, [], ◌∷◌, ◌++◌, List, map}
+use Rattle.scop_syntax.proofs.Common.{◌≡◌, ◌∙◌, ap, ap₂, refl, inl, inr, ℤ, pos, Bool, true, false, [], ◌∷◌, ◌++◌, List}
+use Rattle.scop_syntax.proofs.Common.{map}
 use Rattle.loop_tree.specs.Examples.{twice, visit_at}
 use Rattle.loop_tree.specs.Runs.{MayRunAll}
 use Rattle.loop_tree.specs.Walk.{Visit, through}

@@ -1,4 +1,4 @@
-use Rattle.std.proofs.Common.{◌≡◌, ◌+◌, ◌<◌, List, [], drop, ap, rules, arith, drop_of_length-le}
+use Rattle.scop_syntax.proofs.Common.{◌≡◌, ◌+◌, ◌<◌, List, [], drop, ap, rules, arith, drop_of_length-le}
 use Rattle.loop_tree.specs.Shape.{inner_guards_all}
 use Rattle.loop_tree.specs.Tree.{Trees}
 use Rattle.loop_tree.specs.View.{nodes_of, tree_of}

@@ -1,6 +1,4 @@
-use Rattle.std.proofs.Common.{◌∙◌, []}
-use Rattle.std.proofs.lemmas.Option.{IfSome_then}
-use Rattle.scop_syntax.specs.View.{instance_of}
+use Rattle.scop_syntax.proofs.Common.{◌∙◌, [], IfSome_then, instance_of}
 use Rattle.loop_tree.specs.steps.Chain.{values_in}
 use Rattle.loop_tree.specs.View.{nodes_of}
 use Rattle.loop_tree.specs.declared.outer.Outer.TheVariants.{Row}

@@ -1,5 +1,4 @@
-use Rattle.std.proofs.Common.{◌∙◌, [], refl}
-use Rattle.std.proofs.lemmas.Option.{IfSome_then}
+use Rattle.scop_syntax.proofs.Common.{◌∙◌, [], refl, IfSome_then}
 use Rattle.loop_tree.specs.steps.Chain.{values_in}
 use Rattle.loop_tree.specs.Spot.{rest_of}
 use Rattle.loop_tree.specs.SpotView.{marks_of}

@@ -1,4 +1,4 @@
-use Rattle.std.proofs.Common.{◌≤◌, ◌-◌, [], List, ℤ, length, take}
+use Rattle.scop_syntax.proofs.Common.{◌≤◌, ◌-◌, [], List, ℤ, length, take}
 use Rattle.loop_tree.specs.steps.Going.{CanGo, Leads}
 use Rattle.loop_tree.specs.SpotView.{marks_of}
 use Rattle.loop_tree.specs.View.{nodes_of}

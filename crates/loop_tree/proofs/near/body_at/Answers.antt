@@ -1,6 +1,4 @@
-use Rattle.std.proofs.Common.{rules, ◌≡◌, ◌∙◌, ap, sym, arith, FitsSigned, ◌≤ℤ◌}
-use Rattle.std.specs.Int.{w128}
-use Rattle.std.proofs.lemmas.Int.{ints, to_z-of_z}
+use Rattle.scop_syntax.proofs.Common.{rules, ◌≡◌, ◌∙◌, ap, sym, arith, FitsSigned, ◌≤ℤ◌, w128, ints, to_z-of_z}
 use Rattle.loop_tree.specs.Tree.{Trees, loop}
 use Rattle.loop_tree.specs.View.{bounds_in, nodes_of, tree_of}
 use Rattle.loop_tree.proofs.Views.{tree_loop}

@@ -1,9 +1,7 @@
-use Rattle.std.proofs.Common.{rules, ◌≡◌, ◌∙◌, ◌+◌, ◌<◌, ◌≤◌, ◌⊎◌, ◌++◌, ◌∷◌, [], inl, inr, suc, ℕ, ℤ, pos, List, take}
-use Rattle.std.proofs.Common.{false, get_or, length, length-set, ap, subst, sym, arith, refl, set, to_z, of_z}
-use Rattle.std.specs.Prelude.{FitsSigned}
-use Rattle.std.specs.Int.{w128}
-use Rattle.std.proofs.lemmas.Int.{to_z-of_z}
-use Rattle.std.proofs.Math.Seq.{take-suc-set}
+use Rattle.scop_syntax.proofs.Common.{rules, ◌≡◌, ◌∙◌, ◌+◌, ◌<◌, ◌≤◌, ◌⊎◌, ◌++◌, ◌∷◌, [], inl, inr, suc, ℕ, ℤ, pos}
+use Rattle.scop_syntax.proofs.Common.{List, take, false, get_or, length, ap, subst, sym, arith, refl, set, to_z, of_z}
+use Rattle.scop_syntax.proofs.Common.{FitsSigned, w128, to_z-of_z, take-suc-set}
+use Rattle.std.proofs.Common.{length-set}
 use Rattle.std.proofs.lemmas.List.{take-set-le}
 use Rattle.loop_tree.specs.steps.Going.{Leads, Within}
 use Rattle.loop_tree.specs.SpotView.{mark_of, marks_of}

@@ -1,4 +1,4 @@
-use Rattle.std.proofs.Common.{rules, ◌∙◌, ◌<◌, ℤ, List, [], ◌∷◌, length, drop, ap, sym, arith}
+use Rattle.scop_syntax.proofs.Common.{rules, ◌∙◌, ◌<◌, ℤ, List, [], ◌∷◌, length, drop, ap, sym, arith}
 use Rattle.loop_tree.specs.steps.Chain.{values_in}
 use Rattle.loop_tree.proofs.Chains.{length_within, values_row, values_within}
 use Rattle.loop_tree.proofs.Products.{drop_parts}

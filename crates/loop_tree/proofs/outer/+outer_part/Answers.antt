@@ -1,12 +1,6 @@
-use Rattle.std.proofs.Common.{◌≡◌, ◌∙◌, ℤ, pos, List, [], ◌∷◌, length, drop, ap}
-use Rattle.std.proofs.Common.{ap₂, subst, sym, rules, to_z, of_z}
-use Rattle.std.proofs.Common.{◌<◌, arith, length-append}
-use Rattle.std.specs.Prelude.{◌+ℤ◌, FitsSigned}
-use Rattle.std.specs.Int.{w128}
-use Rattle.std.proofs.lemmas.Int.{to_z-of_z}
-use Rattle.whole_numbers.specs.Lists.{dot}
-use Rattle.whole_numbers.proofs.Ring.{add_zero_left}
-use Rattle.whole_numbers.proofs.Lists.{dot-split}
+use Rattle.scop_syntax.proofs.Common.{◌≡◌, ◌∙◌, ℤ, pos, List, [], ◌∷◌, length, drop, ap, ap₂, subst, sym, rules, to_z}
+use Rattle.scop_syntax.proofs.Common.{of_z, ◌<◌, arith, length-append, ◌+ℤ◌, FitsSigned, w128, to_z-of_z, dot}
+use Rattle.scop_syntax.proofs.Common.{add_zero_left, dot-split}
 use Rattle.loop_tree.specs.steps.Chain.{values_in}
 use Rattle.loop_tree.specs.Fits.{SumsFit}
 use Rattle.loop_tree.proofs.Chains.{values_row, values_within}

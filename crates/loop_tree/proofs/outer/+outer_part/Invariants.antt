@@ -1,4 +1,4 @@
-use Rattle.std.proofs.Common.{length}
+use Rattle.scop_syntax.proofs.Common.{length}
 use Rattle.loop_tree.specs.steps.Chain.{values_in}
 use Rattle.loop_tree.proofs.outer.+outer_part.Given as goal
 

@@ -1,7 +1,6 @@
-use Rattle.std.proofs.Common.{rules, ◌≡◌, ◌∙◌, ◌-◌, ◌<◌, suc, length, length-set, arith, to_z, of_z}
-use Rattle.std.specs.Prelude.{FitsSigned}
-use Rattle.std.specs.Int.{w128}
-use Rattle.std.proofs.lemmas.Int.{to_z-of_z}
+use Rattle.scop_syntax.proofs.Common.{rules, ◌≡◌, ◌∙◌, ◌-◌, ◌<◌, suc, length, arith, to_z, of_z, FitsSigned, w128}
+use Rattle.scop_syntax.proofs.Common.{to_z-of_z}
+use Rattle.std.proofs.Common.{length-set}
 use Rattle.loop_tree.proofs.Chains.{laid_one, length_within}
 use Rattle.loop_tree.proofs.outer.lay.Goals as goal
 

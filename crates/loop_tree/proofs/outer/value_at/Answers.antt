@@ -1,11 +1,6 @@
-use Rattle.std.proofs.Common.{◌≡◌, ◌∙◌, ℤ, pos, List, ◌++◌, length, drop, ap, ap₂, subst, sym, rules, arith}
-use Rattle.std.specs.Prelude.{◌+ℤ◌, FitsSigned}
-use Rattle.std.specs.Int.{w64, w128}
-use Rattle.std.proofs.lemmas.Int.{ints, to_z-of_z}
-use Rattle.whole_numbers.specs.Affine.{Affine, value_of}
-use Rattle.whole_numbers.specs.Lists.{dot}
-use Rattle.whole_numbers.proofs.Ring.{add_zero_left}
-use Rattle.whole_numbers.proofs.Lists.{dot-split}
+use Rattle.scop_syntax.proofs.Common.{◌≡◌, ◌∙◌, ℤ, pos, List, ◌++◌, length, drop, ap, ap₂, subst, sym, rules, arith}
+use Rattle.scop_syntax.proofs.Common.{◌+ℤ◌, FitsSigned, w64, w128, ints, to_z-of_z, Affine, value_of, dot}
+use Rattle.scop_syntax.proofs.Common.{add_zero_left, dot-split}
 use Rattle.loop_tree.specs.steps.Chain.{values_at}
 use Rattle.loop_tree.specs.Fits.{SumsFit}
 use Rattle.loop_tree.proofs.Products.{fits_back, fits_front, room_fits}

@@ -1,8 +1,5 @@
-use Rattle.std.proofs.Common.{◌≡◌, ◌∙◌, ℤ, List, [], ◌∷◌, ap, sym, rules}
-use Rattle.std.specs.Prelude.{◌+ℤ◌, ◌*ℤ◌, FitsSigned}
-use Rattle.std.specs.Int.{w64, w128}
-use Rattle.std.proofs.lemmas.Int.{to_z-of_z}
-use Rattle.whole_numbers.specs.Lists.{dot}
+use Rattle.scop_syntax.proofs.Common.{◌≡◌, ◌∙◌, ℤ, List, [], ◌∷◌, ap, sym, rules, ◌+ℤ◌, ◌*ℤ◌, FitsSigned, w64, w128}
+use Rattle.scop_syntax.proofs.Common.{to_z-of_z, dot}
 use Rattle.loop_tree.proofs.Products.{dot_one}
 use Rattle.loop_tree.proofs.outer.with_entry.Goals as goal
 

@@ -1,7 +1,5 @@
-use Rattle.std.proofs.Common.{◌≡◌, ◌∙◌, ℕ, ℤ, pos, ap, sym, refl, arith, to_z}
-use Rattle.std.specs.Prelude.{◌+ℤ◌, ◌*ℤ◌, FitsSigned}
-use Rattle.std.specs.Int.{w64, w128}
-use Rattle.std.proofs.lemmas.Int.{ints, to_z-of_z}
+use Rattle.scop_syntax.proofs.Common.{◌≡◌, ◌∙◌, ℕ, ℤ, pos, ap, sym, refl, arith, to_z, ◌+ℤ◌, ◌*ℤ◌, FitsSigned, w64}
+use Rattle.scop_syntax.proofs.Common.{w128, ints, to_z-of_z}
 use Rattle.loop_tree.proofs.Products.{room_fits}
 use Rattle.loop_tree.proofs.outer.with_product.Goals as goal
 

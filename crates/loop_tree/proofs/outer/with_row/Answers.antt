@@ -1,11 +1,6 @@
-use Rattle.std.proofs.Common.{◌≡◌, ◌∙◌, ◌+◌, ◌<◌, ℤ, pos, List, [], ◌∷◌, length, drop}
-use Rattle.std.proofs.Common.{get_or, ap, subst, sym, refl, arith}
-use Rattle.std.proofs.Common.{rules, to_z, of_z, add-one, drop-cons, drop_of_length-le}
-use Rattle.std.specs.Prelude.{◌+ℤ◌, FitsSigned}
-use Rattle.std.specs.Int.{w128}
-use Rattle.std.proofs.lemmas.Int.{ints, to_z-of_z}
-use Rattle.whole_numbers.specs.Lists.{dot}
-use Rattle.whole_numbers.proofs.Dot.{dot-nil}
+use Rattle.scop_syntax.proofs.Common.{◌≡◌, ◌∙◌, ◌+◌, ◌<◌, ℤ, pos, List, [], ◌∷◌, length, drop, get_or, ap, subst, sym}
+use Rattle.scop_syntax.proofs.Common.{refl, arith, rules, to_z, of_z, add-one, drop-cons, drop_of_length-le, ◌+ℤ◌}
+use Rattle.scop_syntax.proofs.Common.{FitsSigned, w128, ints, to_z-of_z, dot, dot-nil}
 use Rattle.loop_tree.specs.Fits.{SumsFit}
 use Rattle.loop_tree.proofs.Products.{Summing, drop_one, summed_fits, summed_one}
 use Rattle.loop_tree.proofs.outer.with_row.Goals as goal

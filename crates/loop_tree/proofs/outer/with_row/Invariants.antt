@@ -1,4 +1,4 @@
-use Rattle.std.proofs.Common.{◌≡◌, drop}
+use Rattle.scop_syntax.proofs.Common.{◌≡◌, drop}
 use Rattle.loop_tree.proofs.Products.{Summing}
 use Rattle.loop_tree.proofs.outer.with_row.Given as goal
 

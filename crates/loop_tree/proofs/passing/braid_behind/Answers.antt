@@ -1,9 +1,6 @@
-use Rattle.std.proofs.Common.{rules, ◌≡◌, ◌≤◌, ◌<◌, ◌++◌, ◌∷◌, [], List, ℤ, All, length, get_or, drop, map, take, pos, to_z, of_z}
-use Rattle.std.proofs.Common.{arith, sym, subst}
-use Rattle.std.specs.Prelude.{◌+ℤ◌, FitsSigned}
-use Rattle.std.specs.Int.{w128}
-use Rattle.std.proofs.lemmas.Int.{ints, to_z-of_z}
-use Rattle.scop_syntax.specs.Walk.{Instance}
+use Rattle.scop_syntax.proofs.Common.{rules, ◌≡◌, ◌≤◌, ◌<◌, ◌++◌, ◌∷◌, [], List, ℤ, All, length, get_or, drop, map}
+use Rattle.scop_syntax.proofs.Common.{take, pos, to_z, of_z, arith, sym, subst, ◌+ℤ◌, FitsSigned, w128, ints, to_z-of_z}
+use Rattle.scop_syntax.proofs.Common.{Instance}
 use Rattle.loop_tree.specs.steps.Chain.{values_in}
 use Rattle.loop_tree.specs.Stretches.{left_of}
 use Rattle.loop_tree.specs.Conditions.{IsHeld}

@@ -1,5 +1,4 @@
-use Rattle.std.proofs.Common.{◌≡◌, ◌++◌, length, drop, map, take, pos}
-use Rattle.std.specs.Prelude.{◌+ℤ◌}
+use Rattle.scop_syntax.proofs.Common.{◌≡◌, ◌++◌, length, drop, map, take, pos, ◌+ℤ◌}
 use Rattle.loop_tree.specs.steps.Chain.{values_in}
 use Rattle.loop_tree.specs.steps.Passing.{AreLeaves}
 use Rattle.loop_tree.specs.Stretches.{left_of}

@@ -1,7 +1,5 @@
-use Rattle.std.proofs.Common.{rules, ◌≡◌, ◌∙◌, ◌+◌, ℕ, List, ℤ, pos, drop, get_or, length, ap, arith, FitsSigned}
-use Rattle.std.specs.Int.{w64}
-use Rattle.std.proofs.lemmas.Int.{to_z-of_z}
-use Rattle.std.proofs.lemmas.List.{get_or-drop}
+use Rattle.scop_syntax.proofs.Common.{rules, ◌≡◌, ◌∙◌, ◌+◌, ℕ, List, ℤ, pos, drop, get_or, length, ap, arith}
+use Rattle.scop_syntax.proofs.Common.{FitsSigned, w64, to_z-of_z, get_or-drop}
 use Rattle.loop_tree.specs.steps.Chain.{values_in}
 use Rattle.loop_tree.proofs.passing.coefficient_within.Goals as goal
 

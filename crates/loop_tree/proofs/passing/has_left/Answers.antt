@@ -1,4 +1,4 @@
-use Rattle.std.proofs.Common.{rules, ◌≡◌, arith, length, get_or}
+use Rattle.scop_syntax.proofs.Common.{rules, ◌≡◌, arith, length, get_or}
 use Rattle.loop_tree.proofs.Braids.{braid_none}
 use Rattle.loop_tree.proofs.passing.has_left.Goals as goal
 

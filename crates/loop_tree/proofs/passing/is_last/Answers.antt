@@ -1,4 +1,4 @@
-use Rattle.std.proofs.Common.{rules, ◌≡◌, ◌++◌, ◌∷◌, [], length, true}
+use Rattle.scop_syntax.proofs.Common.{rules, ◌≡◌, ◌++◌, ◌∷◌, [], length, true}
 use Rattle.loop_tree.proofs.Braids.{done_at}
 use Rattle.loop_tree.proofs.passing.is_last.Goals as goal
 

@@ -1,10 +1,8 @@
-use Rattle.std.specs.Prelude.{◌+ℤ◌}
-use Rattle.std.proofs.lemmas.Int.{ints}
+use Rattle.scop_syntax.proofs.Common.{◌+ℤ◌, ints, ◌∙◌, ap, append-nil, pos, arith, ◌++◌, ◌∷◌, [], List, All, subst, sym}
+use Rattle.scop_syntax.proofs.Common.{Instance}
 use Rattle.loop_tree.specs.steps.Passing.{AreLeaves, shown_along}
 use Rattle.loop_tree.specs.Stretches.{left_of}
 use Rattle.loop_tree.proofs.Stretches.{leaf_few}
-use Rattle.std.proofs.Common.{◌∙◌, ap, append-nil, pos, arith, ◌++◌, ◌∷◌, [], List, All, subst, sym}
-use Rattle.scop_syntax.specs.Walk.{Instance}
 use Rattle.loop_tree.specs.steps.Chain.{values_in}
 use Rattle.loop_tree.specs.Conditions.{CanWalk, IsHeld}
 use Rattle.loop_tree.specs.Tree.{Trees, instance, more, none}

@@ -1,11 +1,8 @@
-use Rattle.std.proofs.Common.{rules, ◌≡◌, ◌++◌, ◌∷◌, [], ℤ, arith, subst, sym, pos}
-use Rattle.std.specs.Prelude.{◌+ℤ◌, FitsSigned}
-use Rattle.std.specs.Int.{w128}
-use Rattle.std.proofs.lemmas.Int.{ints, to_z-of_z}
+use Rattle.scop_syntax.proofs.Common.{rules, ◌≡◌, ◌++◌, ◌∷◌, [], ℤ, arith, subst, sym, pos, ◌+ℤ◌, FitsSigned, w128}
+use Rattle.scop_syntax.proofs.Common.{ints, to_z-of_z, instance_of}
 use Rattle.loop_tree.specs.steps.Chain.{values_in}
 use Rattle.loop_tree.specs.steps.Going.{HasTurned}
 use Rattle.loop_tree.specs.steps.Passing.{IsAlone, passed_by, shown_along}
-use Rattle.scop_syntax.specs.View.{instance_of}
 use Rattle.loop_tree.specs.SpotView.{marks_of}
 use Rattle.loop_tree.specs.View.{nodes_of}
 use Rattle.loop_tree.proofs.Braids.{spent_can, turned_leaves, turned_spent}

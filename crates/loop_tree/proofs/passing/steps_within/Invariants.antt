@@ -1,4 +1,4 @@
-use Rattle.std.proofs.Common.{◌≡◌, ◌++◌, length, drop}
+use Rattle.scop_syntax.proofs.Common.{◌≡◌, ◌++◌, length, drop}
 use Rattle.loop_tree.specs.steps.Chain.{values_in}
 use Rattle.loop_tree.specs.steps.Stepping.{steps_of}
 use Rattle.loop_tree.proofs.passing.steps_within.Given as goal

@@ -1,11 +1,7 @@
+use Rattle.scop_syntax.proofs.Common.{instance_of, rules, ◌∙◌, ap, pos, ◌++◌, ◌∷◌, [], List, ℤ, subst, sym, to_z, of_z}
+use Rattle.scop_syntax.proofs.Common.{◌+ℤ◌, FitsSigned, w128, to_z-of_z, values_of}
 use Rattle.loop_tree.specs.steps.Passing.{IsOf, shown_along}
-use Rattle.scop_syntax.specs.View.{instance_of}
 use Rattle.loop_tree.proofs.Stretches.{leaf_few}
-use Rattle.std.proofs.Common.{rules, ◌∙◌, ap, pos, ◌++◌, ◌∷◌, [], List, ℤ, subst, sym, to_z, of_z}
-use Rattle.std.specs.Prelude.{◌+ℤ◌, FitsSigned}
-use Rattle.std.specs.Int.{w128}
-use Rattle.std.proofs.lemmas.Int.{to_z-of_z}
-use Rattle.whole_numbers.specs.Affine.{values_of}
 use Rattle.loop_tree.specs.steps.Chain.{values_in}
 use Rattle.loop_tree.specs.Conditions.{CanWalk, IsHeld}
 use Rattle.loop_tree.specs.Tree.{Tree, more, none}

@@ -1,4 +1,4 @@
-use Rattle.std.proofs.Common.{◌≡◌, ◌++◌, ◌<◌, ◌∷◌, List, length, ap, subst, rules, arith}
+use Rattle.scop_syntax.proofs.Common.{◌≡◌, ◌++◌, ◌<◌, ◌∷◌, List, length, ap, subst, rules, arith}
 use Rattle.loop_tree.specs.steps.Chain.{values_at}
 use Rattle.loop_tree.specs.Fits.{BoundsFit}
 use Rattle.loop_tree.specs.Marks.{AreBounds}

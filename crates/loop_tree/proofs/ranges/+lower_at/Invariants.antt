@@ -1,4 +1,4 @@
-use Rattle.std.proofs.Common.{length}
+use Rattle.scop_syntax.proofs.Common.{length}
 use Rattle.loop_tree.proofs.ranges.+lower_at.Given as goal
 
 abbrev pub decreases-lower_at : goal.decreases-lower_at

@@ -1,4 +1,4 @@
-use Rattle.std.proofs.Common.{length}
+use Rattle.scop_syntax.proofs.Common.{length}
 use Rattle.loop_tree.proofs.ranges.+upper_at.Given as goal
 
 abbrev pub decreases-upper_at : goal.decreases-upper_at

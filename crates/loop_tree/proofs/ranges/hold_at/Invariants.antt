@@ -1,4 +1,4 @@
-use Rattle.std.proofs.Common.{◌≡◌, ◌++◌, map, drop}
+use Rattle.scop_syntax.proofs.Common.{◌≡◌, ◌++◌, map, drop}
 use Rattle.loop_tree.specs.steps.Chain.{values_at}
 use Rattle.loop_tree.specs.Fits.{TestsFit}
 use Rattle.loop_tree.specs.Marks.{AreTests}

@@ -1,9 +1,6 @@
-use Rattle.std.proofs.Common.{rules, ◌≡◌, ◌∙◌, ◌+◌, ◌<◌, ℤ, pos, List, ◌++◌, ◌∷◌, [], length, get_or, ap, subst}
-use Rattle.std.proofs.Common.{sym, arith, to_z, of_z}
-use Rattle.std.specs.Prelude.{◌+ℤ◌, ◌≤ℤ◌, ◌<ℤ◌, FitsSigned}
-use Rattle.std.specs.Int.{w128}
-use Rattle.std.proofs.lemmas.Int.{ints, to_z-of_z}
-use Rattle.scop_syntax.specs.Walk.{Instance}
+use Rattle.scop_syntax.proofs.Common.{rules, ◌≡◌, ◌∙◌, ◌+◌, ◌<◌, ℤ, pos, List, ◌++◌, ◌∷◌, [], length, get_or, ap, subst}
+use Rattle.scop_syntax.proofs.Common.{sym, arith, to_z, of_z, ◌+ℤ◌, ◌≤ℤ◌, ◌<ℤ◌, FitsSigned, w128, ints, to_z-of_z}
+use Rattle.scop_syntax.proofs.Common.{Instance}
 use Rattle.loop_tree.specs.steps.Chain.{values_in}
 use Rattle.loop_tree.specs.Conditions.{CanWalk}
 use Rattle.loop_tree.specs.Spot.{IsAt, IsWithin, rest_in, rest_of}

@@ -1,12 +1,9 @@
-use Rattle.std.proofs.Common.{◌≡◌, ℕ, ◌+◌, ◌<◌, [], ◌∷◌, ◌++◌, map, ap, subst, sym, ◌∙◌, rules, arith}
-use Rattle.scop_syntax.specs.Tree.{Head, more, none}
-use Rattle.scop_syntax.specs.Statements.{round}
-use Rattle.scop_syntax.specs.View.{items_of, test_of, tree_of}
-use Rattle.scop_syntax.proofs.Weights.{weight, weight_all, item_weight}
+use Rattle.scop_syntax.proofs.Common.{◌≡◌, ℕ, ◌+◌, ◌<◌, [], ◌∷◌, ◌++◌, map, ap, subst, sym, ◌∙◌, rules, arith, Head}
+use Rattle.scop_syntax.proofs.Common.{more, none, round, items_of, test_of, tree_of, weight, weight_all, item_weight}
+use Rattle.scop_syntax.proofs.Common.{drop_of_length-le}
 use Rattle.iteration_domains.specs.Path.{Path, path_at, path_of}
 use Rattle.loop_tree.specs.Source.{in_loop}
 use Rattle.loop_tree.specs.steps.Placing.{CanPlace}
-use Rattle.std.proofs.Common.{drop_of_length-le}
 use Rattle.loop_tree.proofs.Placings.{placing_can, placing_step, placing_ends, place_within_loop, place_within_guard}
 use Rattle.loop_tree.proofs.source.+placing.Goals as goal
 

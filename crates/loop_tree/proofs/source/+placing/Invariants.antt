@@ -1,6 +1,4 @@
-use Rattle.std.proofs.Common.{◌+◌}
-use Rattle.scop_syntax.specs.View.{items_of, tree_of}
-use Rattle.scop_syntax.proofs.Weights.{weight, weight_all}
+use Rattle.scop_syntax.proofs.Common.{◌+◌, items_of, tree_of, weight, weight_all}
 use Rattle.iteration_domains.specs.Path.{path_of}
 use Rattle.loop_tree.proofs.Placings.{Placing}
 use Rattle.loop_tree.proofs.source.+placing.Given as goal

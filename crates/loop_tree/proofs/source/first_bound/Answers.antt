@@ -1,7 +1,4 @@
-use Rattle.std.proofs.Common.{◌≡◌, ℤ, List, pos, ap, rules, ◌∙◌}
-use Rattle.whole_numbers.specs.Affine.{form_of}
-use Rattle.whole_numbers.specs.Lists.{zeros}
-use Rattle.whole_numbers.proofs.Dot.{replicate-zeros}
+use Rattle.scop_syntax.proofs.Common.{◌≡◌, ℤ, List, pos, ap, rules, ◌∙◌, form_of, zeros, replicate-zeros}
 use Rattle.loop_tree.specs.Tree.{Bound}
 use Rattle.loop_tree.proofs.source.first_bound.Goals as goal
 

@@ -1,6 +1,4 @@
-use Rattle.std.proofs.Common.{◌≡◌, ℕ, ◌+◌, All, List, length, subst, sym, rules, ◌∙◌}
-use Rattle.whole_numbers.specs.Affine.{Affine}
-use Rattle.scop_syntax.specs.View.{test_of}
+use Rattle.scop_syntax.proofs.Common.{◌≡◌, ℕ, ◌+◌, All, List, length, subst, sym, rules, ◌∙◌, Affine, test_of}
 use Rattle.scop_syntax.specs.declared.tree.Test.{Test}
 use Rattle.iteration_domains.specs.Path.{path_of}
 use Rattle.loop_tree.specs.Source.{point_at}

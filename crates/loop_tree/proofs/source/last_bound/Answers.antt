@@ -1,6 +1,4 @@
-use Rattle.std.proofs.Common.{◌≡◌, ℕ, ◌+◌, List, length, ap, subst, sym, rules}
-use Rattle.whole_numbers.specs.Affine.{Affine}
-use Rattle.scop_syntax.specs.Tree.{Head}
+use Rattle.scop_syntax.proofs.Common.{◌≡◌, ℕ, ◌+◌, List, length, ap, subst, sym, rules, Affine, Head}
 use Rattle.iteration_domains.specs.Path.{path_of}
 use Rattle.loop_tree.specs.Source.{point_at}
 use Rattle.loop_tree.specs.steps.Placing.{CanBegin}

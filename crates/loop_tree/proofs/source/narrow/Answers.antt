@@ -1,5 +1,5 @@
-use Rattle.std.proofs.Common.{ℕ, ℤ, List, length, ◌<◌, ◌≤◌, ◌^◌, subst, sym, arith}
-use Rattle.std.specs.Prelude.{slice_index_or, unsigned_abs}
+use Rattle.scop_syntax.proofs.Common.{ℕ, ℤ, List, length, ◌<◌, ◌≤◌, ◌^◌, subst, sym, arith, slice_index_or}
+use Rattle.scop_syntax.proofs.Common.{unsigned_abs}
 use Rattle.loop_tree.proofs.Placings.{entries_small}
 use Rattle.loop_tree.proofs.source.narrow.Goals as goal
 

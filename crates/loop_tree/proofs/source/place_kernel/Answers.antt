@@ -1,6 +1,4 @@
-use Rattle.std.proofs.Common.{◌≡◌, length, ap, sym, ◌∙◌, rules}
-use Rattle.std.proofs.lemmas.List.{length-map}
-use Rattle.scop_syntax.specs.View.{items_of, program_of}
+use Rattle.scop_syntax.proofs.Common.{◌≡◌, length, ap, sym, ◌∙◌, rules, length-map, items_of, program_of}
 use Rattle.iteration_domains.specs.Path.{scopes_of}
 use Rattle.loop_tree.proofs.Placings.{root_place, root_sources}
 use Rattle.loop_tree.proofs.source.place_kernel.Goals as goal

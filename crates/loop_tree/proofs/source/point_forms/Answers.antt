@@ -1,6 +1,4 @@
-use Rattle.std.proofs.Common.{◌≡◌, ℕ, List, length, ap, subst, sym, rules}
-use Rattle.scop_syntax.specs.Statements.{Scope}
-use Rattle.scop_syntax.specs.Tree.{none}
+use Rattle.scop_syntax.proofs.Common.{◌≡◌, ℕ, List, length, ap, subst, sym, rules, Scope, none}
 use Rattle.iteration_domains.specs.Path.{gathered_of, path_of, scopes_of}
 use Rattle.iteration_domains.specs.Standing.{CanEnter, starting}
 use Rattle.iteration_domains.proofs.TreeStatements.{can_start, gathered_there}

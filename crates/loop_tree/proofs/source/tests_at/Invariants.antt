@@ -1,4 +1,4 @@
-use Rattle.std.proofs.Common.{◌≡◌, ◌++◌, map, drop}
+use Rattle.scop_syntax.proofs.Common.{◌≡◌, ◌++◌, map, drop}
 use Rattle.scop_syntax.specs.View.{test_of as comparison_of}
 use Rattle.loop_tree.specs.Source.{test_over}
 use Rattle.loop_tree.specs.View.{test_of}

@@ -1,4 +1,4 @@
-use Rattle.std.proofs.Common.{◌≡◌, ◌+◌, [], length, subst, refl, arith}
+use Rattle.scop_syntax.proofs.Common.{◌≡◌, ◌+◌, [], length, subst, refl, arith}
 use Rattle.loop_tree.specs.Shape.{TreesAreOver}
 use Rattle.loop_tree.specs.Source.{source_of}
 use Rattle.iteration_domains.specs.Path.{path_at}

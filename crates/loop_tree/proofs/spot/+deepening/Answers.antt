@@ -1,4 +1,4 @@
-use Rattle.std.proofs.Common.{◌≡◌, ◌+◌, ◌<◌, [], List, drop, ap, rules, arith, drop_of_length-le}
+use Rattle.scop_syntax.proofs.Common.{◌≡◌, ◌+◌, ◌<◌, [], List, drop, ap, rules, arith, drop_of_length-le}
 use Rattle.loop_tree.specs.Spot.{deep_all}
 use Rattle.loop_tree.specs.View.{nodes_of, tree_of}
 use Rattle.loop_tree.specs.declared.tree.Node.{Node}

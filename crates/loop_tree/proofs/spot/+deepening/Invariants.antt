@@ -1,4 +1,4 @@
-use Rattle.std.proofs.Common.{◌≡◌, ◌+◌, ◌-◌, ◌^◌, ◌≤◌, drop, max, min}
+use Rattle.scop_syntax.proofs.Common.{◌≡◌, ◌+◌, ◌-◌, ◌^◌, ◌≤◌, drop, max, min}
 use Rattle.loop_tree.specs.Spot.{deep_all}
 use Rattle.loop_tree.specs.View.{nodes_of, tree_of}
 use Rattle.loop_tree.proofs.Weights.{weight, weight_all}

@@ -1,16 +1,11 @@
-use Rattle.std.proofs.Common.{rules, ◌≡◌, ◌<◌, ◌++◌, ◌∷◌, [], List, false, true, length, pos, ℤ, ℕ, ◌+◌, ◌≤◌, Bool}
-use Rattle.std.proofs.Common.{◌+ℤ◌, ◌-ℤ◌, ◌≤ℤ◌, ◌<ℤ◌, FitsSigned, to_z, of_z, refl, ap, subst, sym, ◌∙◌, arith}
-use Rattle.std.proofs.Common.{get_or, map}
-use Rattle.std.specs.Prelude.{if◌then◌else◌}
-use Rattle.std.specs.Int.{w128}
-use Rattle.std.proofs.lemmas.Int.{ints, to_z-of_z}
-use Rattle.scop_syntax.specs.View.{instance_of}
+use Rattle.scop_syntax.proofs.Common.{rules, ◌≡◌, ◌<◌, ◌++◌, ◌∷◌, [], List, false, true, length, pos, ℤ, ℕ, ◌+◌, ◌≤◌}
+use Rattle.scop_syntax.proofs.Common.{Bool, ◌+ℤ◌, ◌-ℤ◌, ◌≤ℤ◌, ◌<ℤ◌, FitsSigned, to_z, of_z, refl, ap, subst, sym, ◌∙◌}
+use Rattle.scop_syntax.proofs.Common.{arith, get_or, map, if◌then◌else◌, w128, ints, to_z-of_z, instance_of, Instance}
 use Rattle.loop_tree.specs.steps.Chain.{values_in}
 use Rattle.loop_tree.specs.steps.Going.{CanGo, CanTurn, HasGone, HasTurned, rest_from, restarted}
 use Rattle.loop_tree.specs.steps.Passing.{IsAlone, IsSpent, passed_by, shown_in}
 use Rattle.loop_tree.proofs.Braids.{spent_can, spent_passed}
 use Rattle.loop_tree.specs.declared.stretch.Stretch.{Stretch}
-use Rattle.scop_syntax.specs.Walk.{Instance}
 use Rattle.loop_tree.proofs.Stretches.{found_alone, rest_done}
 use Rattle.loop_tree.specs.Conditions.{CanWalk}
 use Rattle.loop_tree.specs.Spot.{IsAt, Mark, deep_all, mark as marked_at, rest_of}

@@ -1,6 +1,4 @@
-use Rattle.std.proofs.Common.{◌≡◌, ◌+◌, ◌-◌, ◌∷◌, length}
-use Rattle.std.specs.Prelude.{◌-ℤ◌, ◌≤ℤ◌}
-use Rattle.scop_syntax.specs.Walk.{most_turns}
+use Rattle.scop_syntax.proofs.Common.{◌≡◌, ◌+◌, ◌-◌, ◌∷◌, length, ◌-ℤ◌, ◌≤ℤ◌, most_turns}
 use Rattle.loop_tree.specs.steps.Chain.{values_in}
 use Rattle.loop_tree.specs.steps.Going.{CanGo, CanTurn, rest_from}
 use Rattle.loop_tree.specs.steps.Passing.{IsSpent}

@@ -1,8 +1,5 @@
-use Rattle.std.proofs.Common.{arith, rules, ◌≡◌, ◌∙◌, ℕ, ℤ, List, length, ap, ap₂, sym}
-use Rattle.std.proofs.lemmas.Bool.Decides.{Decides-int_eq}
-use Rattle.std.proofs.lemmas.List.{length-take}
-use Rattle.std.proofs.lemmas.Slice.Eq.{slice_eq-Decides}
-use Rattle.scop_syntax.specs.Walk.{Instance}
+use Rattle.scop_syntax.proofs.Common.{arith, rules, ◌≡◌, ◌∙◌, ℕ, ℤ, List, length, ap, ap₂, sym, Decides-int_eq}
+use Rattle.scop_syntax.proofs.Common.{length-take, slice_eq-Decides, Instance}
 use Rattle.loop_tree.proofs.stretch.are_one.Goals as goal
 
 pub returns-then-left-right-clause-one : goal.returns-then-left-right-clause-one

@@ -1,7 +1,5 @@
-use Rattle.std.proofs.Common.{rules, ◌≡◌, ◌∙◌, ◌∷◌, [], List, ℤ, length, pos, get_or, to_z, of_z, ap, arith}
-use Rattle.std.specs.Prelude.{◌+ℤ◌, FitsSigned}
-use Rattle.std.specs.Int.{w64}
-use Rattle.std.proofs.lemmas.Int.{to_z-of_z}
+use Rattle.scop_syntax.proofs.Common.{rules, ◌≡◌, ◌∙◌, ◌∷◌, [], List, ℤ, length, pos, get_or, to_z, of_z, ap, arith}
+use Rattle.scop_syntax.proofs.Common.{◌+ℤ◌, FitsSigned, w64, to_z-of_z}
 use Rattle.loop_tree.proofs.Stretches.{each_of_five, sums_front}
 use Rattle.loop_tree.proofs.stretch.stepped.Goals as goal
 

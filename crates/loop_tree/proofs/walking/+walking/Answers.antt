@@ -1,10 +1,6 @@
-use Rattle.std.proofs.Common.{◌≡◌, ◌∙◌, ℤ, pos, ◌+◌, ◌<◌, List, [], ◌∷◌, ◌++◌, drop}
-use Rattle.std.proofs.Common.{map, append-nil, Bool, true, ap, subst, sym, rules, arith}
-use Rattle.std.proofs.Common.{drop_of_length-le, ap₂, to_z, of_z}
-use Rattle.std.specs.Prelude.{if◌then◌else◌, ◌+ℤ◌, ◌≤ℤ◌, ◌<ℤ◌, FitsSigned}
-use Rattle.std.specs.Int.{w128}
-use Rattle.std.proofs.lemmas.Int.{ints, to_z-of_z}
-use Rattle.scop_syntax.specs.Walk.{Instance}
+use Rattle.scop_syntax.proofs.Common.{◌≡◌, ◌∙◌, ℤ, pos, ◌+◌, ◌<◌, List, [], ◌∷◌, ◌++◌, drop, map, append-nil, Bool}
+use Rattle.scop_syntax.proofs.Common.{true, ap, subst, sym, rules, arith, drop_of_length-le, ap₂, to_z, of_z}
+use Rattle.scop_syntax.proofs.Common.{if◌then◌else◌, ◌+ℤ◌, ◌≤ℤ◌, ◌<ℤ◌, FitsSigned, w128, ints, to_z-of_z, Instance}
 use Rattle.loop_tree.specs.steps.Chain.{values_in}
 use Rattle.loop_tree.specs.Conditions.{CanWalk}
 use Rattle.loop_tree.specs.Tree.{Trees, more, none}

@@ -1,6 +1,4 @@
-use Rattle.std.proofs.Common.{◌≡◌, ◌+◌, drop}
-use Rattle.std.specs.Prelude.{◌-ℤ◌, ◌≤ℤ◌}
-use Rattle.scop_syntax.specs.Walk.{most_turns}
+use Rattle.scop_syntax.proofs.Common.{◌≡◌, ◌+◌, drop, ◌-ℤ◌, ◌≤ℤ◌, most_turns}
 use Rattle.loop_tree.specs.steps.Chain.{values_in}
 use Rattle.loop_tree.specs.Conditions.{CanWalk}
 use Rattle.loop_tree.specs.View.{nodes_of, tree_of}

@@ -1,9 +1,5 @@
-use Rattle.std.proofs.Common.{◌≡◌, ◌++◌, List, ℤ, pos, length, subst, sym}
-use Rattle.std.specs.Prelude.{◌+ℤ◌, ◌≤ℤ◌}
-use Rattle.std.specs.Int.{w128}
-use Rattle.std.proofs.Common.{arith}
-use Rattle.std.proofs.lemmas.Int.{ints, to_z-of_z}
-use Rattle.scop_syntax.specs.Walk.{Instance}
+use Rattle.scop_syntax.proofs.Common.{◌≡◌, ◌++◌, List, ℤ, pos, length, subst, sym, ◌+ℤ◌, ◌≤ℤ◌, w128, arith, ints}
+use Rattle.scop_syntax.proofs.Common.{to_z-of_z, Instance}
 use Rattle.loop_tree.specs.steps.Chain.{values_in}
 use Rattle.loop_tree.specs.steps.Passing.{shown_along}
 use Rattle.loop_tree.specs.View.{nodes_of}

@@ -1,7 +1,4 @@
-use Rattle.std.proofs.Common.{◌++◌, subst, sym}
-use Rattle.std.specs.Prelude.{FitsSigned}
-use Rattle.std.specs.Int.{w64}
-use Rattle.whole_numbers.specs.Affine.{Affine, value_of}
+use Rattle.scop_syntax.proofs.Common.{◌++◌, subst, sym, FitsSigned, w64, Affine, value_of}
 use Rattle.loop_tree.specs.steps.Chain.{values_at}
 use Rattle.loop_tree.specs.Fits.{FormFits}
 use Rattle.loop_tree.proofs.WalkSteps.{form_fits_at, turn_held_at}

@@ -1,5 +1,4 @@
-use Rattle.std.proofs.Common.{◌≡◌, ◌++◌, length, drop}
-use Rattle.whole_numbers.specs.Affine.{values_of}
+use Rattle.scop_syntax.proofs.Common.{◌≡◌, ◌++◌, length, drop, values_of}
 use Rattle.loop_tree.specs.steps.Chain.{values_at}
 use Rattle.loop_tree.proofs.walking.turns_at.Given as goal
 

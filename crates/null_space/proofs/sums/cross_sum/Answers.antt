@@ -1,6 +1,5 @@
-use Rattle.std.proofs.Common.{refl, arith, ◌^◌, ◌*◌, ◌+ℤ◌, ◌*ℤ◌}
-use Rattle.std.specs.Int.{w128}
-use Rattle.std.proofs.lemmas.Int.{to_z-of_z, fits_signed_mul, fits_signed_from_abs}
+use Rattle.whole_numbers.proofs.Common.{refl, arith, ◌^◌, ◌*◌, ◌+ℤ◌, ◌*ℤ◌, w128, to_z-of_z, fits_signed_mul}
+use Rattle.whole_numbers.proofs.Common.{fits_signed_from_abs}
 use Rattle.null_space.proofs.Sizes.{within_add, within_mul}
 use Rattle.null_space.proofs.sums.cross_sum.Goals as goal
 

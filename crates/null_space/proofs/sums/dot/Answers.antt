@@ -1,7 +1,5 @@
-use Rattle.std.proofs.Common.{rules, ◌<◌, ◌^◌, pos, arith, FitsSigned, get_or, length}
-use Rattle.std.specs.Int.{w128}
-use Rattle.std.proofs.lemmas.Int.{ints, to_z-of_z}
-use Rattle.std.proofs.lemmas.List.Elements.{All-get_or}
+use Rattle.whole_numbers.proofs.Common.{rules, ◌<◌, ◌^◌, pos, arith, FitsSigned, get_or, length, w128, ints, to_z-of_z}
+use Rattle.whole_numbers.proofs.Common.{All-get_or}
 use Rattle.null_space.specs.Sizes.{IsWithin}
 use Rattle.null_space.proofs.ListLoops.{dot_step}
 use Rattle.null_space.proofs.Sizes.{within_mul}

@@ -1,5 +1,4 @@
-use Rattle.std.proofs.Common.{◌≡◌, ◌*◌, ◌^◌, ◌+ℤ◌, drop}
-use Rattle.whole_numbers.specs.Lists.{dot}
+use Rattle.whole_numbers.proofs.Common.{◌≡◌, ◌*◌, ◌^◌, ◌+ℤ◌, drop, dot}
 use Rattle.null_space.specs.Sizes.{IsWithin}
 use Rattle.null_space.proofs.sums.dot.Given as goal
 

@@ -1,8 +1,5 @@
-use Rattle.std.proofs.Common.{rules, ◌+◌, pos, ◌∙◌, ap, arith, FitsSigned, get_or, drop, List, ◌∷◌, [], ◌++◌}
-use Rattle.std.proofs.Common.{ℤ, append_assoc}
-use Rattle.std.specs.Int.{w128}
-use Rattle.std.proofs.lemmas.Int.{to_z-of_z}
-use Rattle.whole_numbers.specs.Lists.{sums, multiples}
+use Rattle.whole_numbers.proofs.Common.{rules, ◌+◌, pos, ◌∙◌, ap, arith, FitsSigned, get_or, drop, List, ◌∷◌, [], ◌++◌}
+use Rattle.whole_numbers.proofs.Common.{ℤ, append_assoc, w128, to_z-of_z, sums, multiples}
 use Rattle.null_space.proofs.ListLoops.{sums_step}
 use Rattle.null_space.proofs.sums.sum_of_multiples.Goals as goal
 

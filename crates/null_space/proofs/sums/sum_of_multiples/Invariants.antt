@@ -1,5 +1,4 @@
-use Rattle.std.proofs.Common.{◌≡◌, ◌++◌, drop}
-use Rattle.whole_numbers.specs.Lists.{sums, multiples}
+use Rattle.whole_numbers.proofs.Common.{◌≡◌, ◌++◌, drop, sums, multiples}
 use Rattle.null_space.proofs.sums.sum_of_multiples.Given as goal
 
 abbrev pub invariant-loop-at : goal.invariant-loop-at

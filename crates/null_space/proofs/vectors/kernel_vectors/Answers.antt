@@ -1,6 +1,5 @@
-use Rattle.std.proofs.Common.{◌≡◌, [], ℕ, ℤ, List, get_or, take, sym, ◌∙◌, ap, subst, arith}
-use Rattle.std.proofs.lemmas.List.{take_all}
-use Rattle.std.proofs.lemmas.List.Elements.{All-take}
+use Rattle.whole_numbers.proofs.Common.{◌≡◌, [], ℕ, ℤ, List, get_or, take, sym, ◌∙◌, ap, subst, arith, take_all}
+use Rattle.whole_numbers.proofs.Common.{All-take}
 use Rattle.null_space.specs.Narrowing.{narrowed_by, kernel_vectors}
 use Rattle.null_space.specs.Sizes.{AreCoefficients, AreLong, AreNarrow}
 use Rattle.null_space.proofs.ListLoops.{views, views_length, kernel_step, kernel_long, long_at}

@@ -1,4 +1,4 @@
-use Rattle.std.proofs.Common.{◌≡◌, map, take}
+use Rattle.whole_numbers.proofs.Common.{◌≡◌, map, take}
 use Rattle.null_space.specs.Narrowing.{kernel_vectors}
 use Rattle.null_space.proofs.vectors.kernel_vectors.Given as goal
 

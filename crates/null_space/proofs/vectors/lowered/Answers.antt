@@ -1,6 +1,4 @@
-use Rattle.std.proofs.Common.{◌≡◌, sym, ◌∙◌, ap, arith, ℤ, List}
-use Rattle.whole_numbers.specs.Content.{content, content_from}
-use Rattle.whole_numbers.proofs.Lowest.{lowest_stays}
+use Rattle.whole_numbers.proofs.Common.{◌≡◌, sym, ◌∙◌, ap, arith, ℤ, List, content, content_from, lowest_stays}
 use Rattle.null_space.proofs.vectors.lowered.Goals as goal
 
 pub returns-then-divisor-le1 : goal.returns-then-divisor-le1

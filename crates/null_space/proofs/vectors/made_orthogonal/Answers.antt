@@ -1,7 +1,4 @@
-use Rattle.std.proofs.Common.{rules, ◌≡◌, sym, subst, arith, ◌^◌, FitsSigned}
-use Rattle.std.specs.Int.{w128}
-use Rattle.std.proofs.lemmas.Int.{to_z-of_z}
-use Rattle.whole_numbers.specs.Lists.{dot}
+use Rattle.whole_numbers.proofs.Common.{rules, ◌≡◌, sym, subst, arith, ◌^◌, FitsSigned, w128, to_z-of_z, dot}
 use Rattle.null_space.specs.Sizes.{IsWithin}
 use Rattle.null_space.proofs.Sizes.{within_dot}
 use Rattle.null_space.proofs.vectors.made_orthogonal.Goals as goal

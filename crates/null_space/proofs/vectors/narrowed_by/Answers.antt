@@ -1,7 +1,5 @@
-use Rattle.std.proofs.Common.{◌≡◌, ◌+◌, ◌++◌, [], ℤ, List, Result, Ok, Err, map, drop, get_or, ◌∙◌, ap, arith}
-use Rattle.std.proofs.Common.{pos, IfOk, of_z}
-use Rattle.std.specs.Int.{w128}
-use Rattle.whole_numbers.specs.Lists.{dot}
+use Rattle.whole_numbers.proofs.Common.{◌≡◌, ◌+◌, ◌++◌, [], ℤ, List, Result, Ok, Err, map, drop, get_or, ◌∙◌, ap, arith}
+use Rattle.whole_numbers.proofs.Common.{pos, IfOk, of_z, w128, dot}
 use Rattle.null_space.specs.Narrowing.{against, narrowed_by}
 use Rattle.null_space.proofs.ListLoops.{views, views_length, goes}
 use Rattle.null_space.proofs.vectors.narrowed_by.Goals as goal

@@ -1,4 +1,4 @@
-use Rattle.std.proofs.Common.{◌≡◌, ◌++◌, map, drop}
+use Rattle.whole_numbers.proofs.Common.{◌≡◌, ◌++◌, map, drop}
 use Rattle.null_space.specs.Narrowing.{narrowed_by}
 use Rattle.null_space.proofs.vectors.narrowed_by.Given as goal
 

@@ -1,4 +1,4 @@
-use Rattle.std.proofs.Common.{length, sym, ◌∙◌, arith}
+use Rattle.whole_numbers.proofs.Common.{length, sym, ◌∙◌, arith}
 use Rattle.null_space.proofs.ListLoops.{views, views_length, long_at, small_at}
 use Rattle.null_space.proofs.vectors.push_orthogonal.Goals as goal
 

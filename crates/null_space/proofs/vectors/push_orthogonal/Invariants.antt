@@ -1,4 +1,4 @@
-use Rattle.std.proofs.Common.{◌≡◌, ◌+◌, ◌++◌, [], map, drop, get_or}
+use Rattle.whole_numbers.proofs.Common.{◌≡◌, ◌+◌, ◌++◌, [], map, drop, get_or}
 use Rattle.null_space.specs.Narrowing.{against}
 use Rattle.null_space.proofs.vectors.push_orthogonal.Given as goal
 

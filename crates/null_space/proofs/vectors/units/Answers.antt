@@ -1,5 +1,4 @@
-use Rattle.std.proofs.Common.{◌+◌, ◌-◌, ◌++◌, ℤ, List, Vec, Global, set, ◌∙◌, ap, arith, pos}
-use Rattle.whole_numbers.specs.Lists.{zeros}
+use Rattle.whole_numbers.proofs.Common.{◌+◌, ◌-◌, ◌++◌, ℤ, List, Vec, Global, set, ◌∙◌, ap, arith, pos, zeros}
 use Rattle.null_space.specs.Narrowing.{units_from}
 use Rattle.null_space.proofs.ListLoops.{views, views_more, units_step}
 use Rattle.null_space.proofs.vectors.units.Goals as goal

@@ -1,4 +1,4 @@
-use Rattle.std.proofs.Common.{◌≡◌, ◌++◌, ◌-◌, map}
+use Rattle.whole_numbers.proofs.Common.{◌≡◌, ◌++◌, ◌-◌, map}
 use Rattle.null_space.specs.Narrowing.{units_from}
 use Rattle.null_space.proofs.vectors.units.Given as goal
 

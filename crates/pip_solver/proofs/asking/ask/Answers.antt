@@ -1,4 +1,4 @@
-use Rattle.std.proofs.Common.{◌++◌, Bool, subst, sym}
+use Rattle.whole_numbers.proofs.Common.{◌++◌, Bool, subst, sym}
 use Rattle.tableau_rows.specs.Run.{run}
 use Rattle.checked_tableau.specs.Nodes.{Counted, answered}
 use Rattle.checked_tableau.specs.Table.{Table}

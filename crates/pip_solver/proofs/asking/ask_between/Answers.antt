@@ -1,4 +1,4 @@
-use Rattle.std.proofs.Common.{◌∙◌, ◌+◌, ℕ, ap}
+use Rattle.whole_numbers.proofs.Common.{◌∙◌, ◌+◌, ℕ, ap}
 use Rattle.pip_solver.proofs.Questions.{above-size}
 use Rattle.pip_solver.proofs.asking.ask_between.Goals as goal
 

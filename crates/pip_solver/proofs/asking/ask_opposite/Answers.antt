@@ -1,4 +1,4 @@
-use Rattle.std.proofs.Common.{◌∙◌, ◌∷◌, []}
+use Rattle.whole_numbers.proofs.Common.{◌∙◌, ◌∷◌, []}
 use Rattle.pip_solver.proofs.Decisions.{speaks_at}
 use Rattle.pip_solver.proofs.Questions.{opposite-size}
 use Rattle.pip_solver.proofs.asking.ask_opposite.Goals as goal

@@ -1,8 +1,5 @@
-use Rattle.std.proofs.Common.{rules, ◌≡◌, ◌∙◌, ◌+◌, ◌++◌, ◌∷◌, [], ℕ, List, map, ap, sym, subst, FitsSigned}
-use Rattle.std.specs.Int.{w128}
-use Rattle.std.proofs.lemmas.Int.{to_z-of_z}
-use Rattle.std.specs.Prelude.{Bool}
-use Rattle.whole_numbers.specs.Affine.{Affine}
+use Rattle.whole_numbers.proofs.Common.{rules, ◌≡◌, ◌∙◌, ◌+◌, ◌++◌, ◌∷◌, [], ℕ, List, map, ap, sym, subst, FitsSigned}
+use Rattle.whole_numbers.proofs.Common.{w128, to_z-of_z, Bool, Affine}
 use Rattle.checked_tableau.specs.Nodes.{Counted, ask, formed, under_run, longer_form}
 use Rattle.checked_tableau.proofs.AddedParameters.{speaks-longer, speaks-append}
 use Rattle.pip_solver.specs.Promises.{Tells}

@@ -1,4 +1,4 @@
-use Rattle.std.proofs.Common.{◌∙◌, ◌∷◌, [], refl}
+use Rattle.whole_numbers.proofs.Common.{◌∙◌, ◌∷◌, [], refl}
 use Rattle.checked_tableau.proofs.QuestionAnswers.{under-size}
 use Rattle.pip_solver.proofs.Decisions.{speaks_at}
 use Rattle.pip_solver.proofs.asking.ask_with_under.Goals as goal

@@ -1,5 +1,4 @@
-use Rattle.std.proofs.Common.{◌∙◌, ap}
-use Rattle.whole_numbers.specs.Affine.{Affine}
+use Rattle.whole_numbers.proofs.Common.{◌∙◌, ap, Affine}
 use Rattle.affine_forms.specs.Parts.{variables_of}
 use Rattle.pip_solver.proofs.asking.below_somewhere.Goals as goal
 

@@ -1,8 +1,5 @@
-use Rattle.std.proofs.Common.{rules, ◌∙◌, ℤ, ap, ap₂, get_or, pos, FitsSigned}
-use Rattle.std.specs.Int.{w128}
-use Rattle.std.proofs.lemmas.Int.{to_z-of_z}
-use Rattle.whole_numbers.specs.Affine.{Affine}
-use Rattle.whole_numbers.specs.Floor.{remainder}
+use Rattle.whole_numbers.proofs.Common.{rules, ◌∙◌, ℤ, ap, ap₂, get_or, pos, FitsSigned, w128, to_z-of_z, Affine}
+use Rattle.whole_numbers.proofs.Common.{remainder}
 use Rattle.affine_forms.specs.Parts.{variables_of}
 use Rattle.tableau_rows.specs.Rows.{Row}
 use Rattle.tableau_rows.specs.Moves.{row_at}

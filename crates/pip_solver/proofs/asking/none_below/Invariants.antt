@@ -1,4 +1,4 @@
-use Rattle.std.proofs.Common.{◌≡◌, drop}
+use Rattle.whole_numbers.proofs.Common.{◌≡◌, drop}
 use Rattle.checked_tableau.specs.Nodes.{none_below}
 use Rattle.pip_solver.proofs.asking.none_below.Given as goal
 

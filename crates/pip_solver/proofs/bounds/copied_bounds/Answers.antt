@@ -1,5 +1,4 @@
-use Rattle.std.proofs.Common.{◌∙◌, arith}
-use Rattle.std.proofs.lemmas.List.{take_all}
+use Rattle.whole_numbers.proofs.Common.{◌∙◌, arith, take_all}
 use Rattle.pip_solver.proofs.CopiedLists.{copied_more}
 use Rattle.pip_solver.proofs.bounds.copied_bounds.Goals as goal
 

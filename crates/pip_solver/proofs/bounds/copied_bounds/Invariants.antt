@@ -1,4 +1,4 @@
-use Rattle.std.proofs.Common.{◌≡◌, take}
+use Rattle.whole_numbers.proofs.Common.{◌≡◌, take}
 use Rattle.pip_solver.proofs.bounds.copied_bounds.Given as goal
 
 abbrev pub invariant-loop-bound : goal.invariant-loop-bound

@@ -1,4 +1,4 @@
-use Rattle.std.proofs.Common.{◌≡◌, drop}
+use Rattle.whole_numbers.proofs.Common.{◌≡◌, drop}
 use Rattle.checked_tableau.specs.Nodes.{place_of}
 use Rattle.pip_solver.proofs.bounds.place_of.Given as goal
 

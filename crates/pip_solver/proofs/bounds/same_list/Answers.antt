@@ -1,4 +1,4 @@
-use Rattle.std.proofs.Common.{◌≡◌, ◌∙◌, ap, sym, subst, drop, List, ℤ, ℕ, arith}
+use Rattle.whole_numbers.proofs.Common.{◌≡◌, ◌∙◌, ap, sym, subst, drop, List, ℤ, ℕ, arith}
 use Rattle.checked_tableau.specs.Nodes.{all_zero, same_list}
 use Rattle.pip_solver.proofs.LineParts.{same-then, same-else}
 use Rattle.pip_solver.proofs.bounds.same_list.Goals as goal

@@ -1,4 +1,4 @@
-use Rattle.std.proofs.Common.{◌≡◌, drop}
+use Rattle.whole_numbers.proofs.Common.{◌≡◌, drop}
 use Rattle.checked_tableau.specs.Nodes.{same_list}
 use Rattle.pip_solver.proofs.bounds.same_list.Given as goal
 

@@ -1,8 +1,4 @@
-use Rattle.std.proofs.Common.{◌≡◌, ◌∙◌, ap, sym, ℤ, List, pos, set}
-use Rattle.std.specs.Prelude.{negsuc}
-use Rattle.whole_numbers.specs.Lists.{zeros}
-use Rattle.whole_numbers.specs.Affine.{form_of}
-use Rattle.whole_numbers.proofs.Dot.{replicate-zeros}
+use Rattle.whole_numbers.proofs.Common.{◌≡◌, ◌∙◌, ap, sym, ℤ, List, pos, set, negsuc, zeros, form_of, replicate-zeros}
 use Rattle.pip_solver.proofs.emptiness.bound.Goals as goal
 
 pub returns : goal.returns

@@ -1,7 +1,5 @@
-use Rattle.std.proofs.Common.{◌≡◌, ◌∙◌, ◌++◌, List, length, ap, subst, sym, refl, Bool, arith}
-use Rattle.std.specs.Prelude.{Result, Err, All}
-use Rattle.whole_numbers.specs.Affine.{Affine}
-use Rattle.whole_numbers.proofs.Entries.{all_front, all_back}
+use Rattle.whole_numbers.proofs.Common.{◌≡◌, ◌∙◌, ◌++◌, List, length, ap, subst, sym, refl, Bool, arith, Result, Err}
+use Rattle.whole_numbers.proofs.Common.{All, Affine, all_front, all_back}
 use Rattle.checked_tableau.specs.Nodes.{Counted, ask}
 use Rattle.pip_solver.specs.Promises.{Tells}
 use Rattle.pip_solver.specs.declared.question.QuestionStop.{QuestionStop}

@@ -1,6 +1,4 @@
-use Rattle.std.proofs.Common.{◌≡◌, ◌∙◌, ◌++◌, ap, sym, ℕ, List}
-use Rattle.std.specs.Prelude.{Ok}
-use Rattle.whole_numbers.specs.Affine.{Affine}
+use Rattle.whole_numbers.proofs.Common.{◌≡◌, ◌∙◌, ◌++◌, ap, sym, ℕ, List, Ok, Affine}
 use Rattle.checked_tableau.specs.Emptiness.{bound_rows, posed_run}
 use Rattle.pip_solver.proofs.Decisions.{posed_parts, posed_flat, posed_sized, empties_rows}
 use Rattle.pip_solver.proofs.emptiness.decide_system.Goals as goal

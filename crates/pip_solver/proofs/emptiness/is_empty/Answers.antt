@@ -1,5 +1,4 @@
-use Rattle.std.proofs.Common.{◌≡◌, Bool, true, false, subst}
-use Rattle.std.specs.Prelude.{Result, Ok, IfOk}
+use Rattle.whole_numbers.proofs.Common.{◌≡◌, Bool, true, false, subst, Result, Ok, IfOk}
 use Rattle.integer_sets.specs.Constraints.{IsSized, variables_in}
 use Rattle.checked_tableau.proofs.Emptiness.{empty-true, empty-false}
 use Rattle.pip_solver.specs.Promises.{Empties}

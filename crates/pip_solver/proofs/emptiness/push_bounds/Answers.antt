@@ -1,7 +1,5 @@
-use Rattle.std.proofs.Common.{rules, ◌≡◌, ◌+◌, ◌-◌, ◌++◌, ◌∷◌, [], List, arith, pos, set, sym, subst}
-use Rattle.std.specs.Prelude.{negsuc}
-use Rattle.whole_numbers.specs.Lists.{zeros}
-use Rattle.whole_numbers.specs.Affine.{Affine, form_of}
+use Rattle.whole_numbers.proofs.Common.{rules, ◌≡◌, ◌+◌, ◌-◌, ◌++◌, ◌∷◌, [], List, arith, pos, set, sym, subst, negsuc}
+use Rattle.whole_numbers.proofs.Common.{zeros, Affine, form_of}
 use Rattle.checked_tableau.specs.Emptiness.{bound_rows}
 use Rattle.pip_solver.proofs.PosedRows.{bounds-more}
 use Rattle.pip_solver.proofs.emptiness.push_bounds.Goals as goal

@@ -1,4 +1,4 @@
-use Rattle.std.proofs.Common.{◌≡◌, ◌++◌, ◌-◌}
+use Rattle.whole_numbers.proofs.Common.{◌≡◌, ◌++◌, ◌-◌}
 use Rattle.checked_tableau.specs.Emptiness.{bound_rows}
 use Rattle.pip_solver.proofs.emptiness.push_bounds.Given as goal
 

@@ -1,6 +1,4 @@
-use Rattle.std.proofs.Common.{◌∙◌, List, map, ap, arith}
-use Rattle.std.proofs.lemmas.List.{take_all}
-use Rattle.whole_numbers.specs.Affine.{Affine}
+use Rattle.whole_numbers.proofs.Common.{◌∙◌, List, map, ap, arith, take_all, Affine}
 use Rattle.checked_tableau.specs.Nodes.{longer_form}
 use Rattle.pip_solver.proofs.CopiedLists.{mapped_more}
 use Rattle.pip_solver.proofs.forms.longer_forms.Goals as goal

@@ -1,4 +1,4 @@
-use Rattle.std.proofs.Common.{◌≡◌, map, take}
+use Rattle.whole_numbers.proofs.Common.{◌≡◌, map, take}
 use Rattle.checked_tableau.specs.Nodes.{longer_form}
 use Rattle.pip_solver.proofs.forms.longer_forms.Given as goal
 

@@ -1,4 +1,4 @@
-use Rattle.std.proofs.Common.{rules, pos}
+use Rattle.whole_numbers.proofs.Common.{rules, pos}
 use Rattle.wide_math.specs.Checked.{difference_of}
 use Rattle.pip_solver.proofs.forms.oppose.Goals as goal
 

@@ -1,5 +1,4 @@
-use Rattle.std.proofs.Common.{◌≡◌, ℕ, suc, length, drop, reverse}
-use Rattle.std.specs.Prelude.{Ok}
+use Rattle.whole_numbers.proofs.Common.{◌≡◌, ℕ, suc, length, drop, reverse, Ok}
 use Rattle.quast_trees.specs.Postfix.{standing, top}
 use Rattle.pip_solver.specs.Frames.{under, joins, seconds, AreReady}
 use Rattle.pip_solver.proofs.frames.resume.Given as goal

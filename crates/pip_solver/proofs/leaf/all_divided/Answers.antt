@@ -1,6 +1,4 @@
-use Rattle.std.proofs.Common.{rules, ◌∙◌, sym, refl, pos, get_or, arith, FitsSigned}
-use Rattle.std.specs.Int.{w128}
-use Rattle.std.proofs.lemmas.Int.{ints, to_z-of_z}
+use Rattle.whole_numbers.proofs.Common.{rules, ◌∙◌, sym, refl, pos, get_or, arith, FitsSigned, w128, ints, to_z-of_z}
 use Rattle.pip_solver.proofs.PartDivisions.{divided-more, divided-not}
 use Rattle.pip_solver.proofs.leaf.all_divided.Goals as goal
 

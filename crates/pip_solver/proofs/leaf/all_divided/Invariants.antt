@@ -1,4 +1,4 @@
-use Rattle.std.proofs.Common.{◌≡◌, drop}
+use Rattle.whole_numbers.proofs.Common.{◌≡◌, drop}
 use Rattle.checked_tableau.specs.Nodes.{all_divided}
 use Rattle.pip_solver.proofs.leaf.all_divided.Given as goal
 

@@ -1,6 +1,5 @@
-use Rattle.std.proofs.Common.{rules, ◌∙◌, ◌+◌, ◌∷◌, ap, pos, ℕ, ℤ, List, get_or, drop, arith, FitsSigned}
-use Rattle.std.specs.Int.{w128}
-use Rattle.std.proofs.lemmas.Int.{to_z-of_z}
+use Rattle.whole_numbers.proofs.Common.{rules, ◌∙◌, ◌+◌, ◌∷◌, ap, pos, ℕ, ℤ, List, get_or, drop, arith, FitsSigned}
+use Rattle.whole_numbers.proofs.Common.{w128, to_z-of_z}
 use Rattle.tableau_rows.specs.Rows.{entry}
 use Rattle.tableau_rows.specs.Moves.{row_at}
 use Rattle.checked_tableau.specs.Nodes.{all_divided}

@@ -1,5 +1,4 @@
-use Rattle.std.proofs.Common.{◌≡◌, ℕ, ◌+◌, List, [], drop, take}
-use Rattle.std.specs.Prelude.{Ok}
+use Rattle.whole_numbers.proofs.Common.{◌≡◌, ℕ, ◌+◌, List, [], drop, take, Ok}
 use Rattle.quast_trees.specs.Tree.{Tree}
 use Rattle.checked_tableau.specs.Nodes.{leaf_tree}
 use Rattle.pip_solver.specs.Frames.{under, KeepsSides}

@@ -1,8 +1,5 @@
-use Rattle.std.proofs.Common.{rules, ◌≡◌, ◌∙◌, ◌+◌, ap, subst, pos, ℕ, ℤ, List, get_or, FitsSigned}
-use Rattle.std.specs.Prelude.{IfOk}
-use Rattle.std.specs.Int.{w128}
-use Rattle.std.proofs.lemmas.Int.{to_z-of_z}
-use Rattle.whole_numbers.specs.Affine.{Affine, form_of}
+use Rattle.whole_numbers.proofs.Common.{rules, ◌≡◌, ◌∙◌, ◌+◌, ap, subst, pos, ℕ, ℤ, List, get_or, FitsSigned, IfOk}
+use Rattle.whole_numbers.proofs.Common.{w128, to_z-of_z, Affine, form_of}
 use Rattle.tableau_rows.specs.Moves.{row_at}
 use Rattle.checked_tableau.specs.Nodes.{padded, part_of}
 use Rattle.pip_solver.proofs.LeafTrees.{part-line}

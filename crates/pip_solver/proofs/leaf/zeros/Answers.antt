@@ -1,5 +1,4 @@
-use Rattle.std.proofs.Common.{rules}
-use Rattle.whole_numbers.proofs.Dot.{replicate-zeros}
+use Rattle.whole_numbers.proofs.Common.{rules, replicate-zeros}
 use Rattle.pip_solver.proofs.leaf.zeros.Goals as goal
 
 pub returns : goal.returns

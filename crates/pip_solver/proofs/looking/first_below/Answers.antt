@@ -1,5 +1,4 @@
-use Rattle.std.proofs.Common.{◌∙◌, Bool, ℕ, sym, subst, ap, arith}
-use Rattle.std.specs.Prelude.{Option, Ok, Err}
+use Rattle.whole_numbers.proofs.Common.{◌∙◌, Bool, ℕ, sym, subst, ap, arith, Option, Ok, Err}
 use Rattle.tableau_rows.specs.Rows.{Row}
 use Rattle.checked_tableau.specs.Nodes.{Counted, below_somewhere, part_of}
 use Rattle.pip_solver.specs.declared.node.Tableau.{Tableau}

@@ -1,4 +1,4 @@
-use Rattle.std.proofs.Common.{◌≡◌, ◌≤◌, drop}
+use Rattle.whole_numbers.proofs.Common.{◌≡◌, ◌≤◌, drop}
 use Rattle.checked_tableau.specs.Nodes.{first_asked, below_somewhere, part_of}
 use Rattle.pip_solver.specs.Node.{node_of}
 use Rattle.pip_solver.proofs.looking.first_below.Given as goal

@@ -1,6 +1,5 @@
-use Rattle.std.proofs.Common.{◌≡◌, ◌∙◌, Bool, ℕ, [], ◌<◌, length, pos, take, subst, sym, ap, arith}
-use Rattle.std.specs.Prelude.{Option, Ok, Err}
-use Rattle.std.proofs.lemmas.List.{get_or-take, length-take-le}
+use Rattle.whole_numbers.proofs.Common.{◌≡◌, ◌∙◌, Bool, ℕ, [], ◌<◌, length, pos, take, subst, sym, ap, arith, Option}
+use Rattle.whole_numbers.proofs.Common.{Ok, Err, get_or-take, length-take-le}
 use Rattle.tableau_rows.specs.Rows.{Row, row_of}
 use Rattle.tableau_rows.specs.Moves.{row_at}
 use Rattle.checked_tableau.specs.Nodes.{Counted, broken_somewhere, part_of}

@@ -1,5 +1,4 @@
-use Rattle.std.proofs.Common.{◌≡◌, ◌∙◌, List, refl, subst, ap, sym, arith}
-use Rattle.std.specs.Prelude.{Ok, Err}
+use Rattle.whole_numbers.proofs.Common.{◌≡◌, ◌∙◌, List, refl, subst, ap, sym, arith, Ok, Err}
 use Rattle.quast_trees.specs.Tree.{Tree, LeavesHave}
 use Rattle.quast_trees.specs.Postfix.{standing, top}
 use Rattle.quast_trees.specs.Value.{value}

@@ -1,4 +1,4 @@
-use Rattle.std.proofs.Common.{◌≡◌, drop}
+use Rattle.whole_numbers.proofs.Common.{◌≡◌, drop}
 use Rattle.checked_tableau.specs.Nodes.{all_zero}
 use Rattle.pip_solver.proofs.parts.all_zero.Given as goal
 

@@ -1,7 +1,5 @@
-use Rattle.std.proofs.Common.{rules, ◌≡◌, ◌∙◌, sym, pos, ◌<ℤ◌, arith, FitsSigned}
-use Rattle.std.specs.Int.{w128}
-use Rattle.std.proofs.lemmas.Int.{to_z-of_z, ints}
-use Rattle.whole_numbers.specs.Floor.{remainder}
+use Rattle.whole_numbers.proofs.Common.{rules, ◌≡◌, ◌∙◌, sym, pos, ◌<ℤ◌, arith, FitsSigned, w128, to_z-of_z, ints}
+use Rattle.whole_numbers.proofs.Common.{remainder}
 use Rattle.pip_solver.proofs.LineParts.{opposite-zero, opposite-more}
 use Rattle.pip_solver.proofs.parts.opposite_remainder.Goals as goal
 

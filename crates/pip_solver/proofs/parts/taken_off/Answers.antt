@@ -1,9 +1,5 @@
-use Rattle.std.proofs.Common.{rules, ◌≡◌, ◌∙◌, ◌+◌, ap, ap₂, sym, pos, neg_ℤ, ℕ, ℤ, List, get_or, map, arith}
-use Rattle.std.proofs.Common.{FitsSigned}
-use Rattle.std.specs.Int.{w128}
-use Rattle.std.proofs.lemmas.Int.{to_z-of_z}
-use Rattle.whole_numbers.specs.Floor.{remainder}
-use Rattle.whole_numbers.specs.Affine.{form_of}
+use Rattle.whole_numbers.proofs.Common.{rules, ◌≡◌, ◌∙◌, ◌+◌, ap, ap₂, sym, pos, neg_ℤ, ℕ, ℤ, List, get_or, map, arith}
+use Rattle.whole_numbers.proofs.Common.{FitsSigned, w128, to_z-of_z, remainder, form_of}
 use Rattle.checked_tableau.specs.Moves.{row_at}
 use Rattle.checked_tableau.specs.Nodes.{taken_off}
 use Rattle.pip_solver.proofs.LineParts.{taken-off-line}

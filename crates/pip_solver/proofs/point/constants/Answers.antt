@@ -1,8 +1,5 @@
-use Rattle.std.proofs.Common.{rules, ◌∙◌, ◌++◌, ◌∷◌, [], ℤ, List, map, ap, arith, FitsSigned}
-use Rattle.std.specs.Int.{w128}
-use Rattle.std.proofs.lemmas.Int.{to_z-of_z}
-use Rattle.std.proofs.lemmas.List.{take_all}
-use Rattle.whole_numbers.specs.Affine.{Affine}
+use Rattle.whole_numbers.proofs.Common.{rules, ◌∙◌, ◌++◌, ◌∷◌, [], ℤ, List, map, ap, arith, FitsSigned, w128, to_z-of_z}
+use Rattle.whole_numbers.proofs.Common.{take_all, Affine}
 use Rattle.pip_solver.proofs.CopiedLists.{mapped_more}
 use Rattle.pip_solver.proofs.point.constants.Goals as goal
 

@@ -1,4 +1,4 @@
-use Rattle.std.proofs.Common.{◌≡◌, map, take}
+use Rattle.whole_numbers.proofs.Common.{◌≡◌, map, take}
 use Rattle.pip_solver.proofs.point.constants.Given as goal
 
 abbrev pub invariant-loop-form : goal.invariant-loop-form

@@ -1,7 +1,5 @@
-use Rattle.std.proofs.Common.{◌≡◌, ◌+◌, ℕ, List, [], All, subst, sym, arith, length}
-use Rattle.std.proofs.lemmas.List.Elements.{All-nil}
-use Rattle.whole_numbers.specs.Lists.{NotNegative}
-use Rattle.whole_numbers.specs.Affine.{Affine}
+use Rattle.whole_numbers.proofs.Common.{◌≡◌, ◌+◌, ℕ, List, [], All, subst, sym, arith, length, All-nil, NotNegative}
+use Rattle.whole_numbers.proofs.Common.{Affine}
 use Rattle.tableau_rows.specs.Problem.{row_values, problem_of}
 use Rattle.quast_trees.specs.Postfix.{tree_of}
 use Rattle.quast_trees.specs.Value.{value}

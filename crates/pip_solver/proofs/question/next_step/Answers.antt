@@ -1,5 +1,4 @@
-use Rattle.std.proofs.Common.{rules, ◌≡◌, ◌∙◌, sym, refl, true, false, take}
-use Rattle.std.specs.Prelude.{None}
+use Rattle.whole_numbers.proofs.Common.{rules, ◌≡◌, ◌∙◌, sym, refl, true, false, take, None}
 use Rattle.tableau_rows.specs.Moves.{row_at}
 use Rattle.tableau_rows.specs.Run.{point, none, quotients, some_positive}
 use Rattle.pip_solver.proofs.QuestionRuns.{next_pivots, next_empty, next_cuts, next_point}

@@ -1,5 +1,5 @@
-use Rattle.std.proofs.Common.{rules, ◌≡◌, ℕ, ◌<◌, ◌-◌, ◌∙◌, ap, refl, subst, sym, arith}
-use Rattle.std.specs.Prelude.{suc, Err, None, Option, Ok, Result}
+use Rattle.whole_numbers.proofs.Common.{rules, ◌≡◌, ℕ, ◌<◌, ◌-◌, ◌∙◌, ap, refl, subst, sym, arith, suc, Err, None}
+use Rattle.whole_numbers.proofs.Common.{Option, Ok, Result}
 use Rattle.wide_math.specs.declared.Wide.{Wide}
 use Rattle.tableau_rows.specs.Moves.{row_at, cut_run}
 use Rattle.tableau_rows.specs.Run.{run, cuts, next}

@@ -1,5 +1,4 @@
-use Rattle.std.proofs.Common.{rules, ◌≡◌, ◌-◌, ap, refl, subst, arith}
-use Rattle.std.specs.Prelude.{suc, Ok, Err, Option}
+use Rattle.whole_numbers.proofs.Common.{rules, ◌≡◌, ◌-◌, ap, refl, subst, arith, suc, Ok, Err, Option}
 use Rattle.wide_math.specs.declared.Wide.{Wide}
 use Rattle.tableau_rows.specs.Moves.{pivot_run}
 use Rattle.checked_tableau.specs.Table.{resumed}

@@ -1,5 +1,4 @@
-use Rattle.std.proofs.Common.{◌≡◌, ◌≤◌}
-use Rattle.std.specs.Prelude.{None}
+use Rattle.whole_numbers.proofs.Common.{◌≡◌, ◌≤◌, None}
 use Rattle.tableau_rows.specs.Run.{run}
 use Rattle.pip_solver.proofs.question.question.Given as goal
 

@@ -1,5 +1,4 @@
-use Rattle.std.proofs.Common.{◌≡◌, ◌∙◌, ◌≤◌, ℕ, [], length, take, drop, sym, subst, arith}
-use Rattle.std.specs.Prelude.{Ok}
+use Rattle.whole_numbers.proofs.Common.{◌≡◌, ◌∙◌, ◌≤◌, ℕ, [], length, take, drop, sym, subst, arith, Ok}
 use Rattle.quast_trees.specs.Postfix.{standing, top}
 use Rattle.checked_tableau.specs.Nodes.{leaf_tree, step}
 use Rattle.pip_solver.specs.Node.{node_of}

@@ -1,6 +1,4 @@
-use Rattle.std.proofs.Common.{◌∙◌, ℕ, sym, subst, arith}
-use Rattle.std.specs.Prelude.{Ok, Err, Option}
-use Rattle.std.specs.declared.alloc.AllocError.{AllocError}
+use Rattle.whole_numbers.proofs.Common.{◌∙◌, ℕ, sym, subst, arith, Ok, Err, Option, AllocError}
 use Rattle.quast_trees.specs.Postfix.{standing}
 use Rattle.quast_trees.specs.Tree.{Tree}
 use Rattle.checked_tableau.specs.Nodes.{Counted, whole}

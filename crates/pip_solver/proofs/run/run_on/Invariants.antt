@@ -1,4 +1,4 @@
-use Rattle.std.proofs.Common.{◌≡◌, ◌≤◌, ◌+◌, length, reverse}
+use Rattle.whole_numbers.proofs.Common.{◌≡◌, ◌≤◌, ◌+◌, length, reverse}
 use Rattle.quast_trees.specs.Postfix.{standing}
 use Rattle.checked_tableau.specs.Nodes.{whole}
 use Rattle.pip_solver.specs.Node.{node_of}

@@ -1,5 +1,4 @@
-use Rattle.std.proofs.Common.{rules, ◌≡◌, ◌∙◌, Bool, true, false, subst, sym, ap}
-use Rattle.std.specs.Prelude.{Ok, Err, if◌then◌else◌}
+use Rattle.whole_numbers.proofs.Common.{rules, ◌≡◌, ◌∙◌, Bool, true, false, subst, sym, ap, Ok, Err, if◌then◌else◌}
 use Rattle.quast_trees.specs.Tree.{initial}
 use Rattle.checked_tableau.specs.Nodes.{Next, Counted, ends, context_holds, looked, chained}
 use Rattle.pip_solver.specs.Node.{node_of}

@@ -1,6 +1,4 @@
-use Rattle.std.proofs.Common.{rules, ◌∙◌, ap, sym, List}
-use Rattle.std.specs.Prelude.{Ok}
-use Rattle.whole_numbers.specs.Affine.{Affine}
+use Rattle.whole_numbers.proofs.Common.{rules, ◌∙◌, ap, sym, List, Ok, Affine}
 use Rattle.pip_solver.proofs.Systems.{wide_at}
 use Rattle.pip_solver.proofs.Decisions.{posed_flat}
 use Rattle.pip_solver.proofs.system_point.pose.Goals as goal

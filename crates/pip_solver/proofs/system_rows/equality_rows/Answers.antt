@@ -1,6 +1,4 @@
-use Rattle.std.proofs.Common.{rules, subst, refl, List}
-use Rattle.std.specs.Prelude.{Err}
-use Rattle.whole_numbers.specs.Affine.{Affine}
+use Rattle.whole_numbers.proofs.Common.{rules, subst, refl, List, Err, Affine}
 use Rattle.affine_forms.specs.declared.stop.FormStop.{FormStop}
 use Rattle.pip_solver.specs.Promises.{Forms, FormedUntil}
 use Rattle.pip_solver.proofs.Decisions.{unposed}

@@ -1,10 +1,7 @@
-use Rattle.std.proofs.Common.{rules, ◌≡◌, ◌∙◌, ap, sym, subst, ℤ, List, pos, length, FitsSigned}
-use Rattle.std.specs.Prelude.{Result, Ok}
-use Rattle.std.specs.Int.{w128}
-use Rattle.std.proofs.lemmas.Int.{to_z-of_z}
+use Rattle.whole_numbers.proofs.Common.{rules, ◌≡◌, ◌∙◌, ap, sym, subst, ℤ, List, pos, length, FitsSigned, Result, Ok}
+use Rattle.whole_numbers.proofs.Common.{w128, to_z-of_z, Affine, form_of}
 use Rattle.wide_math.specs.declared.Wide.{Wide}
 use Rattle.wide_math.specs.Checked.{difference_of}
-use Rattle.whole_numbers.specs.Affine.{Affine, form_of}
 use Rattle.affine_forms.specs.Gives.{Gives}
 use Rattle.checked_tableau.proofs.Tables.{written_whole}
 use Rattle.pip_solver.proofs.PosedRows.{negated-err, negated-wide, negated-ok}

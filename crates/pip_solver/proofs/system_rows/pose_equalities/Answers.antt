@@ -1,7 +1,5 @@
-use Rattle.std.proofs.Common.{◌≡◌, ◌∙◌, ◌+◌, ◌++◌, ◌∷◌, [], List, ap, sym, drop, take, drop-cons, add-one, refl}
-use Rattle.std.proofs.Math.Seq.{take-suc}
-use Rattle.std.specs.Prelude.{Ok}
-use Rattle.whole_numbers.specs.Affine.{Affine}
+use Rattle.whole_numbers.proofs.Common.{◌≡◌, ◌∙◌, ◌+◌, ◌++◌, ◌∷◌, [], List, ap, sym, drop, take, drop-cons, add-one}
+use Rattle.whole_numbers.proofs.Common.{refl, take-suc, Ok, Affine}
 use Rattle.checked_tableau.specs.Emptiness.{equality_rows_run}
 use Rattle.pip_solver.proofs.PosedRows.{rows-more, forms-stop}
 use Rattle.pip_solver.proofs.system_rows.pose_equalities.Goals as goal

@@ -1,5 +1,4 @@
-use Rattle.std.proofs.Common.{◌≡◌, take}
-use Rattle.std.specs.Prelude.{Ok}
+use Rattle.whole_numbers.proofs.Common.{◌≡◌, take, Ok}
 use Rattle.checked_tableau.specs.Emptiness.{equality_rows_run}
 use Rattle.pip_solver.proofs.system_rows.pose_equalities.Given as goal
 

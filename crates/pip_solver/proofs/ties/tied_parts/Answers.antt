@@ -1,8 +1,5 @@
-use Rattle.std.proofs.Common.{◌∙◌, ap, sym, subst, FitsSigned}
-use Rattle.std.specs.Prelude.{Err, Ok}
-use Rattle.std.specs.Int.{w128}
+use Rattle.whole_numbers.proofs.Common.{◌∙◌, ap, sym, subst, FitsSigned, Err, Ok, w128, to_z-of_z}
 use Rattle.wide_math.specs.declared.Wide.{Wide}
-use Rattle.std.proofs.lemmas.Int.{to_z-of_z}
 use Rattle.affine_forms.specs.Gives.{Fails}
 use Rattle.affine_forms.specs.declared.stop.FormStop.{FormStop}
 use Rattle.checked_tableau.specs.Moves.{row_at}

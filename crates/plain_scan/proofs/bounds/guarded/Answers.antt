@@ -1,8 +1,7 @@
-use Rattle.std.proofs.Common.{rules, ◌≡◌, ◌∙◌, ◌<◌, ◌∷◌, [], length, map, ap, sym}
+use Rattle.scop_syntax.proofs.Common.{rules, ◌≡◌, ◌∙◌, ◌<◌, ◌∷◌, [], length, map, ap, sym, length-map}
 use Rattle.loop_tree.specs.Tree.{guard, instance, more, none}
 use Rattle.loop_tree.specs.View.{test_of, nodes_of}
 use Rattle.loop_tree.proofs.Views.{tree_guard, tree_instance}
-use Rattle.std.proofs.lemmas.List.{length-map}
 use Rattle.loop_tree.specs.declared.tree.Node.TheVariants.{Instance}
 use Rattle.plain_scan.proofs.CodeBounds.{under_none, under_some}
 use Rattle.plain_scan.proofs.bounds.guarded.Goals as goal

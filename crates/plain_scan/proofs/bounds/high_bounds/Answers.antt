@@ -1,5 +1,4 @@
-use Rattle.std.proofs.Common.{◌∙◌, ap}
-use Rattle.std.specs.Prelude.{map}
+use Rattle.scop_syntax.proofs.Common.{◌∙◌, ap, map}
 use Rattle.plain_scan.specs.Rows.{high_bound}
 use Rattle.plain_scan.specs.Sorting.{highs_in}
 use Rattle.plain_scan.proofs.CodeBounds.{high_next, high_end, take_all}

@@ -1,5 +1,4 @@
-use Rattle.std.proofs.Common.{◌≡◌, ◌∙◌, ap₂, map, subst, sym}
-use Rattle.std.specs.Prelude.{IfOk}
+use Rattle.scop_syntax.proofs.Common.{◌≡◌, ◌∙◌, ap₂, map, subst, sym, IfOk}
 use Rattle.loop_tree.specs.Tree.{instance}
 use Rattle.loop_tree.specs.View.{test_of, tree_of}
 use Rattle.plain_scan.specs.Hulls.{leaf_tree}

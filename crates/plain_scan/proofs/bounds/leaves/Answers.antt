@@ -1,4 +1,4 @@
-use Rattle.std.proofs.Common.{◌∙◌, ap, map}
+use Rattle.scop_syntax.proofs.Common.{◌∙◌, ap, map}
 use Rattle.loop_tree.specs.View.{trees_of}
 use Rattle.plain_scan.specs.Hulls.{leaf_tree}
 use Rattle.plain_scan.proofs.CodeBounds.{leaves_are, take_all}

@@ -1,4 +1,4 @@
-use Rattle.std.proofs.Common.{◌≡◌, map, take}
+use Rattle.scop_syntax.proofs.Common.{◌≡◌, map, take}
 use Rattle.loop_tree.specs.View.{tree_of}
 use Rattle.plain_scan.specs.Hulls.{leaf_tree}
 use Rattle.plain_scan.proofs.bounds.leaves.Given as goal

@@ -1,6 +1,4 @@
-use Rattle.std.proofs.Common.{◌-◌, ◌<◌, drop, length}
-use Rattle.std.proofs.lemmas.List.Elements.{All-drop, All-take}
-use Rattle.whole_numbers.specs.Affine.{Affine}
+use Rattle.scop_syntax.proofs.Common.{◌-◌, ◌<◌, drop, length, All-drop, All-take, Affine}
 use Rattle.affine_forms.specs.Parts.{variables_of}
 use Rattle.plain_scan.specs.Between.{HasSmallNumbers}
 use Rattle.plain_scan.proofs.bounds.loop_round.Goals as goal

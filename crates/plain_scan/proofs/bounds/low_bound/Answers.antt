@@ -1,4 +1,4 @@
-use Rattle.std.proofs.Common.{subst, sym}
+use Rattle.scop_syntax.proofs.Common.{subst, sym}
 use Rattle.plain_scan.specs.Between.{HasSmallNumbers}
 use Rattle.plain_scan.proofs.Smallness.{narrowed_has_small}
 use Rattle.plain_scan.proofs.bounds.low_bound.Goals as goal

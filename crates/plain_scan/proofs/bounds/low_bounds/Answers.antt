@@ -1,5 +1,4 @@
-use Rattle.std.proofs.Common.{◌∙◌, ap}
-use Rattle.std.specs.Prelude.{map}
+use Rattle.scop_syntax.proofs.Common.{◌∙◌, ap, map}
 use Rattle.plain_scan.specs.Rows.{low_bound}
 use Rattle.plain_scan.specs.Sorting.{lows_in}
 use Rattle.plain_scan.proofs.CodeBounds.{low_next, low_end, take_all}

@@ -1,7 +1,4 @@
-use Rattle.std.proofs.Common.{rules, ◌≡◌, ◌∙◌, ap, FitsSigned}
-use Rattle.std.specs.Prelude.{neg_ℤ, map}
-use Rattle.std.specs.Int.{w64}
-use Rattle.std.proofs.lemmas.Int.{to_z-of_z}
+use Rattle.scop_syntax.proofs.Common.{rules, ◌≡◌, ◌∙◌, ap, FitsSigned, neg_ℤ, map, w64, to_z-of_z}
 use Rattle.plain_scan.proofs.CodeBounds.{opposite_end}
 use Rattle.plain_scan.proofs.bounds.opposite_of.Goals as goal
 

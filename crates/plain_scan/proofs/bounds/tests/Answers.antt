@@ -1,5 +1,5 @@
-use Rattle.std.proofs.Common.{◌≡◌, ◌∙◌, List, map, ap, sym, take_all, append-nil}
-use Rattle.whole_numbers.specs.Affine.{Affine}
+use Rattle.scop_syntax.proofs.Common.{◌≡◌, ◌∙◌, List, map, ap, sym, append-nil, Affine}
+use Rattle.std.proofs.Common.{take_all}
 use Rattle.integer_sets.specs.Constraints.{Constraints}
 use Rattle.loop_tree.specs.Tree.{equal}
 use Rattle.plain_scan.proofs.bounds.tests.Goals as goal

@@ -1,4 +1,4 @@
-use Rattle.std.proofs.Common.{◌≡◌, ◌++◌, map, take}
+use Rattle.scop_syntax.proofs.Common.{◌≡◌, ◌++◌, map, take}
 use Rattle.loop_tree.specs.Tree.{at_least, equal}
 use Rattle.loop_tree.specs.View.{test_of}
 use Rattle.plain_scan.proofs.bounds.tests.Given as goal

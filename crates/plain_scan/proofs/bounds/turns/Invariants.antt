@@ -1,4 +1,4 @@
-use Rattle.std.proofs.Common.{◌≡◌, ◌+◌, ◌-◌, ◌++◌}
+use Rattle.scop_syntax.proofs.Common.{◌≡◌, ◌+◌, ◌-◌, ◌++◌}
 use Rattle.plain_scan.specs.Sets.{place_forms}
 use Rattle.plain_scan.proofs.bounds.turns.Given as goal
 

@@ -1,8 +1,5 @@
-use Rattle.std.proofs.Common.{rules, ◌≡◌, ◌∙◌, ℕ, ◌+◌, ◌<◌, ◌≤◌, ◌^◌, length, get_or, subst, sym, FitsSigned}
-use Rattle.std.specs.Prelude.{◌≤ℤ◌, unsigned_abs}
-use Rattle.std.specs.Int.{w128}
-use Rattle.std.proofs.lemmas.Int.{to_z-of_z}
-use Rattle.whole_numbers.proofs.Entries.{get_or_same}
+use Rattle.scop_syntax.proofs.Common.{rules, ◌≡◌, ◌∙◌, ℕ, ◌+◌, ◌<◌, ◌≤◌, ◌^◌, length, get_or, subst, sym, FitsSigned}
+use Rattle.scop_syntax.proofs.Common.{◌≤ℤ◌, unsigned_abs, w128, to_z-of_z, get_or_same}
 use Rattle.plain_scan.specs.declared.outline.Shadow.{Shadow}
 use Rattle.plain_scan.specs.declared.set_outline.Outline.{Outline}
 use Rattle.plain_scan.proofs.HullRows.{next_at, no_greater}

@@ -1,5 +1,4 @@
-use Rattle.std.proofs.Common.{ℕ, ◌<◌, get_or}
-use Rattle.std.specs.Prelude.{◌≤ℤ◌, ◌≤◌, ◌^◌, unsigned_abs}
+use Rattle.scop_syntax.proofs.Common.{ℕ, ◌<◌, get_or, ◌≤ℤ◌, ◌≤◌, ◌^◌, unsigned_abs}
 use Rattle.plain_scan.specs.declared.outline.Shadow.{Shadow}
 use Rattle.plain_scan.specs.declared.set_outline.Outline.{Outline}
 use Rattle.plain_scan.proofs.hull.ends.Given as goal

@@ -1,6 +1,4 @@
-use Rattle.std.proofs.Common.{ℤ, pos, ◌≤ℤ◌, List}
-use Rattle.std.specs.Prelude.{◌≤◌, ◌^◌, IfSome, unsigned_abs}
-use Rattle.whole_numbers.specs.Affine.{form_of, value_of}
+use Rattle.scop_syntax.proofs.Common.{ℤ, pos, ◌≤ℤ◌, List, ◌≤◌, ◌^◌, IfSome, unsigned_abs, form_of, value_of}
 use Rattle.plain_scan.specs.Hulls.{Hold}
 use Rattle.plain_scan.proofs.hull.least_constant.Given as goal
 

@@ -1,6 +1,4 @@
-use Rattle.std.proofs.Common.{rules, ◌≡◌, ◌++◌, ◌∷◌, [], refl, subst, sym, FitsSigned}
-use Rattle.std.specs.Int.{w128}
-use Rattle.whole_numbers.specs.Affine.{form_of}
+use Rattle.scop_syntax.proofs.Common.{rules, ◌≡◌, ◌++◌, ◌∷◌, [], refl, subst, sym, FitsSigned, w128, form_of}
 use Rattle.affine_forms.specs.Parts.{variables_of}
 use Rattle.plain_scan.specs.Hulls.{IsHullRow}
 use Rattle.plain_scan.proofs.HullRows.{hull_row_more}

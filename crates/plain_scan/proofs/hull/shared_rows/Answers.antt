@@ -1,7 +1,4 @@
-use Rattle.std.proofs.Common.{rules, ◌≡◌, ◌∙◌, [], ◌∷◌, ap₂, FitsSigned}
-use Rattle.std.specs.Int.{w128}
-use Rattle.std.proofs.lemmas.Int.{to_z-of_z}
-use Rattle.whole_numbers.specs.Affine.{Affine}
+use Rattle.scop_syntax.proofs.Common.{rules, ◌≡◌, ◌∙◌, [], ◌∷◌, ap₂, FitsSigned, w128, to_z-of_z, Affine}
 use Rattle.plain_scan.proofs.HullRows.{IsFirstRow, first_row, hull_start}
 use Rattle.plain_scan.proofs.hull.shared_rows.Goals as goal
 use Rattle.plain_scan.proofs.hull.shared_rows.Goals.{After-row-item}

@@ -1,8 +1,5 @@
-use Rattle.std.proofs.Common.{rules, ◌∙◌, ◌+◌, ℕ, ◌<◌, ℤ, pos, ◌≤ℤ◌, List, get_or, ap, subst, sym, All, FitsSigned}
-use Rattle.std.proofs.Common.{arith}
-use Rattle.std.specs.Int.{w128}
-use Rattle.std.proofs.lemmas.Int.{to_z-of_z}
-use Rattle.whole_numbers.specs.Affine.{form_of, value_of}
+use Rattle.scop_syntax.proofs.Common.{rules, ◌∙◌, ◌+◌, ℕ, ◌<◌, ℤ, pos, ◌≤ℤ◌, List, get_or, ap, subst, sym, All}
+use Rattle.scop_syntax.proofs.Common.{FitsSigned, arith, w128, to_z-of_z, form_of, value_of}
 use Rattle.affine_forms.specs.Parts.{variables_of}
 use Rattle.plain_scan.specs.declared.outline.Shadow.{Shadow}
 use Rattle.plain_scan.specs.declared.set_outline.Outline.{Outline}

@@ -1,6 +1,4 @@
-use Rattle.std.proofs.Common.{ℕ, ◌<◌, get_or}
-use Rattle.std.specs.Prelude.{◌≤◌, ◌^◌, unsigned_abs}
-use Rattle.whole_numbers.specs.Affine.{form_of}
+use Rattle.scop_syntax.proofs.Common.{ℕ, ◌<◌, get_or, ◌≤◌, ◌^◌, unsigned_abs, form_of}
 use Rattle.plain_scan.specs.declared.set_outline.Outline.{Outline}
 use Rattle.plain_scan.specs.Hulls.{HoldsAt}
 use Rattle.plain_scan.proofs.hull.weakest.Given as goal

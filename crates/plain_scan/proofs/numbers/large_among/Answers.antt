@@ -1,8 +1,4 @@
-use Rattle.std.proofs.Common.{rules, refl, subst, All, FitsSigned}
-use Rattle.std.specs.Int.{w128}
-use Rattle.std.proofs.lemmas.Int.{to_z-of_z}
-use Rattle.scop_syntax.proofs.Members.{member_at}
-use Rattle.whole_numbers.proofs.Entries.{all_next}
+use Rattle.scop_syntax.proofs.Common.{rules, refl, subst, All, FitsSigned, w128, to_z-of_z, member_at, all_next}
 use Rattle.plain_scan.specs.Between.{HasSmallNumbers, IsLargeAmong}
 use Rattle.plain_scan.proofs.CodeBounds.{take_all}
 use Rattle.plain_scan.proofs.numbers.large_among.Goals as goal

@@ -1,10 +1,5 @@
-use Rattle.std.proofs.Common.{rules, ◌∙◌, ◌<◌, ◌≤◌, ◌^◌, ℤ, inl, pos, get_or, subst, All, FitsSigned}
-use Rattle.std.specs.Prelude.{unsigned_abs}
-use Rattle.std.specs.Int.{w128}
-use Rattle.std.proofs.lemmas.Int.{to_z-of_z}
-use Rattle.whole_numbers.proofs.Entries.{all_next, get_or_same}
-use Rattle.scop_syntax.specs.Members.{In}
-use Rattle.scop_syntax.proofs.Members.{member_at}
+use Rattle.scop_syntax.proofs.Common.{rules, ◌∙◌, ◌<◌, ◌≤◌, ◌^◌, ℤ, inl, pos, get_or, subst, All, FitsSigned}
+use Rattle.scop_syntax.proofs.Common.{unsigned_abs, w128, to_z-of_z, all_next, get_or_same, In, member_at}
 use Rattle.plain_scan.proofs.CodeBounds.{take_all}
 use Rattle.plain_scan.proofs.numbers.large_in.Goals as goal
 

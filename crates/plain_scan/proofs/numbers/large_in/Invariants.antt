@@ -1,5 +1,4 @@
-use Rattle.std.proofs.Common.{◌≤◌, ◌^◌, All, take}
-use Rattle.std.specs.Prelude.{unsigned_abs}
+use Rattle.scop_syntax.proofs.Common.{◌≤◌, ◌^◌, All, take, unsigned_abs}
 use Rattle.plain_scan.proofs.numbers.large_in.Given as goal
 
 abbrev pub invariant-loop-number : goal.invariant-loop-number

@@ -1,7 +1,4 @@
-use Rattle.std.proofs.Common.{◌≡◌, ◌∙◌, pos, All, subst}
-use Rattle.std.specs.Prelude.{◌≤ℤ◌}
-use Rattle.whole_numbers.specs.Affine.{Affine}
-use Rattle.whole_numbers.proofs.Entries.{all_next}
+use Rattle.scop_syntax.proofs.Common.{◌≡◌, ◌∙◌, pos, All, subst, ◌≤ℤ◌, Affine, all_next}
 use Rattle.fractions.specs.Elimination.{coefficient_of}
 use Rattle.plain_scan.specs.Outlines.{IsEquality}
 use Rattle.plain_scan.proofs.AppendedRows.{equality_at, row_holds_at}

@@ -1,5 +1,4 @@
-use Rattle.std.proofs.Common.{◌≡◌, [], ◌∷◌, ℤ, pos, take, All}
-use Rattle.std.specs.Prelude.{◌≤ℤ◌, None, IfSome}
+use Rattle.scop_syntax.proofs.Common.{◌≡◌, [], ◌∷◌, ℤ, pos, take, All, ◌≤ℤ◌, None, IfSome}
 use Rattle.fractions.specs.Elimination.{coefficient_of}
 use Rattle.integer_sets.specs.Points.{Satisfies}
 use Rattle.plain_scan.specs.Between.{AreSmall, IsLargeOf, LiesBetween}

@@ -1,6 +1,4 @@
-use Rattle.std.proofs.Common.{rules, FitsSigned}
-use Rattle.std.specs.Int.{w128}
-use Rattle.std.proofs.lemmas.Int.{to_z-of_z}
+use Rattle.scop_syntax.proofs.Common.{rules, FitsSigned, w128, to_z-of_z}
 use Rattle.plain_scan.proofs.Values.{other_parts, zero_least}
 use Rattle.plain_scan.proofs.numbers.with_equality.Goals as goal
 

@@ -1,8 +1,4 @@
-use Rattle.std.proofs.Common.{rules, pos, ◌<ℤ◌, FitsSigned}
-use Rattle.std.specs.Prelude.{neg_ℤ}
-use Rattle.std.specs.Int.{w128}
-use Rattle.std.proofs.lemmas.Int.{to_z-of_z}
-use Rattle.whole_numbers.specs.Division.{IsFloor, IsCeiling}
+use Rattle.scop_syntax.proofs.Common.{rules, pos, ◌<ℤ◌, FitsSigned, neg_ℤ, w128, to_z-of_z, IsFloor, IsCeiling}
 use Rattle.plain_scan.proofs.Values.{low_row, high_row, small_ceiling}
 use Rattle.plain_scan.proofs.numbers.with_small_row.Goals as goal
 

@@ -1,5 +1,4 @@
-use Rattle.std.proofs.Common.{rules, ◌≡◌, subst}
-use Rattle.std.specs.Prelude.{IfErr, IfOk, MatchOption, Option, Some, None, Result, Ok, Err}
+use Rattle.scop_syntax.proofs.Common.{rules, ◌≡◌, subst, IfErr, IfOk, MatchOption, Option, Some, None, Result, Ok, Err}
 use Rattle.integer_sets.specs.Constraints.{IsSized, variables_in}
 use Rattle.fm_projection.specs.declared.stop.FmStop.{FmStop}
 use Rattle.traced_projections.specs.declared.projections.Projection.TheVariants as projection

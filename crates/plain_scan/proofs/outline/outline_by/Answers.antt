@@ -1,8 +1,5 @@
-use Rattle.std.proofs.Common.{rules, ◌≡◌, ◌∙◌, ℕ, suc, ◌+◌, ◌-◌, ◌++◌, ◌∷◌, [], ap, inr, refl, subst, sym, length}
-use Rattle.std.proofs.Common.{length-append, FitsSigned, arith}
-use Rattle.std.specs.Int.{w128}
-use Rattle.std.specs.Prelude.{◌⊎◌}
-use Rattle.std.proofs.lemmas.Int.{to_z-of_z}
+use Rattle.scop_syntax.proofs.Common.{rules, ◌≡◌, ◌∙◌, ℕ, suc, ◌+◌, ◌-◌, ◌++◌, ◌∷◌, [], ap, inr, refl, subst, sym}
+use Rattle.scop_syntax.proofs.Common.{length, length-append, FitsSigned, arith, w128, ◌⊎◌, to_z-of_z}
 use Rattle.integer_sets.specs.Constraints.{Constraints}
 use Rattle.traced_projections.specs.declared.projections.Projection.{Projection}
 use Rattle.traced_projections.specs.Projections.{LastFollows, PassesAlone, alone_of, system_in}

@@ -1,4 +1,4 @@
-use Rattle.std.proofs.Common.{rules, ◌≡◌, ◌∙◌, ap}
+use Rattle.scop_syntax.proofs.Common.{rules, ◌≡◌, ◌∙◌, ap}
 use Rattle.traced_projections.specs.Tracing.{constraints_of, traced}
 use Rattle.traced_projections.proofs.Runs.{traced_same}
 use Rattle.plain_scan.proofs.outline.outline_of.Goals as goal

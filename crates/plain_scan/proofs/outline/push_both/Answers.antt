@@ -1,7 +1,4 @@
-use Rattle.std.proofs.Common.{◌≡◌, sym, subst}
-use Rattle.std.specs.Prelude.{negsuc}
-use Rattle.std.proofs.lemmas.Result.{on_ok_weaker}
-use Rattle.whole_numbers.specs.Affine.{multiple_of_form}
+use Rattle.scop_syntax.proofs.Common.{◌≡◌, sym, subst, negsuc, on_ok_weaker, multiple_of_form}
 use Rattle.plain_scan.specs.Between.{HasSmallNumbers}
 use Rattle.plain_scan.specs.Outlines.{IsRow}
 use Rattle.plain_scan.proofs.AppendedRows.{row_of_equality, other_of_equality}

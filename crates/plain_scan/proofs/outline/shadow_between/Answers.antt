@@ -1,6 +1,4 @@
-use Rattle.std.proofs.Common.{rules, ℤ, ◌≤ℤ◌, [], ◌∷◌, FitsSigned}
-use Rattle.std.specs.Int.{w128}
-use Rattle.std.proofs.lemmas.Int.{to_z-of_z}
+use Rattle.scop_syntax.proofs.Common.{rules, ℤ, ◌≤ℤ◌, [], ◌∷◌, FitsSigned, w128, to_z-of_z}
 use Rattle.integer_sets.specs.Points.{Satisfies}
 use Rattle.plain_scan.proofs.AppendedRows.{low_high, small_both}
 use Rattle.plain_scan.proofs.outline.shadow_between.Goals as goal

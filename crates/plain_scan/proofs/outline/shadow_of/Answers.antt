@@ -1,5 +1,4 @@
-use Rattle.std.proofs.Common.{◌∙◌, ap, subst}
-use Rattle.std.specs.Prelude.{IfOk, Result, Ok, Err}
+use Rattle.scop_syntax.proofs.Common.{◌∙◌, ap, subst, IfOk, Result, Ok, Err}
 use Rattle.integer_sets.specs.Constraints.{Constraints}
 use Rattle.traced_projections.specs.Projections.{LastFollows, alone_of, system_in}
 use Rattle.plain_scan.proofs.AppendedRows.{alone_shape}

@@ -1,5 +1,4 @@
-use Rattle.std.proofs.Common.{rules, refl, subst, sym}
-use Rattle.scop_syntax.proofs.Members.{member_at}
+use Rattle.scop_syntax.proofs.Common.{rules, refl, subst, sym, member_at}
 use Rattle.integer_sets.specs.Scanned.{Scanned}
 use Rattle.fm_projection.specs.Alone.{IsBounded}
 use Rattle.plain_scan.specs.Hulls.{sets_in}

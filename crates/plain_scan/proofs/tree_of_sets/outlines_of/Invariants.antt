@@ -1,4 +1,4 @@
-use Rattle.std.proofs.Common.{take}
+use Rattle.scop_syntax.proofs.Common.{take}
 use Rattle.plain_scan.specs.Hulls.{sets_in}
 use Rattle.plain_scan.specs.Leaving.{LeavesOut}
 use Rattle.plain_scan.proofs.tree_of_sets.outlines_of.Given as goal

@@ -1,5 +1,4 @@
-use Rattle.std.proofs.Common.{◌≡◌, ℕ, zero, ◌+◌, ◌-◌, refl, sym, ap₂, subst, arith, [], All}
-use Rattle.std.specs.Prelude.{map}
+use Rattle.scop_syntax.proofs.Common.{◌≡◌, ℕ, zero, ◌+◌, ◌-◌, refl, sym, ap₂, subst, arith, [], All, map}
 use Rattle.integer_sets.specs.Constraints.{variables_in}
 use Rattle.loop_tree.specs.View.{nodes_of}
 use Rattle.loop_tree.specs.Fits.{AreSmallTrees}

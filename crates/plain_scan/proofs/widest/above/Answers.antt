@@ -1,4 +1,4 @@
-use Rattle.std.proofs.Common.{rules, ◌≡◌, take}
+use Rattle.scop_syntax.proofs.Common.{rules, ◌≡◌, take}
 use Rattle.plain_scan.proofs.WeakerRows.{greater_above}
 use Rattle.plain_scan.proofs.widest.above.Goals as goal
 

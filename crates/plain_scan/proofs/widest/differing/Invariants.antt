@@ -1,4 +1,4 @@
-use Rattle.std.proofs.Common.{◌≤◌}
+use Rattle.scop_syntax.proofs.Common.{◌≤◌}
 use Rattle.plain_scan.proofs.widest.differing.Given as goal
 
 abbrev pub invariant-loop-at : goal.invariant-loop-at

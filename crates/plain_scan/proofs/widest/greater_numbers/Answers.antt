@@ -1,8 +1,5 @@
-use Rattle.std.proofs.Common.{rules, ◌≡◌, ◌∙◌, ℕ, ◌+◌, suc, List, ℤ, ◌++◌, ◌∷◌, [], take, ap, ap₂, sym, arith, get_or}
-use Rattle.std.proofs.Common.{pos, FitsSigned}
-use Rattle.std.specs.Int.{w128}
-use Rattle.std.proofs.lemmas.Int.{to_z-of_z}
-use Rattle.std.proofs.lemmas.List.{take_all}
+use Rattle.scop_syntax.proofs.Common.{rules, ◌≡◌, ◌∙◌, ℕ, ◌+◌, suc, List, ℤ, ◌++◌, ◌∷◌, [], take, ap, ap₂, sym, arith}
+use Rattle.scop_syntax.proofs.Common.{get_or, pos, FitsSigned, w128, to_z-of_z, take_all}
 use Rattle.loop_tree.specs.Walk.{max_z}
 use Rattle.plain_scan.specs.Weaker.{greater_numbers}
 use Rattle.plain_scan.proofs.WeakerRows.{greater_more}

@@ -1,4 +1,4 @@
-use Rattle.std.proofs.Common.{◌≡◌, take}
+use Rattle.scop_syntax.proofs.Common.{◌≡◌, take}
 use Rattle.plain_scan.specs.Weaker.{greater_numbers}
 use Rattle.plain_scan.proofs.widest.greater_numbers.Given as goal
 

@@ -1,8 +1,5 @@
-use Rattle.std.proofs.Common.{rules, ◌≡◌, ◌∙◌, ℕ, suc, ◌+◌, sym, subst, arith, FitsSigned}
-use Rattle.std.specs.Int.{w128}
-use Rattle.std.proofs.lemmas.Option.{IfSome_then}
-use Rattle.std.proofs.lemmas.Result.{IfOk-weaker}
-use Rattle.whole_numbers.specs.Affine.{multiple_of_form}
+use Rattle.scop_syntax.proofs.Common.{rules, ◌≡◌, ◌∙◌, ℕ, suc, ◌+◌, sym, subst, arith, FitsSigned, w128, IfSome_then}
+use Rattle.scop_syntax.proofs.Common.{IfOk-weaker, multiple_of_form}
 use Rattle.plain_scan.specs.Weaker.{IsAbove}
 use Rattle.plain_scan.proofs.WeakerRows.{multiple_size, multiples_above}
 use Rattle.plain_scan.proofs.widest.joined.Goals as goal

@@ -1,5 +1,4 @@
-use Rattle.std.proofs.Common.{◌<◌, length}
-use Rattle.std.specs.Prelude.{IfSome}
+use Rattle.scop_syntax.proofs.Common.{◌<◌, length, IfSome}
 use Rattle.plain_scan.proofs.widest.nearest.Given as goal
 
 abbrev pub invariant-loop-at : goal.invariant-loop-at

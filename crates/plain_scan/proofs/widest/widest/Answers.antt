@@ -1,4 +1,4 @@
-use Rattle.std.proofs.Common.{rules, ◌≡◌, ◌∙◌, suc, ◌+◌, get_or, ap, subst, sym, All, arith}
+use Rattle.scop_syntax.proofs.Common.{rules, ◌≡◌, ◌∙◌, suc, ◌+◌, get_or, ap, subst, sym, All, arith}
 use Rattle.affine_forms.specs.Parts.{variables_of}
 use Rattle.plain_scan.specs.declared.outline.Shadow.{Shadow}
 use Rattle.plain_scan.specs.declared.set_outline.Outline.{Outline}

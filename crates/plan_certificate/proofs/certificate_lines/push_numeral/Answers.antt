@@ -1,6 +1,5 @@
 -- What is formatted is the numeral.
-use Rattle.std.proofs.Common.{rules, ◌≡◌, ◌++◌, sym, subst, arith, ℕ, List}
-use Rattle.std.specs.Prelude.{OnOk}
+use Rattle.scop_syntax.proofs.Common.{rules, ◌≡◌, ◌++◌, sym, subst, arith, ℕ, List, OnOk}
 use Rattle.schedule_lines.specs.Lines.{numeral}
 use Rattle.plan_certificate.proofs.NumeralTexts.{decimal_is_numeral}
 use Rattle.plan_certificate.proofs.certificate_lines.push_numeral.Goals as goal

@@ -1,5 +1,5 @@
 -- One step more, and at the end all of them.
-use Rattle.std.proofs.Common.{◌∙◌, ◌+◌, ◌++◌, ap, drop, drop_of_length-le, map}
+use Rattle.scop_syntax.proofs.Common.{◌∙◌, ◌+◌, ◌++◌, ap, drop, drop_of_length-le, map}
 use Rattle.plan_check.specs.Derivations.{step_of}
 use Rattle.report_text.proofs.AppendedTexts.{next_appended, last_appended}
 use Rattle.plan_certificate.specs.Certificates.{steps_text}

@@ -1,5 +1,5 @@
 -- What was appended so far and the lines to come are all lines.
-use Rattle.std.proofs.Common.{◌≡◌, ◌++◌, drop, map}
+use Rattle.scop_syntax.proofs.Common.{◌≡◌, ◌++◌, drop, map}
 use Rattle.plan_check.specs.Derivations.{step_of}
 use Rattle.plan_certificate.specs.Certificates.{steps_text}
 use Rattle.plan_certificate.proofs.certificate_lines.push_steps.Given as goal

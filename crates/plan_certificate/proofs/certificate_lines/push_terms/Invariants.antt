@@ -1,5 +1,5 @@
 -- What was appended so far and the terms to come are all terms.
-use Rattle.std.proofs.Common.{◌≡◌, ◌++◌, drop, map}
+use Rattle.scop_syntax.proofs.Common.{◌≡◌, ◌++◌, drop, map}
 use Rattle.plan_check.specs.Printed.{terms_text}
 use Rattle.plan_certificate.specs.Certificates.{term_line_of}
 use Rattle.plan_certificate.proofs.certificate_lines.push_terms.Given as goal

@@ -1,5 +1,5 @@
 -- The text of the items is that of the blocks whose plan has these goals.
-use Rattle.std.proofs.Common.{◌∙◌, subst, All, List, Ok}
+use Rattle.scop_syntax.proofs.Common.{◌∙◌, subst, All, List, Ok}
 use Rattle.iteration_domains.specs.Dependence.{Dependence}
 use Rattle.schedule_rows.specs.Schedule.{IsScheduled, loops_in}
 use Rattle.report_text.specs.ScheduleText.{IsTextOf}

@@ -1,6 +1,5 @@
 -- The certificate of the schedule's blocks, which is accepted: its text is shorter than memory.
-use Rattle.std.proofs.Common.{rules, refl, length, ◌<◌, ◌^◌}
-use Rattle.std.specs.Prelude.{IfOk}
+use Rattle.scop_syntax.proofs.Common.{rules, refl, length, ◌<◌, ◌^◌, IfOk}
 use Rattle.plan_certificate.specs.Certificates.{certificate_of}
 use Rattle.plan_certificate.proofs.AcceptedResults.{certified_accepted}
 use Rattle.plan_certificate.proofs.certifying.certify_plan.Goals as goal

@@ -1,6 +1,5 @@
 -- One goal more, and at the end all of them.
-use Rattle.std.proofs.Common.{rules, ◌≡◌, ◌+◌, All, List, sym, subst}
-use Rattle.std.proofs.lemmas.List.Elements.{All-cons, All-nil}
+use Rattle.scop_syntax.proofs.Common.{rules, ◌≡◌, ◌+◌, All, List, sym, subst, All-cons, All-nil}
 use Rattle.iteration_domains.specs.Dependence.{Dependence}
 use Rattle.plan_check.specs.steps.Taking.{Takes}
 use Rattle.plan_certificate.proofs.GoalTexts.{proofs_next}

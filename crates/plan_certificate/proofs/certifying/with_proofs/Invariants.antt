@@ -1,5 +1,5 @@
 -- The text so far, with those of the goals that are left, is that of all goals.
-use Rattle.std.proofs.Common.{◌≡◌, All, length, suc}
+use Rattle.scop_syntax.proofs.Common.{◌≡◌, All, length, suc}
 use Rattle.plan_certificate.specs.Certificates.{behind_text, proofs_text}
 use Rattle.plan_certificate.specs.steps.Narrow.{HasNarrow}
 use Rattle.plan_certificate.proofs.certifying.with_proofs.Given as goal

@@ -1,4 +1,4 @@
-use Rattle.std.proofs.Common.{◌≡◌, drop}
+use Rattle.scop_syntax.proofs.Common.{◌≡◌, drop}
 use Rattle.plan_certificate.specs.Derivation.{contradiction_in}
 use Rattle.plan_certificate.proofs.dividing.contradiction_in.Given as goal
 

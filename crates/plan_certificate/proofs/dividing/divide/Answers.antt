@@ -1,4 +1,4 @@
-use Rattle.std.proofs.Common.{rules, ◌≡◌, ◌<◌, length, arith}
+use Rattle.scop_syntax.proofs.Common.{rules, ◌≡◌, ◌<◌, length, arith}
 use Rattle.plan_certificate.specs.steps.States.{state_of}
 use Rattle.plan_certificate.proofs.Moves.{grows_then, divided_goes}
 use Rattle.plan_certificate.proofs.dividing.divide.Goals as goal

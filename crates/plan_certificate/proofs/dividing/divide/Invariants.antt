@@ -1,4 +1,4 @@
-use Rattle.std.proofs.Common.{◌≡◌, drop}
+use Rattle.scop_syntax.proofs.Common.{◌≡◌, drop}
 use Rattle.plan_certificate.specs.Derivation.{divided_from}
 use Rattle.plan_certificate.specs.steps.States.{Grows, state_of}
 use Rattle.plan_certificate.proofs.dividing.divide.Given as goal

@@ -1,4 +1,4 @@
-use Rattle.std.proofs.Common.{◌≡◌, ◌-◌}
+use Rattle.scop_syntax.proofs.Common.{◌≡◌, ◌-◌}
 use Rattle.plan_certificate.specs.Derivation.{all_eliminated}
 use Rattle.plan_certificate.specs.steps.States.{Grows, state_of}
 use Rattle.plan_certificate.proofs.eliminating.eliminate_all.Given as goal

@@ -1,4 +1,4 @@
-use Rattle.std.proofs.Common.{◌≡◌, drop, map}
+use Rattle.scop_syntax.proofs.Common.{◌≡◌, drop, map}
 use Rattle.plan_check.specs.Derivations.{step_of}
 use Rattle.plan_certificate.specs.Derivation.{marked_takes}
 use Rattle.plan_certificate.proofs.needed.marked_takes.Given as goal

@@ -1,5 +1,5 @@
-use Rattle.std.proofs.Common.{rules, ◌≡◌, ℕ, suc, ◌+◌, ◌-◌, ◌<◌, Bool, true, List, length, map, drop, replicate}
-use Rattle.std.proofs.Common.{set, refl, sym, subst, arith}
+use Rattle.scop_syntax.proofs.Common.{rules, ◌≡◌, ℕ, suc, ◌+◌, ◌-◌, ◌<◌, Bool, true, List, length, map, drop, replicate}
+use Rattle.scop_syntax.proofs.Common.{set, refl, sym, subst, arith}
 use Rattle.plan_check.specs.Derivations.{step_of}
 use Rattle.plan_certificate.specs.Derivation.{marked_takes, needed}
 use Rattle.plan_certificate.proofs.MarkedLines.{last_is, mark_before}

@@ -1,4 +1,4 @@
-use Rattle.std.proofs.Common.{◌≡◌, ◌≤◌, ◌+◌, ◌-◌, drop, length, map, suc}
+use Rattle.scop_syntax.proofs.Common.{◌≡◌, ◌≤◌, ◌+◌, ◌-◌, drop, length, map, suc}
 use Rattle.plan_check.specs.Derivations.{step_of}
 use Rattle.plan_certificate.specs.Derivation.{needed}
 use Rattle.plan_certificate.proofs.needed.needed.Given as goal

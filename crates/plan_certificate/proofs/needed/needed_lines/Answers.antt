@@ -1,4 +1,4 @@
-use Rattle.std.proofs.Common.{◌<◌, length, arith}
+use Rattle.scop_syntax.proofs.Common.{◌<◌, length, arith}
 use Rattle.plan_certificate.proofs.MarkedLines.{line_kept, one_longer}
 use Rattle.plan_certificate.proofs.needed.needed_lines.Goals as goal
 

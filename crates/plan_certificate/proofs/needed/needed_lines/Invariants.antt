@@ -1,4 +1,4 @@
-use Rattle.std.proofs.Common.{◌≡◌, ◌++◌, ◌+◌, drop, length, map}
+use Rattle.scop_syntax.proofs.Common.{◌≡◌, ◌++◌, ◌+◌, drop, length, map}
 use Rattle.plan_check.specs.Derivations.{pruned, step_of}
 use Rattle.plan_certificate.specs.Derivation.{needed_lines}
 use Rattle.plan_certificate.specs.steps.Numbers.{number_in}

@@ -1,4 +1,4 @@
-use Rattle.std.proofs.Common.{◌≡◌, ◌++◌, drop, map}
+use Rattle.scop_syntax.proofs.Common.{◌≡◌, ◌++◌, drop, map}
 use Rattle.plan_certificate.specs.steps.Numbers.{number_in, term_in}
 use Rattle.plan_certificate.proofs.needed.renumbered.Given as goal
 

@@ -1,4 +1,4 @@
-use Rattle.std.proofs.Common.{◌≡◌, drop}
+use Rattle.scop_syntax.proofs.Common.{◌≡◌, drop}
 use Rattle.plan_certificate.specs.Derivation.{takes}
 use Rattle.plan_certificate.proofs.needed.takes.Given as goal
 

@@ -1,4 +1,4 @@
-use Rattle.std.proofs.Common.{◌≡◌, ◌++◌, drop}
+use Rattle.scop_syntax.proofs.Common.{◌≡◌, ◌++◌, drop}
 use Rattle.plan_certificate.specs.Derivation.{chosen}
 use Rattle.plan_certificate.specs.steps.Places.{test_of}
 use Rattle.plan_certificate.proofs.places.chosen.Given as goal

@@ -1,4 +1,4 @@
-use Rattle.std.proofs.Common.{◌≡◌, ◌+◌, drop}
+use Rattle.scop_syntax.proofs.Common.{◌≡◌, ◌+◌, drop}
 use Rattle.plan_certificate.specs.steps.Places.{parallel_place}
 use Rattle.plan_certificate.proofs.places.parallel_place.Given as goal
 

@@ -1,5 +1,4 @@
-use Rattle.std.proofs.Common.{rules, ◌≡◌, ◌<◌, ◌≤◌, length, subst, arith, List, ℕ}
-use Rattle.std.specs.Prelude.{OnOk}
+use Rattle.scop_syntax.proofs.Common.{rules, ◌≡◌, ◌<◌, ◌≤◌, length, subst, arith, List, ℕ, OnOk}
 use Rattle.plan_certificate.specs.steps.Places.{parallel_place}
 use Rattle.plan_certificate.proofs.TightestPlaces.{put_behind, put_tighter}
 use Rattle.plan_certificate.proofs.places.put.Goals as goal

@@ -1,4 +1,4 @@
-use Rattle.std.proofs.Common.{◌≡◌, [], drop}
+use Rattle.scop_syntax.proofs.Common.{◌≡◌, [], drop}
 use Rattle.plan_certificate.specs.Derivation.{with_places}
 use Rattle.plan_certificate.proofs.places.tightest.Given as goal
 

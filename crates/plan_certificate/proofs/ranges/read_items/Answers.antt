@@ -1,6 +1,5 @@
 -- One more, and at the end all.
-use Rattle.std.proofs.Common.{arith}
-use Rattle.whole_numbers.proofs.Entries.{all_next, all_taken}
+use Rattle.scop_syntax.proofs.Common.{arith, all_next, all_taken}
 use Rattle.schedule_rows.specs.Schedule.{item_of}
 use Rattle.plan_certificate.specs.steps.Narrow.{IsNarrowItem}
 use Rattle.plan_certificate.proofs.Narrow.{all_mapped}

@@ -1,5 +1,5 @@
 -- One more, and at the end all.
-use Rattle.whole_numbers.proofs.Entries.{all_next, all_taken}
+use Rattle.scop_syntax.proofs.Common.{all_next, all_taken}
 use Rattle.plan_check.specs.Derivations.{step_of}
 use Rattle.plan_certificate.specs.steps.Narrow.{IsNarrowLine, IsNarrowStep}
 use Rattle.plan_certificate.proofs.Narrow.{all_mapped}

@@ -1,8 +1,6 @@
 -- One more, and at the end all.
-use Rattle.std.proofs.Common.{rules, All, FitsSigned, List, ℤ, pos, get_or, subst, arith}
-use Rattle.std.specs.Int.{w128}
-use Rattle.std.proofs.lemmas.List.{take_all}
-use Rattle.std.proofs.lemmas.List.Elements.{All-more}
+use Rattle.scop_syntax.proofs.Common.{rules, All, FitsSigned, List, ℤ, pos, get_or, subst, arith, w128, take_all}
+use Rattle.scop_syntax.proofs.Common.{All-more}
 use Rattle.plan_certificate.proofs.ranges.read_numbers.Goals as goal
 
 pub loop-at-preserved : goal.loop-at-preserved

@@ -1,6 +1,5 @@
 -- Those so far are within the bounds of their type.
-use Rattle.std.proofs.Common.{All, FitsSigned, take}
-use Rattle.std.specs.Int.{w128}
+use Rattle.scop_syntax.proofs.Common.{All, FitsSigned, take, w128}
 use Rattle.plan_certificate.proofs.ranges.read_numbers.Given as goal
 
 abbrev pub invariant-loop-at : goal.invariant-loop-at

@@ -1,6 +1,5 @@
 -- One more, and at the end all.
-use Rattle.std.proofs.lemmas.List.Elements.{All-more}
-use Rattle.whole_numbers.proofs.Entries.{all_taken}
+use Rattle.scop_syntax.proofs.Common.{All-more, all_taken}
 use Rattle.plan_certificate.specs.steps.Narrow.{IsNarrowTerm}
 use Rattle.plan_certificate.proofs.ranges.read_terms.Goals as goal
 

@@ -1,5 +1,5 @@
 -- Those so far are within the bounds of their type.
-use Rattle.std.proofs.Common.{All, take}
+use Rattle.scop_syntax.proofs.Common.{All, take}
 use Rattle.plan_certificate.specs.steps.Narrow.{IsNarrowTerm}
 use Rattle.plan_certificate.proofs.ranges.read_terms.Given as goal
 

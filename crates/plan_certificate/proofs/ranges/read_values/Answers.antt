@@ -1,7 +1,5 @@
 -- One more, and at the end all.
-use Rattle.std.proofs.Common.{rules, ◌<◌, ◌^◌, List, ℕ, get_or, subst, arith}
-use Rattle.std.proofs.lemmas.List.{take_all}
-use Rattle.std.proofs.lemmas.List.Elements.{All-more}
+use Rattle.scop_syntax.proofs.Common.{rules, ◌<◌, ◌^◌, List, ℕ, get_or, subst, arith, take_all, All-more}
 use Rattle.plan_certificate.specs.steps.Narrow.{AreNarrowNumbers}
 use Rattle.plan_certificate.proofs.ranges.read_values.Goals as goal
 

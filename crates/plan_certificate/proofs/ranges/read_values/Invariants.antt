@@ -1,5 +1,5 @@
 -- Those so far are within the bounds of their type.
-use Rattle.std.proofs.Common.{take}
+use Rattle.scop_syntax.proofs.Common.{take}
 use Rattle.plan_certificate.specs.steps.Narrow.{AreNarrowNumbers}
 use Rattle.plan_certificate.proofs.ranges.read_values.Given as goal
 

@@ -1,6 +1,5 @@
 -- One item more, and at the end the plan of the blocks.
-use Rattle.std.proofs.Common.{◌≡◌, ◌∙◌, ◌<◌, ◌≤◌, sym, subst, ap, arith, length, get_or}
-use Rattle.std.proofs.lemmas.List.{length-map, get_or-map}
+use Rattle.scop_syntax.proofs.Common.{◌≡◌, ◌∙◌, ◌<◌, ◌≤◌, sym, subst, ap, arith, length, get_or, length-map, get_or-map}
 use Rattle.schedule_rows.specs.Schedule.{item_of, loops_in}
 use Rattle.plan_check.specs.Plans.{IsUp, Suits}
 use Rattle.plan_check.specs.PlanView.{plan_of}

@@ -1,5 +1,5 @@
 -- The plan so far, with the items to come, is that of all items.
-use Rattle.std.proofs.Common.{◌≡◌, drop}
+use Rattle.scop_syntax.proofs.Common.{◌≡◌, drop}
 use Rattle.plan_check.specs.PlanView.{plan_of}
 use Rattle.plan_certificate.specs.steps.ItemPlans.{no_items, with_items}
 use Rattle.plan_certificate.proofs.schedule_items.plan_items.Given as goal

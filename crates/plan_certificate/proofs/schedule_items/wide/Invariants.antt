@@ -1,5 +1,5 @@
 -- The numbers so far and those to come are all numbers.
-use Rattle.std.proofs.Common.{◌≡◌, ◌++◌, drop}
+use Rattle.scop_syntax.proofs.Common.{◌≡◌, ◌++◌, drop}
 use Rattle.plan_certificate.proofs.schedule_items.wide.Given as goal
 
 abbrev pub invariant-loop-at : goal.invariant-loop-at

@@ -1,4 +1,4 @@
-use Rattle.std.proofs.Common.{sym, subst, Some}
+use Rattle.scop_syntax.proofs.Common.{sym, subst, Some}
 use Rattle.wide_math.specs.Gives.{Gives}
 use Rattle.plan_check.specs.Judged.{line_judged}
 use Rattle.plan_check.specs.TextView.{rejected_in, said_view, stage_view}

@@ -1,6 +1,5 @@
-use Rattle.std.proofs.Common.{rules, refl}
+use Rattle.scop_syntax.proofs.Common.{rules, refl, program_of}
 use Rattle.iteration_domains.specs.Model.{model_of}
-use Rattle.scop_syntax.specs.View.{program_of}
 use Rattle.plan_check.specs.steps.Stages.{PlanHolds}
 use Rattle.plan_check.proofs.Reached.{plan_in}
 use Rattle.plan_check.proofs.checking.check_plan.Goals as goal

@@ -1,5 +1,4 @@
-use Rattle.std.proofs.Common.{subst, []}
-use Rattle.std.specs.Prelude.{All}
+use Rattle.scop_syntax.proofs.Common.{subst, [], All}
 use Rattle.plan_check.specs.Goals.{HasNoPoint, goals_in}
 use Rattle.plan_check.specs.Judged.{laying, proving}
 use Rattle.plan_check.specs.TextView.{laid_view, stage_view}

@@ -1,4 +1,4 @@
-use Rattle.std.proofs.Common.{rules, ◌≡◌, true, Ok}
+use Rattle.scop_syntax.proofs.Common.{rules, ◌≡◌, true, Ok}
 use Rattle.plan_check.proofs.checking.end_goals.Goals as goal
 
 pub returns-in-Ok-true-clause-points : goal.returns-in-Ok-true-clause-points

@@ -1,5 +1,4 @@
-use Rattle.std.proofs.Common.{rules, subst, ◌≡◌, Ok}
-use Rattle.std.specs.Prelude.{All}
+use Rattle.scop_syntax.proofs.Common.{rules, subst, ◌≡◌, Ok, All}
 use Rattle.plan_check.specs.Goals.{HasNoPoint}
 use Rattle.plan_check.specs.Judged.{goals_ended, goals_opened}
 use Rattle.plan_check.specs.TextView.{laid_view, rejected_in}

@@ -1,4 +1,4 @@
-use Rattle.std.proofs.Common.{rules, sym, subst, ◌≡◌, Ok}
+use Rattle.scop_syntax.proofs.Common.{rules, sym, subst, ◌≡◌, Ok}
 use Rattle.wide_math.specs.Gives.{Gives, IsTold}
 use Rattle.plan_check.specs.Judged.{goal_judged, goals_opened, proving, proving_stage, then_goals}
 use Rattle.plan_check.specs.TextView.{laid_view, rejected_in, stage_view}

@@ -1,4 +1,4 @@
-use Rattle.std.proofs.Common.{rules, Ok}
+use Rattle.scop_syntax.proofs.Common.{rules, Ok}
 use Rattle.wide_math.specs.Gives.{IsTold}
 use Rattle.plan_check.specs.Judged.{goal_judged, proving}
 use Rattle.plan_check.specs.TextView.{rejected_in}

@@ -1,4 +1,4 @@
-use Rattle.std.proofs.Common.{rules, sym, subst, ◌≡◌, ◌+◌, ◌<◌, ◌≤◌, length, take, true, Ok}
+use Rattle.scop_syntax.proofs.Common.{rules, sym, subst, ◌≡◌, ◌+◌, ◌<◌, ◌≤◌, length, take, true, Ok}
 use Rattle.wide_math.specs.Gives.{Gives, IsTold}
 use Rattle.plan_check.specs.Goals.{loops_in}
 use Rattle.plan_check.specs.Judged.{laying, line_judged}

@@ -1,5 +1,5 @@
 -- What was read, and what is still to be read.
-use Rattle.std.proofs.Common.{length}
+use Rattle.scop_syntax.proofs.Common.{length}
 use Rattle.plan_check.specs.TextView.{stage_view}
 use Rattle.plan_check.proofs.Reached.{IsReached}
 use Rattle.plan_check.proofs.checking.judge.Given as goal

@@ -1,4 +1,4 @@
-use Rattle.std.proofs.Common.{◌≡◌, ◌++◌, drop, map}
+use Rattle.scop_syntax.proofs.Common.{◌≡◌, ◌++◌, drop, map}
 use Rattle.plan_check.proofs.checking.loops_in.Given as goal
 
 abbrev pub invariant-loop-statement : goal.invariant-loop-statement

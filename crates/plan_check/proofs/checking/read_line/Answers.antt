@@ -1,4 +1,4 @@
-use Rattle.std.proofs.Common.{rules, ap, refl, sym, subst, ◌≡◌, ◌∙◌, Some, None}
+use Rattle.scop_syntax.proofs.Common.{rules, ap, refl, sym, subst, ◌≡◌, ◌∙◌, Some, None}
 use Rattle.wide_math.specs.Gives.{Gives}
 use Rattle.plan_check.specs.Goals.{loops_in}
 use Rattle.plan_check.specs.Judged.{line_judged}

@@ -1,4 +1,4 @@
-use Rattle.std.proofs.Common.{rules}
+use Rattle.scop_syntax.proofs.Common.{rules}
 use Rattle.wide_math.specs.Gives.{IsTold}
 use Rattle.schedule_lines.specs.View.{scalar_view}
 use Rattle.plan_check.specs.Judged.{scalar_judged}

@@ -1,4 +1,4 @@
-use Rattle.std.proofs.Common.{◌≡◌, false, true}
+use Rattle.scop_syntax.proofs.Common.{◌≡◌, false, true}
 use Rattle.plan_check.proofs.SoundDerivations.{derived_none}
 use Rattle.plan_check.proofs.derivation_laws.derivations_leave_no_point.Goals as goal
 

@@ -1,8 +1,5 @@
-use Rattle.std.proofs.Common.{rules, ◌≡◌, ℤ, ◌+ℤ◌, ◌-ℤ◌, negsuc, subst, FitsSigned}
-use Rattle.std.specs.Prelude.{IfOk}
-use Rattle.std.specs.Int.{w128}
-use Rattle.std.proofs.lemmas.Int.{to_z-of_z}
-use Rattle.whole_numbers.specs.Affine.{form_of}
+use Rattle.scop_syntax.proofs.Common.{rules, ◌≡◌, ℤ, ◌+ℤ◌, ◌-ℤ◌, negsuc, subst, FitsSigned, IfOk, w128, to_z-of_z}
+use Rattle.scop_syntax.proofs.Common.{form_of}
 use Rattle.plan_check.specs.Goals.{apart}
 use Rattle.plan_check.proofs.differences.at_least_one.Goals as goal
 

@@ -1,9 +1,5 @@
-use Rattle.std.proofs.Common.{rules, ◌≡◌, ℤ, ◌+ℤ◌, ◌-ℤ◌, ◌++◌, negsuc, subst, FitsSigned}
-use Rattle.std.specs.Prelude.{IfOk}
-use Rattle.std.specs.Int.{w128}
-use Rattle.std.proofs.lemmas.Int.{to_z-of_z}
-use Rattle.whole_numbers.specs.Affine.{Affine, form_of}
-use Rattle.whole_numbers.specs.Lists.{multiples, zeros}
+use Rattle.scop_syntax.proofs.Common.{rules, ◌≡◌, ℤ, ◌+ℤ◌, ◌-ℤ◌, ◌++◌, negsuc, subst, FitsSigned, IfOk, w128, to_z-of_z}
+use Rattle.scop_syntax.proofs.Common.{Affine, form_of, multiples, zeros}
 use Rattle.plan_check.proofs.GoalRows.{fallen_is}
 use Rattle.plan_check.proofs.differences.at_most_minus_one.Goals as goal
 

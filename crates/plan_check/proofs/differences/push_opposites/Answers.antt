@@ -1,7 +1,5 @@
-use Rattle.std.proofs.Common.{rules, ◌<◌, ◌≤ℤ◌, pos, arith, FitsSigned, get_or, length}
-use Rattle.std.specs.Int.{w128}
-use Rattle.std.proofs.lemmas.Int.{to_z-of_z}
-use Rattle.std.proofs.lemmas.List.Elements.{All-get_or}
+use Rattle.scop_syntax.proofs.Common.{rules, ◌<◌, ◌≤ℤ◌, pos, arith, FitsSigned, get_or, length, w128, to_z-of_z}
+use Rattle.scop_syntax.proofs.Common.{All-get_or}
 use Rattle.plan_check.proofs.differences.push_opposites.Goals as goal
 
 pub opposite-requires : goal.opposite-requires

@@ -1,5 +1,4 @@
-use Rattle.std.proofs.Common.{◌≡◌, ◌++◌, drop, negsuc}
-use Rattle.whole_numbers.specs.Lists.{multiples}
+use Rattle.scop_syntax.proofs.Common.{◌≡◌, ◌++◌, drop, negsuc, multiples}
 use Rattle.plan_check.proofs.differences.push_opposites.Given as goal
 
 abbrev pub invariant-loop-at : goal.invariant-loop-at

@@ -1,4 +1,4 @@
-use Rattle.std.proofs.Common.{length}
+use Rattle.scop_syntax.proofs.Common.{length}
 use Rattle.iteration_domains.specs.Model.{model_of}
 use Rattle.plan_check.proofs.FirstFaults.{fault_line, first_fault}
 use Rattle.plan_check.proofs.judging_laws.rejections_are_the_first.Goals as goal

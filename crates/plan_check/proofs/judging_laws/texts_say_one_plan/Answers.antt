@@ -1,4 +1,4 @@
-use Rattle.std.proofs.Common.{◌∙◌, sym}
+use Rattle.scop_syntax.proofs.Common.{◌∙◌, sym}
 use Rattle.plan_check.proofs.judging_laws.texts_say_one_plan.Goals as goal
 
 pub returns : goal.returns

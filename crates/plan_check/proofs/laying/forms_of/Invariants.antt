@@ -1,4 +1,4 @@
-use Rattle.std.proofs.Common.{◌≡◌, ◌++◌, drop, map}
+use Rattle.scop_syntax.proofs.Common.{◌≡◌, ◌++◌, drop, map}
 use Rattle.schedule_lines.specs.View.{part_view}
 use Rattle.plan_check.specs.Judged.{form_of_part}
 use Rattle.plan_check.proofs.laying.forms_of.Given as goal

@@ -1,4 +1,4 @@
-use Rattle.std.proofs.Common.{◌≡◌, drop}
+use Rattle.scop_syntax.proofs.Common.{◌≡◌, drop}
 use Rattle.plan_check.specs.Judged.{has_rows}
 use Rattle.plan_check.specs.TextView.{laid_view}
 use Rattle.plan_check.proofs.laying.has_rows.Given as goal

@@ -1,5 +1,4 @@
-use Rattle.std.proofs.Common.{◌≡◌, drop, map}
-use Rattle.std.specs.List.{list_all}
+use Rattle.scop_syntax.proofs.Common.{◌≡◌, drop, map, list_all}
 use Rattle.schedule_lines.specs.View.{part_view}
 use Rattle.plan_check.specs.Judged.{part_held}
 use Rattle.plan_check.proofs.laying.parts_held.Given as goal

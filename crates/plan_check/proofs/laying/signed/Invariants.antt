@@ -1,4 +1,4 @@
-use Rattle.std.proofs.Common.{◌≡◌, ◌++◌, drop, map, pos}
+use Rattle.scop_syntax.proofs.Common.{◌≡◌, ◌++◌, drop, map, pos}
 use Rattle.plan_check.proofs.laying.signed.Given as goal
 
 abbrev pub invariant-loop-at : goal.invariant-loop-at

@@ -1,4 +1,4 @@
-use Rattle.std.proofs.Common.{◌≡◌, drop}
+use Rattle.scop_syntax.proofs.Common.{◌≡◌, drop}
 use Rattle.plan_check.specs.Derivations.{behind, named}
 use Rattle.plan_check.proofs.lines.gathered.Given as goal
 

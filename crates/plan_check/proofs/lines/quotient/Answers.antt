@@ -1,10 +1,5 @@
-use Rattle.std.proofs.Common.{rules, FitsSigned}
-use Rattle.std.specs.Int.{w128}
-use Rattle.std.proofs.lemmas.Int.{to_z-of_z, ints}
-use Rattle.std.proofs.Common.{arith, pos, ◌<ℤ◌}
-use Rattle.whole_numbers.specs.Division.{IsFloor}
-use Rattle.whole_numbers.specs.Floor.{floor}
-use Rattle.whole_numbers.proofs.Floors.{floor_is, floor_unique}
+use Rattle.scop_syntax.proofs.Common.{rules, FitsSigned, w128, to_z-of_z, ints, arith, pos, ◌<ℤ◌, IsFloor, floor}
+use Rattle.scop_syntax.proofs.Common.{floor_is, floor_unique}
 use Rattle.plan_check.proofs.lines.quotient.Goals as goal
 
 pub returns-in-Ok : goal.returns-in-Ok

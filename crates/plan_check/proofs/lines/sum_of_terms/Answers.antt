@@ -1,4 +1,4 @@
-use Rattle.std.proofs.Common.{rules, ◌≡◌, Some}
+use Rattle.scop_syntax.proofs.Common.{rules, ◌≡◌, Some}
 use Rattle.affine_forms.specs.Parts.{variables_of}
 use Rattle.plan_check.specs.Derivations.{named}
 use Rattle.plan_check.proofs.SoundDerivations.{named_kept, named_sized}

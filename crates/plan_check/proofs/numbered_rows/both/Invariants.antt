@@ -1,4 +1,4 @@
-use Rattle.std.proofs.Common.{◌≡◌, drop}
+use Rattle.scop_syntax.proofs.Common.{◌≡◌, drop}
 use Rattle.plan_check.specs.Progress.{behind_run, both_run}
 use Rattle.plan_check.proofs.numbered_rows.both.Given as goal
 

@@ -1,4 +1,4 @@
-use Rattle.std.proofs.Common.{rules, ◌≡◌, All}
+use Rattle.scop_syntax.proofs.Common.{rules, ◌≡◌, All}
 use Rattle.affine_forms.specs.Parts.{variables_of}
 use Rattle.integer_sets.specs.Constraints.{variables_in}
 use Rattle.plan_check.proofs.Progresses.{run_sized}

@@ -1,5 +1,4 @@
-use Rattle.std.proofs.Common.{[], ◌+◌, ◌<◌, ◌∙◌, ap₂, refl, sym, subst, length}
-use Rattle.scop_syntax.specs.Walk.{instance}
+use Rattle.scop_syntax.proofs.Common.{[], ◌+◌, ◌<◌, ◌∙◌, ap₂, refl, sym, subst, length, instance}
 use Rattle.scop_syntax.proofs.Limits.{params_not_negative}
 use Rattle.iteration_domains.specs.Model.{model_of}
 use Rattle.iteration_domains.proofs.TreeStatements.{one_model}

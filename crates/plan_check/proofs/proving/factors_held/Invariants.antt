@@ -1,5 +1,4 @@
-use Rattle.std.proofs.Common.{◌≡◌, drop, map}
-use Rattle.std.specs.List.{list_all}
+use Rattle.scop_syntax.proofs.Common.{◌≡◌, drop, map, list_all}
 use Rattle.plan_check.specs.Judged.{factor_held}
 use Rattle.plan_check.specs.TextView.{term_view}
 use Rattle.plan_check.proofs.proving.factors_held.Given as goal

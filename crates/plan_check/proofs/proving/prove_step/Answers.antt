@@ -1,4 +1,4 @@
-use Rattle.std.proofs.Common.{rules, sym, subst, ◌≡◌}
+use Rattle.scop_syntax.proofs.Common.{rules, sym, subst, ◌≡◌}
 use Rattle.plan_check.specs.Derivations.{IsLine, step_of}
 use Rattle.plan_check.specs.Judged.{step_of_line}
 use Rattle.plan_check.specs.TextView.{step_view}

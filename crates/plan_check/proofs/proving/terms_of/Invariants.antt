@@ -1,4 +1,4 @@
-use Rattle.std.proofs.Common.{◌≡◌, ◌++◌, drop, map}
+use Rattle.scop_syntax.proofs.Common.{◌≡◌, ◌++◌, drop, map}
 use Rattle.plan_check.specs.Judged.{term_named}
 use Rattle.plan_check.specs.TextView.{term_view}
 use Rattle.plan_check.proofs.proving.terms_of.Given as goal

@@ -1,7 +1,4 @@
-use Rattle.std.proofs.Common.{rules, ◌≡◌, ◌∙◌, ◌+◌, ◌<◌, ℕ, ap, ap₂, negsuc, pos}
-use Rattle.std.specs.Prelude.{set}
-use Rattle.whole_numbers.specs.Affine.{form_of}
-use Rattle.whole_numbers.specs.Lists.{zeros}
+use Rattle.scop_syntax.proofs.Common.{rules, ◌≡◌, ◌∙◌, ◌+◌, ◌<◌, ℕ, ap, ap₂, negsuc, pos, set, form_of, zeros}
 use Rattle.iteration_domains.specs.Dependence.{Dependence}
 use Rattle.iteration_domains.specs.Restrictions.{row_behind}
 use Rattle.plan_check.specs.Goals.{bounded}

@@ -1,4 +1,4 @@
-use Rattle.std.proofs.Common.{◌≡◌, ◌+◌, ◌-◌}
+use Rattle.scop_syntax.proofs.Common.{◌≡◌, ◌+◌, ◌-◌}
 use Rattle.plan_check.specs.Goals.{bounded, upper_rows}
 use Rattle.plan_check.specs.steps.Walks.{rows_behind}
 use Rattle.plan_check.proofs.row_goals.bounded.Given as goal

@@ -1,5 +1,4 @@
-use Rattle.std.proofs.Common.{rules, ap, ◌≡◌, ◌∙◌, ◌++◌, ◌∷◌, [], ◌<◌, length, map}
-use Rattle.std.specs.Prelude.{Some, None}
+use Rattle.scop_syntax.proofs.Common.{rules, ap, ◌≡◌, ◌∙◌, ◌++◌, ◌∷◌, [], ◌<◌, length, map, Some, None}
 use Rattle.std.proofs.lemmas.List.{map_push}
 use Rattle.plan_check.specs.Text.{term_in, terms_in}
 use Rattle.plan_check.specs.TextView.{term_view}

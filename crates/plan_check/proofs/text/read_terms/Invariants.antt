@@ -1,5 +1,5 @@
 -- The terms so far, in front of what is still read, are all.
-use Rattle.std.proofs.Common.{◌≡◌, ◌-◌, length, map}
+use Rattle.scop_syntax.proofs.Common.{◌≡◌, ◌-◌, length, map}
 use Rattle.schedule_lines.proofs.ReadLists.{joined}
 use Rattle.plan_check.specs.Text.{terms_in}
 use Rattle.plan_check.specs.TextView.{term_view}

@@ -1,5 +1,5 @@
-use Rattle.std.proofs.Common.{◌≡◌, ap, subst, length}
-use Rattle.std.specs.Prelude.{Some, option_map}
+use Rattle.scop_syntax.proofs.Common.{◌≡◌, ap, subst, length, Some}
+use Rattle.std.specs.Prelude.{option_map}
 use Rattle.schedule_lines.specs.Lines.{scalar_text}
 use Rattle.schedule_lines.specs.Reading.{scalar_in}
 use Rattle.schedule_lines.specs.Saturated.{saturated_scalar}

@@ -1,6 +1,4 @@
-use Rattle.std.proofs.Common.{◌≡◌, None, Some, sym}
-use Rattle.std.specs.Prelude.{slice_get}
-use Rattle.std.proofs.lemmas.Result.{IfOk-weaker}
+use Rattle.scop_syntax.proofs.Common.{◌≡◌, None, Some, sym, slice_get, IfOk-weaker}
 use Rattle.plan_check.specs.PlanView.{plan_of, row_of}
 use Rattle.plan_check.proofs.Walks.{band_end, band_fits, get_mapped, get_none, if_finds}
 use Rattle.plan_check.proofs.walk.band_goal.Goals as goal

@@ -1,4 +1,4 @@
-use Rattle.std.proofs.Common.{◌∙◌, ap, subst, sym}
+use Rattle.scop_syntax.proofs.Common.{◌∙◌, ap, subst, sym}
 use Rattle.iteration_domains.specs.Dependence.{Dependence}
 use Rattle.plan_check.specs.Goals.{band_goals, leading_goals}
 use Rattle.plan_check.specs.PlanView.{plan_of}

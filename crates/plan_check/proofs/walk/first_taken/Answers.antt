@@ -1,11 +1,9 @@
-use Rattle.std.proofs.Common.{rules, ◌≡◌, ◌∙◌, ◌<◌, ◌≤◌, Some, ap, refl, length, subst, sym}
-use Rattle.std.specs.Prelude.{slice_get}
-use Rattle.std.specs.List.{flat_map}
+use Rattle.scop_syntax.proofs.Common.{rules, ◌≡◌, ◌∙◌, ◌<◌, ◌≤◌, Some, ap, refl, length, subst, sym, slice_get}
+use Rattle.scop_syntax.proofs.Common.{flat_map, slice_get_past, slice_get_read}
 use Rattle.plan_check.specs.Goals.{goals_of}
 use Rattle.plan_check.specs.PlanView.{plan_of}
 use Rattle.plan_check.specs.steps.Walks.{Finds}
 use Rattle.plan_check.proofs.Walks.{drop_past, taken_found, taken_none}
-use Rattle.std.proofs.lemmas.Option.{slice_get_past, slice_get_read}
 use Rattle.plan_check.proofs.walk.first_taken.Goals as goal
 
 pub loop-at-preserved : goal.loop-at-preserved

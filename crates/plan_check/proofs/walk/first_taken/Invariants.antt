@@ -1,5 +1,4 @@
-use Rattle.std.proofs.Common.{◌≡◌, drop}
-use Rattle.std.specs.List.{flat_map}
+use Rattle.scop_syntax.proofs.Common.{◌≡◌, drop, flat_map}
 use Rattle.plan_check.specs.Goals.{goals_of}
 use Rattle.plan_check.specs.PlanView.{plan_of}
 use Rattle.plan_check.proofs.walk.first_taken.Given as goal

@@ -1,6 +1,4 @@
-use Rattle.std.proofs.Common.{◌≡◌, Some, List, subst, sym}
-use Rattle.std.specs.Prelude.{slice_get}
-use Rattle.whole_numbers.specs.Affine.{Affine}
+use Rattle.scop_syntax.proofs.Common.{◌≡◌, Some, List, subst, sym, slice_get, Affine}
 use Rattle.plan_check.specs.PlanView.{plan_of, row_of}
 use Rattle.plan_check.specs.steps.Walks.{FitsRow}
 use Rattle.plan_check.proofs.Walks.{band_fits, can_row_equal, get_mapped, restricted_as}

@@ -1,6 +1,5 @@
-use Rattle.std.proofs.Common.{rules, ◌≡◌, ◌∙◌, ◌<◌, ◌≤◌, ◌∷◌, ℕ, List, Some, ap, drop, length, sym}
-use Rattle.std.specs.Prelude.{slice_get}
-use Rattle.whole_numbers.specs.Affine.{Affine}
+use Rattle.scop_syntax.proofs.Common.{rules, ◌≡◌, ◌∙◌, ◌<◌, ◌≤◌, ◌∷◌, ℕ, List, Some, ap, drop, length, sym, slice_get}
+use Rattle.scop_syntax.proofs.Common.{Affine}
 use Rattle.plan_check.specs.Goals.{later_goals}
 use Rattle.plan_check.specs.Plans.{number_of, rows, numbers}
 use Rattle.plan_check.specs.PlanView.{item_of, plan_of}

@@ -1,4 +1,4 @@
-use Rattle.std.proofs.Common.{◌≡◌, drop}
+use Rattle.scop_syntax.proofs.Common.{◌≡◌, drop}
 use Rattle.plan_check.specs.Goals.{later_goals}
 use Rattle.plan_check.specs.PlanView.{plan_of}
 use Rattle.plan_check.proofs.walk.later_goal.Given as goal

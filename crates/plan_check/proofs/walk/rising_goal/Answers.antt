@@ -1,6 +1,4 @@
-use Rattle.std.proofs.Common.{◌≡◌, ◌∙◌, Some, ap, sym}
-use Rattle.std.specs.Prelude.{slice_get}
-use Rattle.std.proofs.lemmas.Result.{IfOk-weaker}
+use Rattle.scop_syntax.proofs.Common.{◌≡◌, ◌∙◌, Some, ap, sym, slice_get, IfOk-weaker}
 use Rattle.plan_check.specs.PlanView.{plan_of, row_of}
 use Rattle.iteration_domains.specs.Dependence.{Dependence}
 use Rattle.plan_check.specs.steps.Walks.{band_goals_at}

@@ -1,5 +1,4 @@
-use Rattle.std.proofs.Common.{rules, ◌≡◌, ◌∙◌, ◌<◌, ◌≤◌, Some, sym}
-use Rattle.std.specs.Prelude.{slice_get}
+use Rattle.scop_syntax.proofs.Common.{rules, ◌≡◌, ◌∙◌, ◌<◌, ◌≤◌, Some, sym, slice_get}
 use Rattle.plan_check.specs.Goals.{band_goals}
 use Rattle.plan_check.specs.Plans.{number_of}
 use Rattle.plan_check.specs.PlanView.{plan_of}

@@ -1,4 +1,4 @@
-use Rattle.std.proofs.Common.{◌≡◌, ℕ, drop}
+use Rattle.scop_syntax.proofs.Common.{◌≡◌, ℕ, drop}
 use Rattle.plan_check.specs.Goals.{band_goals, leading_goals}
 use Rattle.plan_check.specs.PlanView.{plan_of}
 use Rattle.plan_check.proofs.walk.start.Given as goal

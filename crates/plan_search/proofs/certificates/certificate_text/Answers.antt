@@ -1,7 +1,5 @@
 -- The text is what certifying gives, or that of the line that tells what keeps the order.
-use Rattle.std.proofs.Common.{◌∙◌, [], ap, sym, subst}
-use Rattle.std.proofs.lemmas.Result.{IfOk-weaker}
-use Rattle.scop_syntax.specs.View.{program_of}
+use Rattle.scop_syntax.proofs.Common.{◌∙◌, [], ap, sym, subst, IfOk-weaker, program_of}
 use Rattle.dataflow.specs.Covering.{covers_of}
 use Rattle.plan_search.specs.Found.{LieBetween}
 use Rattle.plan_search.proofs.CertificateLemmas.{kept_certified, schedule_certified}

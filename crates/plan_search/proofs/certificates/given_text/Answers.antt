@@ -1,5 +1,5 @@
 -- The text is the certificate, or the line of the goal that has none.
-use Rattle.std.proofs.lemmas.Result.{IfOk-weaker}
+use Rattle.scop_syntax.proofs.Common.{IfOk-weaker}
 use Rattle.plan_search.proofs.CertificateLemmas.{accepted_given, goal_given}
 use Rattle.plan_search.proofs.certificates.given_text.Goals as goal
 

@@ -1,6 +1,5 @@
 -- The plan is that of the schedule that is found; where the search stops, the kept order's.
-use Rattle.std.proofs.lemmas.Result.{IfOk-weaker}
-use Rattle.scop_syntax.specs.View.{program_of}
+use Rattle.scop_syntax.proofs.Common.{IfOk-weaker, program_of}
 use Rattle.plan_search.proofs.PlanLemmas.{unscheduled_is_plan}
 use Rattle.plan_search.proofs.SearchLemmas.{program_searched}
 use Rattle.plan_search.proofs.planning.plan_over.Goals as goal

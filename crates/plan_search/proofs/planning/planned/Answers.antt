@@ -1,7 +1,5 @@
 -- The plan over the covers is one of the program.
-use Rattle.std.proofs.Common.{◌∙◌, ap, sym, subst}
-use Rattle.std.proofs.lemmas.Result.{IfOk-weaker}
-use Rattle.scop_syntax.specs.View.{program_of}
+use Rattle.scop_syntax.proofs.Common.{◌∙◌, ap, sym, subst, IfOk-weaker, program_of}
 use Rattle.dataflow.specs.Covering.{covers_of}
 use Rattle.plan_search.specs.Found.{HoldFor, LieBetween}
 use Rattle.plan_search.proofs.PlanLemmas.{plan_of_covers}

@@ -1,7 +1,5 @@
 -- The plan over the reads with their last writers is one for runs in which each instance has a copy of its own.
-use Rattle.std.proofs.Common.{◌≡◌, ◌∙◌, ap, sym, subst, map}
-use Rattle.std.proofs.lemmas.Result.{IfOk-weaker}
-use Rattle.scop_syntax.specs.View.{program_of}
+use Rattle.scop_syntax.proofs.Common.{◌≡◌, ◌∙◌, ap, sym, subst, map, IfOk-weaker, program_of}
 use Rattle.iteration_domains.specs.Model.{KernelModel}
 use Rattle.dataflow.specs.Flow.{AreLastSources, flow_of, tree_in}
 use Rattle.plan_tree.specs.Schedules.{arrays_of}

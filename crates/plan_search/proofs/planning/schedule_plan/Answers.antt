@@ -1,6 +1,5 @@
 -- The plan is that of the schedule's tiles, or the kept order's.
-use Rattle.std.proofs.lemmas.Result.{IfOk-weaker}
-use Rattle.scop_syntax.specs.View.{program_of}
+use Rattle.scop_syntax.proofs.Common.{IfOk-weaker, program_of}
 use Rattle.loop_tree.specs.View.{trees_in}
 use Rattle.plan_search.proofs.PlanLemmas.{stopped_is_plan, tiled_is_plan}
 use Rattle.plan_search.proofs.planning.schedule_plan.Goals as goal

@@ -1,5 +1,5 @@
 -- The source's own trees carry out the kept order, whatever arrays are marked.
-use Rattle.std.proofs.Common.{[], refl}
+use Rattle.scop_syntax.proofs.Common.{[], refl}
 use Rattle.plan_search.proofs.plans.kept_plan.Goals as goal
 
 pub returns : goal.returns

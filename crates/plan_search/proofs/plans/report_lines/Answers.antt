@@ -1,6 +1,5 @@
 -- Where a report is asked for, the text is that of the schedule's blocks.
-use Rattle.std.proofs.Common.{◌≡◌, subst, sym}
-use Rattle.std.proofs.lemmas.Result.{IfOk-weaker}
+use Rattle.scop_syntax.proofs.Common.{◌≡◌, subst, sym, IfOk-weaker}
 use Rattle.plan_search.specs.Planned.{report_of}
 use Rattle.plan_search.proofs.SearchLemmas.{text_of_blocks}
 use Rattle.plan_search.proofs.plans.report_lines.Goals as goal

@@ -1,6 +1,5 @@
 -- The covers lie between statements of the model, and hold the covers of each program of it.
-use Rattle.std.proofs.Common.{sym, subst}
-use Rattle.std.proofs.lemmas.Result.{IfOk-weaker}
+use Rattle.scop_syntax.proofs.Common.{sym, subst, IfOk-weaker}
 use Rattle.iteration_domains.specs.Model.{KernelModel}
 use Rattle.dataflow.specs.Covering.{covers_of}
 use Rattle.plan_search.specs.Found.{HoldFor, LieBetween}

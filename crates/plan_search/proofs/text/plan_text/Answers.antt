@@ -1,6 +1,5 @@
 -- The text is the schedule's, or that of the line that tells what keeps the order.
-use Rattle.std.proofs.Common.{◌∙◌, sym, subst}
-use Rattle.std.proofs.lemmas.Result.{IfOk-weaker}
+use Rattle.scop_syntax.proofs.Common.{◌∙◌, sym, subst, IfOk-weaker}
 use Rattle.plan_search.specs.Found.{LieBetween}
 use Rattle.plan_search.proofs.TextLemmas.{schedule_is_plan, kept_is_plan}
 use Rattle.plan_search.proofs.text.plan_text.Goals as goal

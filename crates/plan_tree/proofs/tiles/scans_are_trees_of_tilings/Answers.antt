@@ -1,6 +1,4 @@
-use Rattle.std.proofs.Common.{◌≡◌, ℕ, ◌^◌, List, [], arith, false, refl, subst, sym}
-use Rattle.scop_syntax.specs.Cells.{conflict_cell}
-use Rattle.scop_syntax.specs.Reductions.{is_marked}
+use Rattle.scop_syntax.proofs.Common.{◌≡◌, ℕ, ◌^◌, List, [], arith, false, refl, subst, sym, conflict_cell, is_marked}
 use Rattle.loop_tree.specs.Walk.{walk_all}
 use Rattle.loop_tree.proofs.LargerBounds.{trees_more}
 use Rattle.plan_tree.specs.steps.Scanning.{sets_of}

@@ -1,4 +1,4 @@
-use Rattle.std.proofs.Common.{pos, length}
+use Rattle.scop_syntax.proofs.Common.{pos, length}
 use Rattle.iteration_domains.specs.Model.{model_of}
 use Rattle.plan_tree.specs.steps.Scanning.{sets_of}
 use Rattle.plan_tree.proofs.ScannableSets.{are_scanned, few_dimensions, many_parameters, numbers_rise}

@@ -1,4 +1,4 @@
-use Rattle.std.proofs.Common.{length}
+use Rattle.scop_syntax.proofs.Common.{length}
 use Rattle.iteration_domains.specs.Model.{model_of}
 use Rattle.tile_skew.specs.Schedule.{loops_in}
 use Rattle.tile_skew.specs.ScanSets.{most_iterators}

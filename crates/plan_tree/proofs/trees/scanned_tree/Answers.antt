@@ -1,4 +1,4 @@
-use Rattle.std.proofs.Common.{◌≡◌, ◌∙◌, ◌<◌, ◌^◌, List, [], sym, subst, length}
+use Rattle.scop_syntax.proofs.Common.{◌≡◌, ◌∙◌, ◌<◌, ◌^◌, List, [], sym, subst, length}
 use Rattle.integer_sets.specs.Scanned.{Scanned}
 use Rattle.plain_scan.specs.Scanning.{AreScanned, StopsScan, dimensions_of, parameters_of}
 use Rattle.plain_scan.specs.Sets.{NumbersRise}

@@ -1,4 +1,4 @@
-use Rattle.scop_syntax.specs.View.{program_of}
+use Rattle.scop_syntax.proofs.Common.{program_of}
 use Rattle.loop_tree.specs.View.{trees_in}
 use Rattle.plan_tree.proofs.KeptOrder.{kept_trees}
 use Rattle.plan_tree.proofs.trees.source_tree.Goals as goal

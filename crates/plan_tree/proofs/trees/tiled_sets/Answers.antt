@@ -1,4 +1,4 @@
-use Rattle.std.proofs.Common.{◌∙◌, ◌<◌, ◌^◌, List, sym, subst}
+use Rattle.scop_syntax.proofs.Common.{◌∙◌, ◌<◌, ◌^◌, List, sym, subst}
 use Rattle.integer_sets.specs.Scanned.{Scanned}
 use Rattle.plain_scan.specs.Scanning.{AreScanned, dimensions_of}
 use Rattle.plain_scan.specs.Sets.{NumbersRise}

@@ -1,4 +1,4 @@
-use Rattle.std.proofs.Common.{◌≡◌, ◌∙◌, length, ap, sym, subst}
+use Rattle.scop_syntax.proofs.Common.{◌≡◌, ◌∙◌, length, ap, sym, subst}
 use Rattle.iteration_domains.specs.Model.{KernelModel}
 use Rattle.loop_tree.specs.Shape.{TreesAreOver}
 use Rattle.loop_tree.specs.View.{trees_in}

@@ -1,4 +1,4 @@
-use Rattle.std.proofs.Common.{[]}
+use Rattle.scop_syntax.proofs.Common.{[]}
 use Rattle.planned_trees.proofs.RunResults.{run_has_visits, run_is_order, run_keeps, run_visits_once}
 use Rattle.planned_trees.proofs.TreeRuns.{runs_all}
 use Rattle.planned_trees.proofs.laws.loops_end_as_the_source_does.Goals as goal

@@ -1,4 +1,4 @@
-use Rattle.std.proofs.Common.{subst, ◌≤◌, ◌+◌}
+use Rattle.scop_syntax.proofs.Common.{subst, ◌≤◌, ◌+◌}
 use Rattle.planner_callers.proofs.covers.covers_have_the_turns_of_both_ends.Goals as goal
 
 pub returns : goal.returns

@@ -1,5 +1,4 @@
-use Rattle.std.proofs.Common.{◌∙◌, Ok, Err}
-use Rattle.std.proofs.lemmas.Result.{IfOk-weaker}
+use Rattle.scop_syntax.proofs.Common.{◌∙◌, Ok, Err, IfOk-weaker}
 use Rattle.planner_callers.proofs.OneAccess.{none_of, told_of}
 use Rattle.planner_callers.proofs.covers.covers_of_one_access.Goals as goal
 

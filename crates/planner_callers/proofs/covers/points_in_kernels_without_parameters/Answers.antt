@@ -1,4 +1,4 @@
-use Rattle.std.proofs.Common.{[]}
+use Rattle.scop_syntax.proofs.Common.{[]}
 use Rattle.quast_joins.specs.declared.way.Way.TheVariants.{Earlier, Later}
 use Rattle.planner_callers.proofs.covers.points_in_kernels_without_parameters.Goals as goal
 

@@ -1,5 +1,4 @@
-use Rattle.std.proofs.Common.{◌∙◌}
-use Rattle.std.proofs.lemmas.Result.{IfOk-weaker}
+use Rattle.scop_syntax.proofs.Common.{◌∙◌, IfOk-weaker}
 use Rattle.planner_callers.proofs.OneRead.{leaves_of}
 use Rattle.planner_callers.proofs.flows.flow_of_one_read.Goals as goal
 

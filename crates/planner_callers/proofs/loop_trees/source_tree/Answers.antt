@@ -1,6 +1,4 @@
-use Rattle.std.proofs.Common.{◌≡◌, [], ap, length, subst, sym}
-use Rattle.std.proofs.lemmas.Result.{IfOk-weaker}
-use Rattle.scop_syntax.specs.View.{program_of}
+use Rattle.scop_syntax.proofs.Common.{◌≡◌, [], ap, length, subst, sym, IfOk-weaker, program_of}
 use Rattle.iteration_domains.specs.Path.{path_at}
 use Rattle.loop_tree.specs.Shape.{TreesAreOver}
 use Rattle.loop_tree.specs.Source.{sources}

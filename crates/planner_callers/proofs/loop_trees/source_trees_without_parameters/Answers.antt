@@ -1,4 +1,4 @@
-use Rattle.std.proofs.Common.{[], ap, length, subst, sym}
+use Rattle.scop_syntax.proofs.Common.{[], ap, length, subst, sym}
 use Rattle.loop_tree.specs.Shape.{TreesAreOver}
 use Rattle.loop_tree.specs.Source.{source_of}
 use Rattle.planner_callers.proofs.loop_trees.source_trees_without_parameters.Goals as goal

@@ -1,4 +1,4 @@
-use Rattle.std.proofs.Common.{[], refl}
+use Rattle.scop_syntax.proofs.Common.{[], refl}
 use Rattle.planner_callers.proofs.loop_trees.visits_any.Goals as goal
 
 pub returns : goal.returns

@@ -1,4 +1,4 @@
-use Rattle.std.proofs.Common.{[], ◌∷◌, true}
+use Rattle.scop_syntax.proofs.Common.{[], ◌∷◌, true}
 use Rattle.planner_callers.proofs.loop_trees.visits_of_one_parallel_loop.Goals as goal
 
 pub returns-clause-parallel : goal.returns-clause-parallel

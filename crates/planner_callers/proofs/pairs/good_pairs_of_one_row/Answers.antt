@@ -1,7 +1,4 @@
-use Rattle.std.proofs.Common.{◌≡◌, ◌∷◌, [], false, arith, inl, inr}
-use Rattle.std.proofs.lemmas.Int.{ints}
-use Rattle.std.specs.Prelude.{◌⊎◌, ◌<ℤ◌}
-use Rattle.scop_syntax.specs.Walk.{Instance}
+use Rattle.scop_syntax.proofs.Common.{◌≡◌, ◌∷◌, [], false, arith, inl, inr, ints, ◌⊎◌, ◌<ℤ◌, Instance}
 use Rattle.schedule_rows.specs.Bands.{Along}
 use Rattle.schedule_rows.specs.Items.{Row, band, phi}
 use Rattle.planner_callers.proofs.pairs.good_pairs_of_one_row.Goals as goal

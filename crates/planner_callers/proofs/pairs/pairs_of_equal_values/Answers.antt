@@ -1,4 +1,4 @@
-use Rattle.std.proofs.Common.{[]}
+use Rattle.scop_syntax.proofs.Common.{[]}
 use Rattle.planner_callers.proofs.pairs.pairs_of_equal_values.Goals as goal
 
 pub returns-clause-to : goal.returns-clause-to

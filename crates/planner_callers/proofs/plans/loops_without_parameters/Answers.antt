@@ -1,4 +1,4 @@
-use Rattle.std.proofs.Common.{[]}
+use Rattle.scop_syntax.proofs.Common.{[]}
 use Rattle.planner_callers.proofs.plans.loops_without_parameters.Goals as goal
 
 pub returns-clause-ends : goal.returns-clause-ends

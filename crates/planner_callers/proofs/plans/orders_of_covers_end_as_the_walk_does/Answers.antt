@@ -1,5 +1,4 @@
-use Rattle.std.proofs.Common.{[]}
-use Rattle.scop_syntax.specs.Walk.{walk_of}
+use Rattle.scop_syntax.proofs.Common.{[], walk_of}
 use Rattle.planner_callers.proofs.plans.orders_of_covers_end_as_the_walk_does.Goals as goal
 
 pub returns : goal.returns

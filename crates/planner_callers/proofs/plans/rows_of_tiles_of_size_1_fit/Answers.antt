@@ -1,4 +1,4 @@
-use Rattle.std.proofs.Common.{[]}
+use Rattle.scop_syntax.proofs.Common.{[]}
 use Rattle.planner_callers.proofs.plans.rows_of_tiles_of_size_1_fit.Goals as goal
 
 pub returns : goal.returns

@@ -1,4 +1,4 @@
-use Rattle.std.proofs.Common.{[]}
+use Rattle.scop_syntax.proofs.Common.{[]}
 use Rattle.loop_tree.specs.Tiling.{kept}
 use Rattle.planner_callers.proofs.plans.trees_of_the_source_keep_conflicts_in_order.Goals as goal
 

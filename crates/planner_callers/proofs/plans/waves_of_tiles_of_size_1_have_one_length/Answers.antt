@@ -1,4 +1,4 @@
-use Rattle.std.proofs.Common.{[]}
+use Rattle.scop_syntax.proofs.Common.{[]}
 use Rattle.loop_tree.specs.Tiling.{tiled}
 use Rattle.planner_callers.proofs.plans.waves_of_tiles_of_size_1_have_one_length.Goals as goal
 

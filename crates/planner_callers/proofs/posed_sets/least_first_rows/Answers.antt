@@ -1,4 +1,4 @@
-use Rattle.std.proofs.Common.{[]}
+use Rattle.scop_syntax.proofs.Common.{[]}
 use Rattle.planner_callers.proofs.posed_sets.least_first_rows.Goals as goal
 
 pub returns-clause-least : goal.returns-clause-least

@@ -1,5 +1,4 @@
-use Rattle.std.proofs.Common.{ap}
-use Rattle.std.proofs.lemmas.Result.{IfOk-weaker}
+use Rattle.scop_syntax.proofs.Common.{ap, IfOk-weaker}
 use Rattle.planner_callers.proofs.posed_sets.posed_without_dependences.Goals as goal
 
 pub returns-clause-exact : goal.returns-clause-exact

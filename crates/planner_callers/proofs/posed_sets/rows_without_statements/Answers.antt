@@ -1,4 +1,4 @@
-use Rattle.std.proofs.Common.{[]}
+use Rattle.scop_syntax.proofs.Common.{[]}
 use Rattle.planner_callers.proofs.posed_sets.rows_without_statements.Goals as goal
 
 pub returns-clause-numbers : goal.returns-clause-numbers

@@ -1,4 +1,4 @@
-use Rattle.std.proofs.Common.{[], ap, length, sym}
+use Rattle.scop_syntax.proofs.Common.{[], ap, length, sym}
 use Rattle.planner_callers.proofs.runs.conflicts_of_kernels_without_parameters_are_in_order.Goals as goal
 
 pub returns : goal.returns

@@ -1,4 +1,4 @@
-use Rattle.std.proofs.Common.{[]}
+use Rattle.scop_syntax.proofs.Common.{[]}
 use Rattle.planner_callers.proofs.runs.least_first_rows_are_unique.Goals as goal
 
 pub returns : goal.returns

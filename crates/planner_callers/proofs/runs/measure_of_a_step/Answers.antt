@@ -1,4 +1,4 @@
-use Rattle.std.proofs.Common.{[], ◌∷◌}
+use Rattle.scop_syntax.proofs.Common.{[], ◌∷◌}
 use Rattle.planner_callers.proofs.runs.measure_of_a_step.Goals as goal
 
 pub returns : goal.returns

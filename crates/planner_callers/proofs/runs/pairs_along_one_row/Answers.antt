@@ -1,6 +1,4 @@
-use Rattle.std.proofs.Common.{◌≡◌, ◌∷◌, [], true, inl, inr, refl}
-use Rattle.std.specs.Prelude.{◌⊎◌, ◌≤ℤ◌, ◌<ℤ◌}
-use Rattle.scop_syntax.specs.Walk.{Instance}
+use Rattle.scop_syntax.proofs.Common.{◌≡◌, ◌∷◌, [], true, inl, inr, refl, ◌⊎◌, ◌≤ℤ◌, ◌<ℤ◌, Instance}
 use Rattle.schedule_rows.specs.Bands.{Along}
 use Rattle.schedule_rows.specs.Items.{Marked, band, phi}
 use Rattle.planner_callers.proofs.runs.pairs_along_one_row.Goals as goal

@@ -1,4 +1,4 @@
-use Rattle.std.proofs.Common.{◌∷◌, [], false, refl}
+use Rattle.scop_syntax.proofs.Common.{◌∷◌, [], false, refl}
 use Rattle.schedule_rows.specs.Items.{band}
 use Rattle.planner_callers.proofs.runs.plans_of_one_row.Goals as goal
 

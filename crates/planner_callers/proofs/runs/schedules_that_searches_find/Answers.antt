@@ -1,4 +1,4 @@
-use Rattle.std.proofs.Common.{Ok, Err}
+use Rattle.scop_syntax.proofs.Common.{Ok, Err}
 use Rattle.pluto_search.specs.declared.kept.Kept.TheVariants.{NoRow}
 use Rattle.planner_callers.proofs.runs.schedules_that_searches_find.Goals as goal
 

@@ -1,4 +1,4 @@
-use Rattle.std.proofs.Common.{◌∷◌, [], refl}
+use Rattle.scop_syntax.proofs.Common.{◌∷◌, [], refl}
 use Rattle.schedule_rows.specs.Items.{band}
 use Rattle.planner_callers.proofs.runs.times_of_one_row.Goals as goal
 

@@ -1,6 +1,4 @@
-use Rattle.std.proofs.Common.{[], subst, sym, zero}
-use Rattle.std.proofs.lemmas.List.Elements.{All-nil}
-use Rattle.std.proofs.lemmas.Result.{IfOk-weaker}
+use Rattle.scop_syntax.proofs.Common.{[], subst, sym, zero, All-nil, IfOk-weaker}
 use Rattle.loop_tree.specs.Fits.{AreSmallTrees}
 use Rattle.loop_tree.specs.Marks.{MarksAll}
 use Rattle.loop_tree.specs.Shape.{NestAllTo, TreesAreOver}

@@ -1,5 +1,4 @@
-use Rattle.std.proofs.Common.{◌≡◌, map, subst}
-use Rattle.std.proofs.lemmas.Result.{IfOk-weaker}
+use Rattle.scop_syntax.proofs.Common.{◌≡◌, map, subst, IfOk-weaker}
 use Rattle.planner_callers.proofs.schedules.loops_round_statements.Goals as goal
 
 pub returns-clause-loops : goal.returns-clause-loops

@@ -1,4 +1,4 @@
-use Rattle.std.proofs.Common.{[], ◌∷◌}
+use Rattle.scop_syntax.proofs.Common.{[], ◌∷◌}
 use Rattle.schedule_rows.specs.Items.{scalar}
 use Rattle.planner_callers.proofs.schedules.scalars_of_no_statement.Goals as goal
 

@@ -1,10 +1,7 @@
-use Rattle.std.specs.Prelude.{[]}
-use Rattle.std.proofs.Common.{ap, subst}
-use Rattle.std.proofs.lemmas.Result.{IfOk-weaker}
+use Rattle.scop_syntax.proofs.Common.{[], ap, subst, IfOk-weaker, walk_of}
 use Rattle.quast_joins.specs.declared.way.Way.TheVariants.{Earlier}
 use Rattle.quast_trees.specs.Postfix.{tree_of}
 use Rattle.quast_trees.specs.Value.{value}
-use Rattle.scop_syntax.specs.Walk.{walk_of}
 use Rattle.dataflow.specs.Places.{Names}
 use Rattle.dataflow.specs.ReadSources.{AreSources, reads_in, reads_of}
 use Rattle.planner_callers.proofs.NoSources.{no_want, none}

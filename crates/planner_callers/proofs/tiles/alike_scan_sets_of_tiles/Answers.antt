@@ -1,4 +1,4 @@
-use Rattle.std.proofs.Common.{pos}
+use Rattle.scop_syntax.proofs.Common.{pos}
 use Rattle.planner_callers.proofs.tiles.alike_scan_sets_of_tiles.Goals as goal
 
 pub returns : goal.returns

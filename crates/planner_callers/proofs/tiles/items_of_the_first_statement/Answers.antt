@@ -1,4 +1,4 @@
-use Rattle.std.proofs.Common.{◌≡◌, subst}
+use Rattle.scop_syntax.proofs.Common.{◌≡◌, subst}
 use Rattle.loop_tree.specs.Tiling.{item_values}
 use Rattle.schedule_rows.specs.Items.{values}
 use Rattle.tile_skew.specs.Tilings.{statement_items}

@@ -1,4 +1,4 @@
-use Rattle.std.proofs.Common.{arith}
+use Rattle.scop_syntax.proofs.Common.{arith}
 use Rattle.planner_callers.proofs.tiles.places_within_one_loop.Goals as goal
 
 pub returns : goal.returns

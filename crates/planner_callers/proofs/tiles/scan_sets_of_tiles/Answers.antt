@@ -1,4 +1,4 @@
-use Rattle.std.proofs.Common.{[], ap, arith, length, sym}
+use Rattle.scop_syntax.proofs.Common.{[], ap, arith, length, sym}
 use Rattle.planner_callers.proofs.tiles.scan_sets_of_tiles.Goals as goal
 
 pub returns-clause-points : goal.returns-clause-points

@@ -1,5 +1,4 @@
-use Rattle.std.proofs.Common.{◌≡◌, map, pos, subst}
-use Rattle.std.proofs.lemmas.Result.{IfOk-weaker}
+use Rattle.scop_syntax.proofs.Common.{◌≡◌, map, pos, subst, IfOk-weaker}
 use Rattle.tile_skew.specs.ScanSets.{most_iterators, scan_set}
 use Rattle.tile_skew.specs.Tilings.{statement_items}
 use Rattle.planner_callers.proofs.tiles.sets_of_tiles.Goals as goal

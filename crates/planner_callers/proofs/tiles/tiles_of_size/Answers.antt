@@ -1,5 +1,4 @@
-use Rattle.std.proofs.Common.{◌≡◌, subst}
-use Rattle.std.proofs.lemmas.Result.{IfOk-weaker}
+use Rattle.scop_syntax.proofs.Common.{◌≡◌, subst, IfOk-weaker}
 use Rattle.loop_tree.specs.TilingView.{tiling_of}
 use Rattle.tile_skew.specs.Tilings.{schedule_tiling}
 use Rattle.planner_callers.proofs.tiles.tiles_of_size.Goals as goal

@@ -1,4 +1,4 @@
-use Rattle.std.proofs.Common.{[], ap, length, refl, sym}
+use Rattle.scop_syntax.proofs.Common.{[], ap, length, refl, sym}
 use Rattle.planner_callers.proofs.writers.joins_in_kernels_without_parameters.Goals as goal
 
 pub returns-clause-last : goal.returns-clause-last

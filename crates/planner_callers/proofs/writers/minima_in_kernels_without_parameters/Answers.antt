@@ -1,4 +1,4 @@
-use Rattle.std.proofs.Common.{[]}
+use Rattle.scop_syntax.proofs.Common.{[]}
 use Rattle.planner_callers.proofs.writers.minima_in_kernels_without_parameters.Goals as goal
 
 pub returns : goal.returns

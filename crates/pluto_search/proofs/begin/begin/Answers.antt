@@ -1,4 +1,4 @@
-use Rattle.std.proofs.Common.{◌∙◌, ap, [], ◌++◌, map}
+use Rattle.scop_syntax.proofs.Common.{◌∙◌, ap, [], ◌++◌, map}
 use Rattle.pluto_systems.specs.Posing.{dep_of}
 use Rattle.schedule_rows.specs.Outcomes.{state}
 use Rattle.schedule_rows.specs.Schedule.{block_of, marked_of}

@@ -1,4 +1,4 @@
-use Rattle.std.proofs.Common.{◌≡◌, ◌++◌, drop, map, []}
+use Rattle.scop_syntax.proofs.Common.{◌≡◌, ◌++◌, drop, map, []}
 use Rattle.null_space.specs.Narrowing.{kernel_vectors}
 use Rattle.pluto_search.proofs.begin.first_vectors.Given as goal
 

@@ -1,4 +1,4 @@
-use Rattle.std.proofs.Common.{◌≡◌, ◌++◌, map, drop}
+use Rattle.scop_syntax.proofs.Common.{◌≡◌, ◌++◌, map, drop}
 use Rattle.pluto_systems.specs.Posing.{dep_of}
 use Rattle.pluto_search.proofs.ends.copies.Given as goal
 

@@ -1,4 +1,4 @@
-use Rattle.std.proofs.Common.{◌≡◌, ◌+◌, drop, map}
+use Rattle.scop_syntax.proofs.Common.{◌≡◌, ◌+◌, drop, map}
 use Rattle.schedule_rows.specs.Outcomes.{items_in}
 use Rattle.schedule_rows.specs.Schedule.{block_of}
 use Rattle.pluto_search.proofs.ends.items_in.Given as goal

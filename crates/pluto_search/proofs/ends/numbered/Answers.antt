@@ -1,5 +1,4 @@
-use Rattle.std.proofs.Common.{◌∙◌, ℕ, ◌<◌, List, All, sym, subst}
-use Rattle.std.proofs.lemmas.List.Elements.{All-map}
+use Rattle.scop_syntax.proofs.Common.{◌∙◌, ℕ, ◌<◌, List, All, sym, subst, All-map}
 use Rattle.schedule_rows.specs.Dependences.{edge_of}
 use Rattle.pluto_search.proofs.ends.numbered.Goals as goal
 

@@ -1,4 +1,4 @@
-use Rattle.std.proofs.Common.{◌≡◌, ◌++◌, drop}
+use Rattle.scop_syntax.proofs.Common.{◌≡◌, ◌++◌, drop}
 use Rattle.pluto_search.specs.Steps.{state_of}
 use Rattle.pluto_search.proofs.ends.remaining.Given as goal
 

@@ -1,4 +1,4 @@
-use Rattle.std.proofs.Common.{ℕ, ◌<◌}
+use Rattle.scop_syntax.proofs.Common.{ℕ, ◌<◌}
 use Rattle.pluto_search.specs.Shared.{IsInComponent}
 use Rattle.pluto_search.proofs.ends.shares_component.Given as goal
 

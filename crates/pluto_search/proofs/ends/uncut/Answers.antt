@@ -1,6 +1,4 @@
-use Rattle.std.proofs.Common.{◌∙◌, ◌<◌, List, All, length, sym, subst}
-use Rattle.std.proofs.lemmas.List.Elements.{All-tail}
-use Rattle.std.proofs.lemmas.List.{nil_from_length}
+use Rattle.scop_syntax.proofs.Common.{◌∙◌, ◌<◌, List, All, length, sym, subst, All-tail, nil_from_length}
 use Rattle.iteration_domains.specs.Dependence.{Dependence}
 use Rattle.pluto_search.proofs.CutDependences.{Passes, cut_off, passed_on, passes_last}
 use Rattle.pluto_search.proofs.ends.uncut.Goals as goal

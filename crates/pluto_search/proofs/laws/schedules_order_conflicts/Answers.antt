@@ -1,6 +1,4 @@
-use Rattle.std.proofs.Common.{[], arith}
-use Rattle.scop_syntax.specs.Cells.{conflict_cell}
-use Rattle.scop_syntax.specs.Walk.{instance, walk_of}
+use Rattle.scop_syntax.proofs.Common.{[], arith, conflict_cell, instance, walk_of}
 use Rattle.iteration_domains.specs.Model.{model_of}
 use Rattle.schedule_rows.specs.Outcomes.{state}
 use Rattle.schedule_rows.specs.Schedule.{loops_in}

@@ -1,5 +1,4 @@
-use Rattle.std.proofs.Common.{List, All, map, sym, subst}
-use Rattle.scop_syntax.specs.Members.{In}
+use Rattle.scop_syntax.proofs.Common.{List, All, map, sym, subst, In}
 use Rattle.iteration_domains.specs.Dependence.{Dependence}
 use Rattle.schedule_rows.specs.declared.item.Marked as code
 use Rattle.schedule_rows.specs.Items.{Marked}

@@ -1,4 +1,4 @@
-use Rattle.std.proofs.Common.{◌≡◌, ◌∙◌, List, All, map, sym, subst, Ok, Err}
+use Rattle.scop_syntax.proofs.Common.{◌≡◌, ◌∙◌, List, All, map, sym, subst, Ok, Err}
 use Rattle.iteration_domains.specs.Dependence.{Dependence}
 use Rattle.schedule_rows.specs.declared.item.Marked as code
 use Rattle.schedule_rows.specs.Items.{Marked}

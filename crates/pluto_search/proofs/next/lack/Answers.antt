@@ -1,5 +1,4 @@
-use Rattle.std.proofs.Common.{rules, ◌≡◌, List, length, map, sym, ap, subst, arith}
-use Rattle.std.proofs.lemmas.List.{length-map, nil_from_length}
+use Rattle.scop_syntax.proofs.Common.{rules, ◌≡◌, List, length, map, sym, ap, subst, arith, length-map, nil_from_length}
 use Rattle.iteration_domains.specs.Dependence.{Dependence}
 use Rattle.schedule_rows.specs.declared.item.Marked as code
 use Rattle.schedule_rows.specs.Schedule.{marked_of}

@@ -1,5 +1,4 @@
-use Rattle.std.proofs.Common.{[], ◌≡◌, List, map, All, sym, subst, inl, inr}
-use Rattle.std.specs.Prelude.{false}
+use Rattle.scop_syntax.proofs.Common.{[], ◌≡◌, List, map, All, sym, subst, inl, inr, false}
 use Rattle.schedule_rows.specs.Next.{State, rows_of}
 use Rattle.schedule_rows.specs.Posed.{IsFull}
 use Rattle.pluto_systems.specs.Posing.{dep_of}

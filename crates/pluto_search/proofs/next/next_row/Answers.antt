@@ -1,7 +1,6 @@
-use Rattle.std.proofs.Common.{[], ◌≡◌, ℕ, ℤ, List, map, sym, ◌∙◌, ap, subst, inl, inr, None, Some, Err, Ok}
-use Rattle.std.specs.Prelude.{Option, Vec}
+use Rattle.scop_syntax.proofs.Common.{[], ◌≡◌, ℕ, ℤ, List, map, sym, ◌∙◌, ap, subst, inl, inr, None, Some, Err, Ok}
+use Rattle.scop_syntax.proofs.Common.{Option, Vec, In}
 use Rattle.std.specs.Global.{Global}
-use Rattle.scop_syntax.specs.Members.{In}
 use Rattle.iteration_domains.specs.Dependence.{Dependence}
 use Rattle.integer_sets.specs.Constraints.{Constraints}
 use Rattle.schedule_rows.specs.Items.{Row}

@@ -1,6 +1,5 @@
-use Rattle.std.proofs.Common.{◌≡◌, List, [], ◌∷◌, ◌++◌, map, sym, ◌∙◌, ap, subst, append_assoc, inl, inr, Ok}
-use Rattle.std.proofs.lemmas.List.{map-append}
-use Rattle.std.proofs.lemmas.List.Elements.{All-push}
+use Rattle.scop_syntax.proofs.Common.{◌≡◌, List, [], ◌∷◌, ◌++◌, map, sym, ◌∙◌, ap, subst, append_assoc, inl, inr, Ok}
+use Rattle.scop_syntax.proofs.Common.{map-append, All-push}
 use Rattle.iteration_domains.specs.Dependence.{Dependence}
 use Rattle.pluto_systems.specs.Posing.{RuledDep, dep_of, ruled_run}
 use Rattle.pluto_search.specs.declared.kept.Kept.TheVariants as kept

@@ -1,4 +1,4 @@
-use Rattle.std.proofs.Common.{◌≡◌, ◌++◌, map}
+use Rattle.scop_syntax.proofs.Common.{◌≡◌, ◌++◌, map}
 use Rattle.pluto_systems.specs.Stuck.TheVariants as stuck
 use Rattle.pluto_systems.specs.Posing.{dep_of}
 use Rattle.pluto_search.specs.Questions.{AreRuledBy, StopsRowsOf}

@@ -1,8 +1,5 @@
-use Rattle.std.proofs.Common.{◌∙◌, ◌+◌, suc, ℤ, List, sym, ap, subst, arith, length, map, inl, inr, refl, Ok}
-use Rattle.std.specs.Prelude.{true}
-use Rattle.std.proofs.lemmas.List.{length-map}
-use Rattle.scop_syntax.specs.Members.{In}
-use Rattle.scop_syntax.proofs.Members.{in_map}
+use Rattle.scop_syntax.proofs.Common.{◌∙◌, ◌+◌, suc, ℤ, List, sym, ap, subst, arith, length, map, inl, inr, refl, Ok}
+use Rattle.scop_syntax.proofs.Common.{true, length-map, In, in_map}
 use Rattle.iteration_domains.specs.Dependence.{Dependence}
 use Rattle.schedule_rows.specs.Items.{Row, Marked}
 use Rattle.schedule_rows.specs.Next.{rows_of}

@@ -1,4 +1,4 @@
-use Rattle.std.proofs.Common.{refl}
+use Rattle.scop_syntax.proofs.Common.{refl}
 use Rattle.pluto_search.specs.declared.state.Progress.{Progress}
 use Rattle.pluto_search.proofs.GoodStates.{same_state}
 use Rattle.pluto_search.proofs.next.with_all_rows.Goals as goal

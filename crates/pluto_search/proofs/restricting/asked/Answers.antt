@@ -1,5 +1,4 @@
-use Rattle.std.proofs.Common.{ap, subst, List, ℤ, Ok, Err}
-use Rattle.std.specs.Prelude.{Bool, true, Result}
+use Rattle.scop_syntax.proofs.Common.{ap, subst, List, ℤ, Ok, Err, Bool, true, Result}
 use Rattle.integer_sets.specs.Constraints.{Constraints}
 use Rattle.pip_solver.specs.Emptiness.{IsBoundedPoint, HasBoundedPoint}
 use Rattle.iteration_domains.specs.Dependence.{Dependence, IsDependence}

@@ -1,10 +1,7 @@
-use Rattle.std.proofs.Common.{ap, arith, length, ◌++◌}
-use Rattle.std.specs.Prelude.{negsuc}
+use Rattle.scop_syntax.proofs.Common.{ap, arith, length, ◌++◌, negsuc, Affine, multiples, zeros, length-multiples}
+use Rattle.scop_syntax.proofs.Common.{length-zeros}
 use Rattle.std.proofs.lemmas.List.{length-append}
 use Rattle.iteration_domains.specs.Dependence.{binds_in}
-use Rattle.whole_numbers.specs.Affine.{Affine}
-use Rattle.whole_numbers.specs.Lists.{multiples, zeros}
-use Rattle.whole_numbers.proofs.Dot.{length-multiples, length-zeros}
 use Rattle.schedule_rows.specs.Items.{part_of}
 use Rattle.schedule_rows.specs.Schedule.{row_of}
 use Rattle.pluto_search.proofs.restricting.equal_at.Goals as goal

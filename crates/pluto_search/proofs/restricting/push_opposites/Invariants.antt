@@ -1,6 +1,4 @@
-use Rattle.std.proofs.Common.{◌≡◌, ◌++◌, drop}
-use Rattle.std.specs.Prelude.{negsuc}
-use Rattle.whole_numbers.specs.Lists.{multiples}
+use Rattle.scop_syntax.proofs.Common.{◌≡◌, ◌++◌, drop, negsuc, multiples}
 use Rattle.pluto_search.proofs.restricting.push_opposites.Given as goal
 
 abbrev pub invariant-loop-at : goal.invariant-loop-at

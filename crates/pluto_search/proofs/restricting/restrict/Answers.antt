@@ -1,5 +1,4 @@
-use Rattle.std.proofs.Common.{◌∙◌, ap, map, subst, Ok}
-use Rattle.std.specs.Prelude.{Bool, true, false}
+use Rattle.scop_syntax.proofs.Common.{◌∙◌, ap, map, subst, Ok, Bool, true, false}
 use Rattle.iteration_domains.specs.Dependence.{Dependence}
 use Rattle.schedule_rows.specs.Dependences.{IsEmptyDep}
 use Rattle.schedule_rows.specs.Schedule.{marked_of}

@@ -1,12 +1,9 @@
-use Rattle.std.proofs.Common.{◌≡◌, ◌+◌, List, ◌∷◌, arith, map, drop, take, sym, subst}
-use Rattle.std.proofs.lemmas.List.{drop_all}
-use Rattle.scop_syntax.specs.Members.{In}
+use Rattle.scop_syntax.proofs.Common.{◌≡◌, ◌+◌, List, ◌∷◌, arith, map, drop, take, sym, subst, drop_all, In, Option, Ok}
+use Rattle.scop_syntax.proofs.Common.{true, false, all_taken}
 use Rattle.iteration_domains.specs.Dependence.{Dependence}
 use Rattle.schedule_rows.specs.Next.{restricted}
 use Rattle.schedule_rows.specs.Schedule.{marked_of}
 use Rattle.pluto_search.specs.Questions.{AnswersRestricted, IsAnswered, StopsEmptiness, StopsRestricted}
-use Rattle.std.specs.Prelude.{Option, Ok, true, false}
-use Rattle.whole_numbers.proofs.Entries.{all_taken}
 use Rattle.pluto_search.specs.Stopping.{Restrictions}
 use Rattle.pluto_search.proofs.Firsts.{first_next, taken_more}
 use Rattle.pluto_search.proofs.QuestionStops.{stop_of}

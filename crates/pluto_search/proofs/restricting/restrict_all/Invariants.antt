@@ -1,4 +1,4 @@
-use Rattle.std.proofs.Common.{drop, take, map}
+use Rattle.scop_syntax.proofs.Common.{drop, take, map}
 use Rattle.schedule_rows.specs.Schedule.{marked_of}
 use Rattle.pluto_search.specs.Questions.{AnswersRestricted}
 use Rattle.pluto_search.proofs.RestrictedDependences.{Leads}

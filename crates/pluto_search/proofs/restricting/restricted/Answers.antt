@@ -1,5 +1,4 @@
-use Rattle.std.proofs.Common.{◌≡◌, ◌∙◌, ◌+◌, List, ◌∷◌, All, arith, map, drop, sym, ap, subst}
-use Rattle.std.proofs.lemmas.List.{drop_all}
+use Rattle.scop_syntax.proofs.Common.{◌≡◌, ◌∙◌, ◌+◌, List, ◌∷◌, All, arith, map, drop, sym, ap, subst, drop_all}
 use Rattle.iteration_domains.specs.Dependence.{Dependence}
 use Rattle.schedule_rows.specs.declared.item.Marked as code
 use Rattle.schedule_rows.specs.Items.{Marked}

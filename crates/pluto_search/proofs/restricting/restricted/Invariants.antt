@@ -1,4 +1,4 @@
-use Rattle.std.proofs.Common.{◌≡◌, drop, map, All}
+use Rattle.scop_syntax.proofs.Common.{◌≡◌, drop, map, All}
 use Rattle.schedule_rows.specs.Next.{restricted}
 use Rattle.schedule_rows.specs.Schedule.{marked_of}
 use Rattle.pluto_search.specs.Sizes.{CanTell}

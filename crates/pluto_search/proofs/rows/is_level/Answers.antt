@@ -1,5 +1,4 @@
-use Rattle.std.proofs.Common.{subst}
-use Rattle.std.specs.Prelude.{IfOk}
+use Rattle.scop_syntax.proofs.Common.{subst, IfOk}
 use Rattle.iteration_domains.specs.Dependence.{Dependence}
 use Rattle.schedule_rows.specs.Dependences.{IsEmptyDep}
 use Rattle.pluto_search.specs.Questions.{AnswersEmptiness}

@@ -1,10 +1,5 @@
-use Rattle.std.proofs.Common.{◌≡◌, ◌+◌, List, ◌∷◌, arith, map, drop, sym, subst, ap, inl, inr, Ok}
-use Rattle.scop_syntax.specs.Members.{In}
-use Rattle.scop_syntax.proofs.Members.{in_map}
-use Rattle.std.specs.Prelude.{Bool, true, false}
-use Rattle.std.proofs.lemmas.List.Elements.{All-map}
-use Rattle.std.proofs.lemmas.List.{drop_all}
-use Rattle.whole_numbers.proofs.Entries.{all_taken}
+use Rattle.scop_syntax.proofs.Common.{◌≡◌, ◌+◌, List, ◌∷◌, arith, map, drop, sym, subst, ap, inl, inr, Ok, In, in_map}
+use Rattle.scop_syntax.proofs.Common.{Bool, true, false, All-map, drop_all, all_taken}
 use Rattle.iteration_domains.specs.Dependence.{Dependence}
 use Rattle.schedule_rows.specs.Dependences.{IsEmptyDep, above_at}
 use Rattle.schedule_rows.specs.Schedule.{row_of}

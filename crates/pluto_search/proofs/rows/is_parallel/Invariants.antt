@@ -1,6 +1,4 @@
-use Rattle.std.proofs.Common.{drop, take, map, All}
-use Rattle.std.specs.Prelude.{true}
-use Rattle.scop_syntax.specs.Members.{In}
+use Rattle.scop_syntax.proofs.Common.{drop, take, map, All, true, In}
 use Rattle.iteration_domains.specs.Dependence.{Dependence}
 use Rattle.schedule_rows.specs.Dependences.{IsEmptyDep, above_at}
 use Rattle.schedule_rows.specs.Schedule.{row_of}

@@ -1,7 +1,5 @@
-use Rattle.std.proofs.Common.{rules, ◌≡◌, ℕ, ◌<◌, pos, List, arith, length, map, All, sym, subst}
-use Rattle.std.specs.Prelude.{◌≤ℤ◌, slice_index_or}
-use Rattle.std.proofs.lemmas.List.{get_or-map, length-map, drop_all}
-use Rattle.std.proofs.lemmas.List.Elements.{All-nil, All-map, All-get_or}
+use Rattle.scop_syntax.proofs.Common.{rules, ◌≡◌, ℕ, ◌<◌, pos, List, arith, length, map, All, sym, subst, ◌≤ℤ◌}
+use Rattle.scop_syntax.proofs.Common.{slice_index_or, get_or-map, length-map, drop_all, All-nil, All-map, All-get_or}
 use Rattle.pluto_systems.specs.Unknowns as unknowns
 use Rattle.schedule_rows.specs.declared.item.Part as code_part
 use Rattle.pluto_search.proofs.RestrictedDependences.{all_next}

@@ -1,5 +1,4 @@
-use Rattle.std.proofs.Common.{All, drop, pos}
-use Rattle.std.specs.Prelude.{◌≤ℤ◌}
+use Rattle.scop_syntax.proofs.Common.{All, drop, pos, ◌≤ℤ◌}
 use Rattle.pluto_search.proofs.rows.is_within.Given as goal
 
 abbrev pub invariant-loop-at : goal.invariant-loop-at

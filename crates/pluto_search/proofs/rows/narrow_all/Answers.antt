@@ -1,7 +1,7 @@
-use Rattle.std.proofs.Common.{rules, ◌≡◌, ◌∙◌, ◌+◌, ℤ, List, [], ◌∷◌, ◌++◌, arith, length, map, drop, sym, ap, ap₂}
-use Rattle.std.proofs.Common.{subst, append_assoc}
+use Rattle.scop_syntax.proofs.Common.{rules, ◌≡◌, ◌∙◌, ◌+◌, ℤ, List, [], ◌∷◌, ◌++◌, arith, length, map, drop, sym, ap}
+use Rattle.scop_syntax.proofs.Common.{ap₂, subst, append_assoc, length-map, map-append, drop_all}
 use Rattle.std.specs.Vec.{vec_len}
-use Rattle.std.proofs.lemmas.List.{append-nil, length-map, map-append, drop_all}
+use Rattle.std.proofs.lemmas.List.{append-nil}
 use Rattle.schedule_rows.specs.declared.item.Part as code_part
 use Rattle.pluto_search.specs.Sizes.{CanNarrow, CanNarrowEach, narrowed_each}
 use Rattle.pluto_search.proofs.Counts.{narrow_lengths}

@@ -1,4 +1,4 @@
-use Rattle.std.proofs.Common.{◌≡◌, ◌++◌, drop, map}
+use Rattle.scop_syntax.proofs.Common.{◌≡◌, ◌++◌, drop, map}
 use Rattle.pluto_search.specs.Sizes.{narrowed_each, CanNarrowEach}
 use Rattle.pluto_search.proofs.rows.narrow_all.Given as goal
 

@@ -1,4 +1,4 @@
-use Rattle.std.proofs.Common.{◌≡◌, ◌+◌, ◌++◌, drop, map, length}
+use Rattle.scop_syntax.proofs.Common.{◌≡◌, ◌+◌, ◌++◌, drop, map, length}
 use Rattle.pluto_systems.specs.Placing.{columns_in, parts_from}
 use Rattle.pluto_search.proofs.rows.row_from.Given as goal
 

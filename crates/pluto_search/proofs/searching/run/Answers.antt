@@ -1,4 +1,4 @@
-use Rattle.std.proofs.Common.{◌∙◌, ap, subst, Ok}
+use Rattle.scop_syntax.proofs.Common.{◌∙◌, ap, subst, Ok}
 use Rattle.pluto_search.specs.declared.state.Step.TheVariants as step
 use Rattle.pluto_search.specs.Steps.{state_of, Steps}
 use Rattle.pluto_search.proofs.QuestionStops.{stop_first, keeps}

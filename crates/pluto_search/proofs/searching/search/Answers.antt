@@ -1,4 +1,4 @@
-use Rattle.std.proofs.Common.{◌∙◌, ℕ, List, map, sym, subst}
+use Rattle.scop_syntax.proofs.Common.{◌∙◌, ℕ, List, map, sym, subst}
 use Rattle.schedule_rows.specs.Outcomes.{ends}
 use Rattle.pluto_search.specs.Questions.{ComesAnswered}
 use Rattle.schedule_rows.specs.Schedule.{block_of, loops_in}

@@ -1,4 +1,4 @@
-use Rattle.std.proofs.Common.{[]}
+use Rattle.scop_syntax.proofs.Common.{[]}
 use Rattle.pluto_search.specs.Steps.{state_of}
 use Rattle.pluto_search.proofs.RunSteps.{answered_first}
 use Rattle.pluto_search.proofs.RestrictedDependences.{restricts_between}

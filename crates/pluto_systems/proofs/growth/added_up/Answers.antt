@@ -1,9 +1,5 @@
-use Rattle.std.proofs.Common.{◌≡◌, ◌+◌, ◌<◌, ◌*◌, ◌^◌, ℤ, List, [], map, Vec, Global, get_or, length, drop, sym, ◌∙◌}
-use Rattle.std.proofs.Common.{ap, subst, arith}
-use Rattle.std.proofs.lemmas.List.{length-map}
-use Rattle.std.proofs.lemmas.List.Elements.{All-get_or}
-use Rattle.whole_numbers.specs.Lists.{sums}
-use Rattle.whole_numbers.proofs.Dot.{length-sums}
+use Rattle.scop_syntax.proofs.Common.{◌≡◌, ◌+◌, ◌<◌, ◌*◌, ◌^◌, ℤ, List, [], map, Vec, Global, get_or, length, drop, sym}
+use Rattle.scop_syntax.proofs.Common.{◌∙◌, ap, subst, arith, length-map, All-get_or, sums, length-sums}
 use Rattle.null_space.specs.Sizes.{AreWithin}
 use Rattle.pluto_systems.specs.Posing.{added}
 use Rattle.pluto_systems.proofs.Steps.{added_step, sums_within}

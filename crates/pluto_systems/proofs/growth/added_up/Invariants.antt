@@ -1,5 +1,4 @@
-use Rattle.std.proofs.Common.{◌≡◌, ◌*◌, ◌^◌, drop, length, map, []}
-use Rattle.std.specs.Prelude.{slice_index_or}
+use Rattle.scop_syntax.proofs.Common.{◌≡◌, ◌*◌, ◌^◌, drop, length, map, [], slice_index_or}
 use Rattle.null_space.specs.Sizes.{AreWithin}
 use Rattle.pluto_systems.specs.Posing.{added}
 use Rattle.pluto_systems.proofs.growth.added_up.Given as goal

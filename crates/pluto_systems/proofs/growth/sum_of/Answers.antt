@@ -1,9 +1,5 @@
-use Rattle.std.proofs.Common.{rules, ◌+◌, ◌*◌, ◌^◌, ◌<◌, pos, ◌∙◌, ap, arith, FitsSigned, get_or, drop, length, List}
-use Rattle.std.proofs.Common.{◌∷◌, [], ◌++◌, ℤ, append_assoc}
-use Rattle.std.specs.Int.{w128}
-use Rattle.std.proofs.lemmas.Int.{to_z-of_z}
-use Rattle.std.proofs.lemmas.List.Elements.{All-get_or}
-use Rattle.whole_numbers.specs.Lists.{sums}
+use Rattle.scop_syntax.proofs.Common.{rules, ◌+◌, ◌*◌, ◌^◌, ◌<◌, pos, ◌∙◌, ap, arith, FitsSigned, get_or, drop, length}
+use Rattle.scop_syntax.proofs.Common.{List, ◌∷◌, [], ◌++◌, ℤ, append_assoc, w128, to_z-of_z, All-get_or, sums}
 use Rattle.null_space.specs.Sizes.{IsWithin}
 use Rattle.pluto_systems.proofs.Steps.{sums_step}
 use Rattle.pluto_systems.proofs.growth.sum_of.Goals as goal

@@ -1,6 +1,4 @@
-use Rattle.std.proofs.Common.{refl, arith, ◌^◌, ◌*◌, ◌+ℤ◌}
-use Rattle.std.specs.Int.{w128}
-use Rattle.std.proofs.lemmas.Int.{to_z-of_z, fits_signed_from_abs}
+use Rattle.scop_syntax.proofs.Common.{refl, arith, ◌^◌, ◌*◌, ◌+ℤ◌, w128, to_z-of_z, fits_signed_from_abs}
 use Rattle.null_space.proofs.Sizes.{within_add}
 use Rattle.pluto_systems.proofs.growth.sum_of_two.Goals as goal
 

@@ -1,4 +1,4 @@
-use Rattle.std.proofs.Common.{◌≡◌, ◌+◌, drop}
+use Rattle.scop_syntax.proofs.Common.{◌≡◌, ◌+◌, drop}
 use Rattle.pluto_systems.specs.Placing.{columns_in, columns_of}
 use Rattle.pluto_systems.proofs.posing.columns.Given as goal
 

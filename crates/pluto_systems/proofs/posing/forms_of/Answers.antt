@@ -1,4 +1,4 @@
-use Rattle.std.proofs.Common.{◌≡◌, ◌+◌, ◌∷◌, arith}
+use Rattle.scop_syntax.proofs.Common.{◌≡◌, ◌+◌, ◌∷◌, arith}
 use Rattle.pluto_systems.specs.Posing.{HaveSizes, ruled_dep, ruled_deps, equalities_for, rows_for}
 use Rattle.pluto_systems.proofs.DependenceSystems.{rest, rest_step, rest_end, forms_step, sized_step, sized_end}
 use Rattle.pluto_systems.proofs.posing.forms_of.Goals as goal

@@ -1,5 +1,4 @@
-use Rattle.std.proofs.Common.{◌≡◌, ◌++◌}
-use Rattle.std.specs.List.{flat_map}
+use Rattle.scop_syntax.proofs.Common.{◌≡◌, ◌++◌, flat_map}
 use Rattle.pluto_systems.specs.Posing.{equalities_for, rows_for, ruled_deps}
 use Rattle.pluto_systems.proofs.DependenceSystems.{rest, AreSizedTo}
 use Rattle.pluto_systems.proofs.posing.forms_of.Given as goal

@@ -1,5 +1,4 @@
-use Rattle.std.proofs.Common.{◌≡◌, ◌++◌, drop}
-use Rattle.std.specs.List.{flat_map}
+use Rattle.scop_syntax.proofs.Common.{◌≡◌, ◌++◌, drop, flat_map}
 use Rattle.pluto_systems.specs.Posing.{equalities_for, rows_for}
 use Rattle.pluto_systems.proofs.posing.forms_over.Given as goal
 

@@ -1,9 +1,7 @@
-use Rattle.std.proofs.Common.{◌≡◌, ℕ, ℤ, List, ◌++◌, map, Vec, Global, sym, ◌∙◌, ap, subst, All}
-use Rattle.std.specs.Prelude.{◌≤◌}
-use Rattle.std.proofs.lemmas.Result.{IfOk-weaker}
+use Rattle.scop_syntax.proofs.Common.{◌≡◌, ℕ, ℤ, List, ◌++◌, map, Vec, Global, sym, ◌∙◌, ap, subst, All, ◌≤◌}
+use Rattle.scop_syntax.proofs.Common.{IfOk-weaker, In}
 use Rattle.integer_sets.specs.Constraints.{Constraints, system_of}
 use Rattle.schedule_rows.specs.Items.{Row}
-use Rattle.scop_syntax.specs.Members.{In}
 use Rattle.iteration_domains.specs.Dependence.{Dependence}
 use Rattle.pluto_systems.specs.Placing.{columns_of}
 use Rattle.pluto_systems.specs.Posing.{RuledDep, IsRuled, IsBetween, growth_from, AreVectorsOf, HasPosed}

@@ -1,5 +1,4 @@
-use Rattle.std.proofs.Common.{◌≡◌, ℤ, List, ◌++◌, map, Vec, Global, refl, sym, subst}
-use Rattle.std.proofs.lemmas.Result.{IfOk-weaker}
+use Rattle.scop_syntax.proofs.Common.{◌≡◌, ℤ, List, ◌++◌, map, Vec, Global, refl, sym, subst, IfOk-weaker}
 use Rattle.integer_sets.specs.Constraints.{Constraints, system_of}
 use Rattle.schedule_rows.specs.Items.{Row}
 use Rattle.pluto_systems.specs.Placing.{columns_of}

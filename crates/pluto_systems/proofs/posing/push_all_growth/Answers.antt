@@ -1,5 +1,4 @@
-use Rattle.std.proofs.Common.{◌+◌, ◌++◌, ℤ, List, map, Vec, Global, drop, arith}
-use Rattle.std.proofs.lemmas.List.{length-map}
+use Rattle.scop_syntax.proofs.Common.{◌+◌, ◌++◌, ℤ, List, map, Vec, Global, drop, arith, length-map}
 use Rattle.pluto_systems.specs.Posing.{growth_rows, growth_from}
 use Rattle.pluto_systems.proofs.SmallVectors.{AreSmall, small_at}
 use Rattle.pluto_systems.proofs.Steps.{more, growth_step}

@@ -1,4 +1,4 @@
-use Rattle.std.proofs.Common.{◌≡◌, ◌++◌, ◌≤◌, drop, map, All}
+use Rattle.scop_syntax.proofs.Common.{◌≡◌, ◌++◌, ◌≤◌, drop, map, All}
 use Rattle.pluto_systems.proofs.vectors.loops_in.Given as goal
 
 abbrev pub invariant-loop-statement : goal.invariant-loop-statement

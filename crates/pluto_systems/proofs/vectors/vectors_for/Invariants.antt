@@ -1,4 +1,4 @@
-use Rattle.std.proofs.Common.{◌≡◌, ◌++◌, drop, map}
+use Rattle.scop_syntax.proofs.Common.{◌≡◌, ◌++◌, drop, map}
 use Rattle.pluto_systems.specs.Posing.{vectors_for}
 use Rattle.pluto_systems.proofs.vectors.vectors_for.Given as goal
 

@@ -1,6 +1,5 @@
 -- The text is accepted, and `yes` is printed or cut off; or it has a first fault.
-use Rattle.std.proofs.Common.{inr, refl}
-use Rattle.scop_syntax.specs.View.{program_of}
+use Rattle.scop_syntax.proofs.Common.{inr, refl, program_of}
 use Rattle.polypar.specs.Checking.{yes_text}
 use Rattle.plan_check.specs.Judged.{rejected_at}
 use Rattle.polypar.specs.Told.{text_alone}

@@ -1,5 +1,6 @@
 -- The line at the place cuts, or the place goes on behind it.
-use Rattle.std.proofs.Common.{◌≡◌, ◌∙◌, ◌-◌, sym, ap, subst, length, take, drop, ◌∷◌, false, true, arith, length-drop}
+use Rattle.scop_syntax.proofs.Common.{◌≡◌, ◌∙◌, ◌-◌, sym, ap, subst, length, take, drop, ◌∷◌, false, true, arith}
+use Rattle.std.proofs.Common.{length-drop}
 use Rattle.std.proofs.Common.{take_all}
 use Rattle.polypar.specs.Cut.{whole_lines, is_cut}
 use Rattle.polypar.proofs.CutLemmas.{cut_behind_line, case_behind}

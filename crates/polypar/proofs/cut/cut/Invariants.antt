@@ -1,5 +1,5 @@
 -- No line before the place cuts.
-use Rattle.std.proofs.Common.{◌≤◌, ◌-◌, length}
+use Rattle.scop_syntax.proofs.Common.{◌≤◌, ◌-◌, length}
 use Rattle.polypar.proofs.CutLemmas.{IsCutBehind}
 use Rattle.polypar.proofs.cut.cut.Given as goal
 

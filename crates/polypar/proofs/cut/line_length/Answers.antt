@@ -1,5 +1,5 @@
 -- The first line ends at its line feed, or at the text's end.
-use Rattle.std.proofs.Common.{◌≡◌, ◌-◌, inl, inr, length, take, drop, ◌∷◌, ◌+◌, subst, arith}
+use Rattle.scop_syntax.proofs.Common.{◌≡◌, ◌-◌, inl, inr, length, take, drop, ◌∷◌, ◌+◌, subst, arith}
 use Rattle.polypar.specs.Cut.{whole_lines}
 use Rattle.polypar.proofs.CutLemmas.{first_line}
 use Rattle.polypar.proofs.cut.line_length.Goals as goal

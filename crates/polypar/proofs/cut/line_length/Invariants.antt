@@ -1,5 +1,5 @@
 -- No line feed was seen.
-use Rattle.std.proofs.Common.{◌≡◌, ◌<◌, ℕ, get_or}
+use Rattle.scop_syntax.proofs.Common.{◌≡◌, ◌<◌, ℕ, get_or}
 use Rattle.polypar.proofs.cut.line_length.Given as goal
 
 abbrev pub invariant-loop-at : goal.invariant-loop-at

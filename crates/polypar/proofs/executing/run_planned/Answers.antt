@@ -1,6 +1,4 @@
-use Rattle.std.proofs.Common.{◌∙◌, subst, sym}
-use Rattle.std.specs.Prelude.{is_some}
-use Rattle.scop_syntax.specs.View.{program_of}
+use Rattle.scop_syntax.proofs.Common.{◌∙◌, subst, sym, is_some, program_of}
 use Rattle.loop_tree.specs.TilingView.{tiling_of}
 use Rattle.loop_tree.specs.View.{trees_in}
 use Rattle.polypar.specs.Expanding.{marks_by}

@@ -1,4 +1,4 @@
-use Rattle.scop_syntax.specs.View.{program_of}
+use Rattle.scop_syntax.proofs.Common.{program_of}
 use Rattle.polypar.proofs.CourseLemmas.{as_is}
 use Rattle.polypar.proofs.expanding.course_as_is.Goals as goal
 

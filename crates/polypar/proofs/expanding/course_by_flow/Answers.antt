@@ -1,6 +1,5 @@
 -- With a tiled plan each instance has a copy of its own; a kept order has none.
-use Rattle.std.proofs.Common.{rules}
-use Rattle.scop_syntax.specs.View.{program_of}
+use Rattle.scop_syntax.proofs.Common.{rules, program_of}
 use Rattle.polypar.proofs.CourseLemmas.{with_copies, without_copies}
 use Rattle.polypar.proofs.expanding.course_by_flow.Goals as goal
 

@@ -1,5 +1,5 @@
 -- All were gone through, and each is told.
-use Rattle.std.proofs.Common.{◌∙◌, ap, drop_of_length-le, sym}
+use Rattle.scop_syntax.proofs.Common.{◌∙◌, ap, drop_of_length-le, sym}
 use Rattle.polypar.specs.Expanding.{first_unresolved}
 use Rattle.polypar.proofs.CourseLemmas.{all_resolved}
 use Rattle.polypar.proofs.expanding.first_line.Goals as goal

@@ -1,5 +1,5 @@
 -- The first that is not told is still to come.
-use Rattle.std.proofs.Common.{◌≡◌, drop}
+use Rattle.scop_syntax.proofs.Common.{◌≡◌, drop}
 use Rattle.polypar.specs.Expanding.{first_unresolved}
 use Rattle.polypar.proofs.expanding.first_line.Given as goal
 

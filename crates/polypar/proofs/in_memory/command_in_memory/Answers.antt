@@ -1,5 +1,5 @@
 -- The clause of the call, over ports that fail at no call.
-use Rattle.std.proofs.Common.{◌∙◌}
+use Rattle.scop_syntax.proofs.Common.{◌∙◌}
 use Rattle.polypar.proofs.MemoryLemmas.{stays_in_memory, decided_in_memory}
 use Rattle.polypar.proofs.in_memory.command_in_memory.Goals as goal
 

@@ -1,5 +1,4 @@
-use Rattle.std.proofs.Common.{take}
-use Rattle.std.specs.Prelude.{ℤ, List, All}
+use Rattle.scop_syntax.proofs.Common.{take, ℤ, List, All}
 use Rattle.pip_solver.specs.Emptiness.{IsBoundedPoint}
 use Rattle.polypar.proofs.index_check.all_have_none.Given as goal
 

@@ -1,13 +1,7 @@
 -- No system of the index check has a point, so every subscript lies inside.
-use Rattle.std.proofs.Common.{◌≡◌, ◌∙◌, [], ℤ, List, append-nil, refl, subst, sym, true}
-use Rattle.std.specs.Prelude.{All}
-use Rattle.std.proofs.lemmas.List.Elements.{All-nil}
-use Rattle.std.proofs.lemmas.Result.{IfOk-weaker}
+use Rattle.scop_syntax.proofs.Common.{◌≡◌, ◌∙◌, [], ℤ, List, append-nil, refl, subst, sym, true, All, All-nil}
+use Rattle.scop_syntax.proofs.Common.{IfOk-weaker, IsInside, In, program_of, all_in}
 use Rattle.pip_solver.specs.Emptiness.{IsBoundedPoint}
-use Rattle.scop_syntax.specs.Execution.{IsInside}
-use Rattle.scop_syntax.specs.Members.{In}
-use Rattle.scop_syntax.specs.View.{program_of}
-use Rattle.scop_syntax.proofs.Members.{all_in}
 use Rattle.polypar.proofs.index_check.lies_inside.Goals as goal
 
 pub returns : goal.returns

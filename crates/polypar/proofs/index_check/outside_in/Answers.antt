@@ -1,10 +1,6 @@
 -- Where no subscript lies outside, there is no first that does.
-use Rattle.std.proofs.Common.{◌≡◌, List, None, ap, subst, sym, ℕ}
-use Rattle.std.specs.Option.{option_map}
-use Rattle.scop_syntax.specs.Execution.{layout}
-use Rattle.scop_syntax.specs.Failures.{first_outside}
-use Rattle.scop_syntax.specs.View.{program_of}
-use Rattle.scop_syntax.specs.Walk.{walk_of}
+use Rattle.scop_syntax.proofs.Common.{◌≡◌, List, None, ap, subst, sym, ℕ, option_map, layout, first_outside, program_of}
+use Rattle.scop_syntax.proofs.Common.{walk_of}
 use Rattle.scop_meaning.specs.Outside.{outside_of}
 use Rattle.polypar.proofs.index_check.outside_in.Goals as goal
 

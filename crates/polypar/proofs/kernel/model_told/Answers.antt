@@ -1,5 +1,5 @@
 -- The model is the program's.
-use Rattle.scop_syntax.specs.View.{program_of}
+use Rattle.scop_syntax.proofs.Common.{program_of}
 use Rattle.polypar.proofs.KernelLemmas.{plan_asked}
 use Rattle.polypar.proofs.kernel.model_told.Goals as goal
 

@@ -1,5 +1,5 @@
 -- What was made of the kernel is what the command asks of it.
-use Rattle.scop_syntax.specs.View.{program_of}
+use Rattle.scop_syntax.proofs.Common.{program_of}
 use Rattle.polypar.specs.KernelText.{IsTextFor}
 use Rattle.polypar.proofs.PrintLemmas.{made_answers}
 use Rattle.polypar.proofs.kernel.print_asked.Goals as goal

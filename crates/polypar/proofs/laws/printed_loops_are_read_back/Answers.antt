@@ -1,5 +1,5 @@
 -- The promise of `emit`, and of its text that it is read.
-use Rattle.std.proofs.Common.{refl}
+use Rattle.scop_syntax.proofs.Common.{refl}
 use Rattle.polypar.proofs.ReadingLemmas.{Laws, loops_are_read}
 use Rattle.polypar.proofs.laws.printed_loops_are_read_back.Goals as goal
 

@@ -1,5 +1,5 @@
 -- The promise of `deps`, and of its sources that each walked read has one.
-use Rattle.std.proofs.Common.{refl}
+use Rattle.scop_syntax.proofs.Common.{refl}
 use Rattle.polypar.proofs.SourcesLemmas.{Laws, tells_last}
 use Rattle.polypar.proofs.laws.printed_sources_tell_last_writes.Goals as goal
 

@@ -1,5 +1,5 @@
 -- The words are a command, or none, or there was no memory.
-use Rattle.std.proofs.Common.{Err, ap, inl, inr, refl}
+use Rattle.scop_syntax.proofs.Common.{Err, ap, inl, inr, refl}
 use Rattle.plan_search.specs.Status.TheVariants.{NoMemory, Usage}
 use Rattle.polypar.proofs.EndLemmas.{command_ends, none_ends}
 use Rattle.polypar.proofs.plain.answer.Goals as goal

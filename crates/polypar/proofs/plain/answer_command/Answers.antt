@@ -1,5 +1,5 @@
 -- What was written is flushed, or that fails.
-use Rattle.std.proofs.Common.{rules}
+use Rattle.scop_syntax.proofs.Common.{rules}
 use Rattle.polypar.proofs.AnswerLemmas.{done_flushed, done_unflushed}
 use Rattle.polypar.proofs.EndLemmas.{fault_named}
 use Rattle.polypar.proofs.plain.answer_command.Goals as goal

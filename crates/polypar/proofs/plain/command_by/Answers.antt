@@ -1,5 +1,5 @@
 -- The line stands behind what the call answered.
-use Rattle.std.proofs.Common.{subst}
+use Rattle.scop_syntax.proofs.Common.{subst}
 use Rattle.polypar.specs.Promises.{TellsStatus}
 use Rattle.polypar.proofs.AnswerLemmas.{answered, lent_program}
 use Rattle.polypar.proofs.plain.command_by.Goals as goal

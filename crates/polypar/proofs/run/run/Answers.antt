@@ -1,5 +1,5 @@
 -- An input that was read is answered, and one that was not read is answered too.
-use Rattle.std.proofs.Common.{◌≡◌, Err, None, ap, subst, sym}
+use Rattle.scop_syntax.proofs.Common.{◌≡◌, Err, None, ap, subst, sym}
 use Rattle.io_ports.specs.Bytes.{IsAllOf}
 use Rattle.plan_search.specs.Status.TheVariants.{NoMemory}
 use Rattle.polypar.specs.Deserves.{too_long}

@@ -1,10 +1,5 @@
 -- No subscript lies outside, so the case may be run.
-use Rattle.std.proofs.Common.{◌≡◌, ℕ, List, None, subst}
-use Rattle.std.specs.Option.{option_map}
-use Rattle.scop_syntax.specs.Execution.{layout}
-use Rattle.scop_syntax.specs.Failures.{first_outside}
-use Rattle.scop_syntax.specs.View.{program_of}
-use Rattle.scop_syntax.specs.Walk.{walk_of}
+use Rattle.scop_syntax.proofs.Common.{◌≡◌, ℕ, List, None, subst, option_map, layout, first_outside, program_of, walk_of}
 use Rattle.scop_meaning.specs.Outside.{outside_of}
 use Rattle.scop_meaning.proofs.Outside.{none_found}
 use Rattle.polypar.proofs.run.run_case.Goals as goal

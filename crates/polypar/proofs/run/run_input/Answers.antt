@@ -1,5 +1,5 @@
 -- The kernel was read from the input's text, and what the command answers of it is the input's answer.
-use Rattle.std.proofs.Common.{subst, sym, rules}
+use Rattle.scop_syntax.proofs.Common.{subst, sym, rules}
 use Rattle.polypar.specs.Promises.{AnswersFor}
 use Rattle.polypar.proofs.RunLemmas.{command_answers, refused_answers, untouched}
 use Rattle.polypar.proofs.run.run_input.Goals as goal

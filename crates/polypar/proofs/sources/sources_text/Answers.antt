@@ -1,7 +1,6 @@
 -- The sources are those of the program's model, and their text is told.
-use Rattle.std.proofs.Common.{◌≡◌, subst, IfOk}
+use Rattle.scop_syntax.proofs.Common.{◌≡◌, subst, IfOk, program_of}
 use Rattle.plan_search.specs.DepsText.{deps_text}
-use Rattle.scop_syntax.specs.View.{program_of}
 use Rattle.polypar.proofs.SourcesLemmas.{sources_told}
 use Rattle.polypar.proofs.sources.sources_text.Goals as goal
 

@@ -1,5 +1,4 @@
-use Rattle.std.proofs.Common.{rules, ◌≡◌, [], ◌∷◌, drop, ap, sym, ◌∙◌, append-nil}
-use Rattle.std.specs.Prelude.{reverse}
+use Rattle.whole_numbers.proofs.Common.{rules, ◌≡◌, [], ◌∷◌, drop, ap, sym, ◌∙◌, append-nil, reverse}
 use Rattle.quast_trees.specs.Postfix.{tree_of}
 use Rattle.quast_joins.specs.Steps.{Depths, depths, depths_of, from_last}
 use Rattle.quast_joins.proofs.Steps.{depths_found}

@@ -1,5 +1,4 @@
-use Rattle.std.proofs.Common.{◌≡◌, ◌≤◌, length, drop, [], ◌∷◌}
-use Rattle.std.specs.Prelude.{reverse}
+use Rattle.whole_numbers.proofs.Common.{◌≡◌, ◌≤◌, length, drop, [], ◌∷◌, reverse}
 use Rattle.quast_joins.specs.Steps.{depths_of, from_last}
 use Rattle.quast_joins.proofs.binds.binds_round.Given as goal
 

@@ -1,4 +1,4 @@
-use Rattle.std.proofs.Common.{rules, ◌≡◌, ◌<◌, ◌≤◌, length, min, get_or, arith, add-one}
+use Rattle.whole_numbers.proofs.Common.{rules, ◌≡◌, ◌<◌, ◌≤◌, length, min, get_or, arith, add-one}
 use Rattle.quast_joins.proofs.Counts.{tested_past, tested_more}
 use Rattle.quast_joins.proofs.count.common_loops.Goals as goal
 

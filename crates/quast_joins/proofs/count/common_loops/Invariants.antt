@@ -1,4 +1,4 @@
-use Rattle.std.proofs.Common.{◌≡◌, ◌+◌, drop}
+use Rattle.whole_numbers.proofs.Common.{◌≡◌, ◌+◌, drop}
 use Rattle.quast_joins.specs.Counts.{tested}
 use Rattle.quast_joins.proofs.count.common_loops.Given as goal
 

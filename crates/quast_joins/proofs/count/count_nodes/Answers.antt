@@ -1,5 +1,4 @@
-use Rattle.std.proofs.Common.{rules, ◌≡◌, ◌+◌, ◌∙◌}
-use Rattle.std.specs.Prelude.{fold}
+use Rattle.whole_numbers.proofs.Common.{rules, ◌≡◌, ◌+◌, ◌∙◌, fold}
 use Rattle.quast_joins.specs.Counts.{capped, join_node}
 use Rattle.quast_joins.specs.Limits.{most_told}
 use Rattle.quast_joins.proofs.Counts.{counted}

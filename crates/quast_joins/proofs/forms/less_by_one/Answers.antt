@@ -1,5 +1,4 @@
-use Rattle.std.proofs.Common.{rules, ◌≡◌, pos, negsuc, ◌-ℤ◌}
-use Rattle.whole_numbers.specs.Affine.{sum_of_forms, multiple_of_form}
+use Rattle.whole_numbers.proofs.Common.{rules, ◌≡◌, pos, negsuc, ◌-ℤ◌, sum_of_forms, multiple_of_form}
 use Rattle.affine_forms.specs.Gives.{Fails}
 use Rattle.affine_forms.specs.Runs.{forms_difference_run}
 use Rattle.quast_joins.proofs.JoinForms.{less_put}

@@ -1,6 +1,4 @@
-use Rattle.std.proofs.Common.{rules, ◌≡◌, ◌++◌, ◌-◌, ap, ◌∙◌, take, drop, length}
-use Rattle.whole_numbers.specs.Affine.{form_of}
-use Rattle.whole_numbers.proofs.Dot.{replicate-zeros}
+use Rattle.whole_numbers.proofs.Common.{rules, ◌≡◌, ◌++◌, ◌-◌, ap, ◌∙◌, take, drop, length, form_of, replicate-zeros}
 use Rattle.quast_joins.proofs.JoinForms.{shifted_put}
 use Rattle.quast_joins.proofs.forms.move_form.Goals as goal
 

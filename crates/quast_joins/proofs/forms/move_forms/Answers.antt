@@ -1,4 +1,4 @@
-use Rattle.whole_numbers.proofs.Entries.{map_more}
+use Rattle.whole_numbers.proofs.Common.{map_more}
 use Rattle.quast_joins.specs.Shifts.{shifted_form}
 use Rattle.quast_joins.proofs.forms.move_forms.Goals as goal
 

@@ -1,4 +1,4 @@
-use Rattle.std.proofs.Common.{◌≡◌, ◌++◌, map, drop}
+use Rattle.whole_numbers.proofs.Common.{◌≡◌, ◌++◌, map, drop}
 use Rattle.quast_joins.specs.Shifts.{shifted_form}
 use Rattle.quast_joins.proofs.forms.move_forms.Given as goal
 

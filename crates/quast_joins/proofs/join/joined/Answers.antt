@@ -1,5 +1,4 @@
-use Rattle.std.proofs.Common.{◌≡◌, ℕ, subst, sym, ap, ap₂, ◌∙◌, arith}
-use Rattle.std.specs.Prelude.{sum_by}
+use Rattle.whole_numbers.proofs.Common.{◌≡◌, ℕ, subst, sym, ap, ap₂, ◌∙◌, arith, sum_by}
 use Rattle.quast_trees.specs.Tree.{Tree, count, Speaks}
 use Rattle.quast_trees.specs.Postfix.{tree_of, read, top}
 use Rattle.quast_trees.specs.Value.{value}

@@ -1,5 +1,4 @@
-use Rattle.std.proofs.Common.{◌∷◌, ℕ, List, sym, ap, ap₂, ◌∙◌}
-use Rattle.std.proofs.lemmas.Result.{on_ok_weaker}
+use Rattle.whole_numbers.proofs.Common.{◌∷◌, ℕ, List, sym, ap, ap₂, ◌∙◌, on_ok_weaker}
 use Rattle.quast_trees.specs.Postfix.{standing, tree_of}
 use Rattle.quast_joins.specs.Joins.{join}
 use Rattle.quast_joins.specs.Steps.{Placed_node, steps, join_step}

@@ -1,5 +1,4 @@
-use Rattle.std.proofs.Common.{rules, ◌≡◌, ◌<◌, ◌∷◌, length, get_or, ap, sym, ◌∙◌, arith}
-use Rattle.std.proofs.lemmas.Result.{on_ok_weaker}
+use Rattle.whole_numbers.proofs.Common.{rules, ◌≡◌, ◌<◌, ◌∷◌, length, get_or, ap, sym, ◌∙◌, arith, on_ok_weaker}
 use Rattle.quast_trees.specs.Source.{Forms}
 use Rattle.quast_trees.specs.Tree.{Tree}
 use Rattle.quast_trees.specs.Postfix.{standing}

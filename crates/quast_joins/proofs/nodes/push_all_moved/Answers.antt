@@ -1,4 +1,4 @@
-use Rattle.std.proofs.Common.{rules, ◌≤◌, ◌<◌, length}
+use Rattle.whole_numbers.proofs.Common.{rules, ◌≤◌, ◌<◌, length}
 use Rattle.quast_trees.specs.Postfix.{standing}
 use Rattle.quast_joins.specs.Joins.{moved}
 use Rattle.quast_joins.specs.Steps.{moved_step}

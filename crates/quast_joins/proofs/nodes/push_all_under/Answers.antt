@@ -1,4 +1,4 @@
-use Rattle.std.proofs.Common.{rules, ◌≤◌, ◌<◌, length}
+use Rattle.whole_numbers.proofs.Common.{rules, ◌≤◌, ◌<◌, length}
 use Rattle.quast_trees.specs.Postfix.{standing}
 use Rattle.quast_joins.specs.Joins.{under}
 use Rattle.quast_joins.specs.Steps.{under_step}

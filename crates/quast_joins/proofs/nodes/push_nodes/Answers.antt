@@ -1,4 +1,4 @@
-use Rattle.std.proofs.Common.{rules, ◌≤◌, ◌<◌, List, length, sym, subst}
+use Rattle.whole_numbers.proofs.Common.{rules, ◌≤◌, ◌<◌, List, length, sym, subst}
 use Rattle.quast_trees.specs.Postfix.{standing}
 use Rattle.quast_joins.specs.Joins.{join}
 use Rattle.quast_joins.specs.Steps.{Placed_node, paired, pairs, join_step}

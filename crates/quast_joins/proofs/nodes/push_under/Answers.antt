@@ -1,4 +1,4 @@
-use Rattle.std.proofs.Common.{subst, sym}
+use Rattle.whole_numbers.proofs.Common.{subst, sym}
 use Rattle.quast_trees.specs.Source.{Forms}
 use Rattle.quast_trees.specs.declared.node.Node.{Node as Nodes}
 use Rattle.quast_trees.specs.declared.node.Node.TheVariants as Node

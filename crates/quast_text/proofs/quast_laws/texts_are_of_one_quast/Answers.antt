@@ -1,4 +1,4 @@
-use Rattle.std.proofs.Common.{refl, arith}
+use Rattle.whole_numbers.proofs.Common.{refl, arith}
 use Rattle.quast_text.proofs.Quasts.{FormLaws, one_quast, quast_first}
 use Rattle.quast_text.proofs.quast_laws.texts_are_of_one_quast.Goals as goal
 

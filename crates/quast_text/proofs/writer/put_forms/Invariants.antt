@@ -1,5 +1,5 @@
 -- What was put so far and the forms to come are all forms.
-use Rattle.std.proofs.Common.{◌≡◌, ◌++◌, drop}
+use Rattle.whole_numbers.proofs.Common.{◌≡◌, ◌++◌, drop}
 use Rattle.quast_text.specs.Text.{forms_from}
 use Rattle.quast_text.specs.Waiting.{texts_of}
 use Rattle.quast_text.proofs.writer.put_forms.Given as goal

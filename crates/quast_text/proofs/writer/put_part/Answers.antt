@@ -1,4 +1,4 @@
-use Rattle.std.proofs.lemmas.Result.{on_ok_weaker}
+use Rattle.whole_numbers.proofs.Common.{on_ok_weaker}
 use Rattle.quast_text.proofs.PendingParts.{second_less}
 use Rattle.quast_text.proofs.writer.put_part.Goals as goal
 

@@ -1,4 +1,4 @@
-use Rattle.std.proofs.Common.{rules, ◌≡◌, ◌++◌, [], ◌∷◌}
+use Rattle.whole_numbers.proofs.Common.{rules, ◌≡◌, ◌++◌, [], ◌∷◌}
 use Rattle.quast_text.proofs.PendingParts.{weights_fall}
 use Rattle.quast_text.proofs.writer.put_quast.Goals as goal
 

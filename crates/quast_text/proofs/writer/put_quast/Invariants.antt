@@ -1,5 +1,5 @@
 -- What is written and what waits are the text of the quast.
-use Rattle.std.proofs.Common.{◌≡◌, ◌++◌, reverse}
+use Rattle.whole_numbers.proofs.Common.{◌≡◌, ◌++◌, reverse}
 use Rattle.quast_trees.specs.Postfix.{tree_of}
 use Rattle.quast_text.specs.Text.{names_within, quast_text}
 use Rattle.quast_text.specs.Waiting.{texts_of, lets_in, waiting_text, weights}

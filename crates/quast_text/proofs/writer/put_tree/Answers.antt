@@ -1,7 +1,4 @@
-use Rattle.std.proofs.Common.{rules, FitsSigned}
-use Rattle.std.specs.Int.{w128}
-use Rattle.std.proofs.lemmas.Int.{to_z-of_z}
-use Rattle.std.proofs.lemmas.Result.{on_ok_weaker}
+use Rattle.whole_numbers.proofs.Common.{rules, FitsSigned, w128, to_z-of_z, on_ok_weaker}
 use Rattle.quast_text.proofs.PendingParts.{branch_less, bind_less, let_goes_on, on_three}
 use Rattle.quast_text.proofs.writer.put_tree.Goals as goal
 

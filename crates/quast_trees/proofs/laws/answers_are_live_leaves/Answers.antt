@@ -1,4 +1,4 @@
-use Rattle.std.proofs.lemmas.List.Elements.{All-contains}
+use Rattle.whole_numbers.proofs.Common.{All-contains}
 use Rattle.quast_trees.specs.Paths.{leaf_paths}
 use Rattle.quast_trees.proofs.LeafPaths.{Answers, Stands, answers_all, found_at, over_all}
 use Rattle.quast_trees.proofs.LivePaths.{live, live_among}

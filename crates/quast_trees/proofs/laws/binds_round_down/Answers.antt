@@ -1,7 +1,4 @@
-use Rattle.std.proofs.Common.{ℤ, [], ◌∷◌, ◌++◌, ap}
-use Rattle.whole_numbers.specs.Affine.{value_of}
-use Rattle.whole_numbers.specs.Floor.{floor}
-use Rattle.whole_numbers.proofs.Floors.{floor_is, floor_unique}
+use Rattle.whole_numbers.proofs.Common.{ℤ, [], ◌∷◌, ◌++◌, ap, value_of, floor, floor_is, floor_unique}
 use Rattle.quast_trees.specs.Value.{value}
 use Rattle.quast_trees.proofs.laws.binds_round_down.Goals as goal
 

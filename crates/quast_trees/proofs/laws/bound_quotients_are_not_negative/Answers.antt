@@ -1,4 +1,4 @@
-use Rattle.std.proofs.lemmas.List.Elements.{All-contains}
+use Rattle.whole_numbers.proofs.Common.{All-contains}
 use Rattle.quast_trees.specs.Paths.{leaf_paths}
 use Rattle.quast_trees.proofs.LeafPaths.{Rises, quotients_up}
 use Rattle.quast_trees.proofs.laws.bound_quotients_are_not_negative.Goals as goal

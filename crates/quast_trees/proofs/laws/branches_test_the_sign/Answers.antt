@@ -1,4 +1,4 @@
-use Rattle.whole_numbers.specs.Affine.{value_of}
+use Rattle.whole_numbers.proofs.Common.{value_of}
 use Rattle.quast_trees.specs.Value.{value}
 use Rattle.quast_trees.proofs.SignChoices.{by_sign_first, by_sign_second}
 use Rattle.quast_trees.proofs.laws.branches_test_the_sign.Goals as goal

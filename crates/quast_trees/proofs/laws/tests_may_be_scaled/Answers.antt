@@ -1,8 +1,6 @@
-use Rattle.std.proofs.Common.{pos, ◌∙◌, sym, inl, inr, arith}
-use Rattle.std.proofs.lemmas.Int.{ints}
-use Rattle.whole_numbers.specs.Affine.{value_of, multiple_of_form}
-use Rattle.whole_numbers.proofs.Order.{le_or_lt, mul_not_negative, mul_lt_left}
-use Rattle.whole_numbers.proofs.Values.{value_of-multiple}
+use Rattle.whole_numbers.proofs.Common.{pos, ◌∙◌, sym, inl, inr, arith, ints, value_of, multiple_of_form, le_or_lt}
+use Rattle.whole_numbers.proofs.Common.{mul_not_negative, value_of-multiple}
+use Rattle.whole_numbers.proofs.Order.{mul_lt_left}
 use Rattle.quast_trees.specs.Value.{value}
 use Rattle.quast_trees.proofs.SignChoices.{by_sign_first, by_sign_second}
 use Rattle.quast_trees.proofs.laws.tests_may_be_scaled.Goals as goal

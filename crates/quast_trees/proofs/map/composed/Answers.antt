@@ -1,4 +1,4 @@
-use Rattle.std.proofs.Common.{length, sym, ap, subst, ◌∙◌}
+use Rattle.whole_numbers.proofs.Common.{length, sym, ap, subst, ◌∙◌}
 use Rattle.affine_forms.specs.Gives.{Fails}
 use Rattle.affine_forms.specs.Runs.{compose_run}
 use Rattle.quast_trees.proofs.ListRuns.{each_done, each_fails, each_more, each_start}

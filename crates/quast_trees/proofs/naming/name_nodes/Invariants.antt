@@ -1,4 +1,4 @@
-use Rattle.std.proofs.Common.{◌≡◌, ◌++◌, map, take, drop}
+use Rattle.whole_numbers.proofs.Common.{◌≡◌, ◌++◌, map, take, drop}
 use Rattle.quast_trees.specs.Source.{source_of}
 use Rattle.quast_trees.specs.Postfix.{named_node}
 use Rattle.quast_trees.proofs.naming.name_nodes.Given as goal

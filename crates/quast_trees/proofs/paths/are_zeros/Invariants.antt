@@ -1,6 +1,4 @@
-use Rattle.std.proofs.Common.{◌≡◌, drop, pos}
-use Rattle.std.specs.List.{list_all}
-use Rattle.std.specs.Ordering.{int_eq}
+use Rattle.whole_numbers.proofs.Common.{◌≡◌, drop, pos, list_all, int_eq}
 use Rattle.quast_trees.proofs.paths.are_zeros.Given as goal
 
 abbrev pub invariant-loop-number : goal.invariant-loop-number

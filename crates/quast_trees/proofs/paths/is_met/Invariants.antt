@@ -1,4 +1,4 @@
-use Rattle.std.proofs.Common.{◌≡◌, drop, false}
+use Rattle.whole_numbers.proofs.Common.{◌≡◌, drop, false}
 use Rattle.quast_trees.specs.steps.Ways.{met, turn_held, turns_held}
 use Rattle.quast_trees.proofs.paths.is_met.Given as goal
 

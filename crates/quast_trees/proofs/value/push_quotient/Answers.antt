@@ -1,9 +1,5 @@
-use Rattle.std.proofs.Common.{◌≡◌, pos, ◌≤ℤ◌, ◌<ℤ◌, [], ◌∷◌, ◌++◌, Ok, FitsSigned, refl, rules, arith}
-use Rattle.std.specs.Int.{w128}
-use Rattle.std.proofs.lemmas.Int.{ints}
-use Rattle.whole_numbers.specs.Division.{IsFloor}
-use Rattle.whole_numbers.specs.Floor.{floor}
-use Rattle.whole_numbers.proofs.Floors.{floor_is, floor_unique}
+use Rattle.whole_numbers.proofs.Common.{◌≡◌, pos, ◌≤ℤ◌, ◌<ℤ◌, [], ◌∷◌, ◌++◌, Ok, FitsSigned, refl, rules, arith, w128}
+use Rattle.whole_numbers.proofs.Common.{ints, IsFloor, floor, floor_is, floor_unique}
 use Rattle.affine_forms.specs.Runs.{value_run as form_run}
 use Rattle.quast_trees.proofs.value.push_quotient.Goals as goal
 

@@ -1,6 +1,4 @@
-use Rattle.std.proofs.Common.{rules, FitsSigned, sym, ap, ◌∙◌}
-use Rattle.std.specs.Int.{w128}
-use Rattle.std.proofs.lemmas.Int.{to_z-of_z}
+use Rattle.whole_numbers.proofs.Common.{rules, FitsSigned, sym, ap, ◌∙◌, w128, to_z-of_z}
 use Rattle.affine_forms.specs.Runs.{value_run}
 use Rattle.quast_trees.proofs.ListRuns.{each_more}
 use Rattle.quast_trees.proofs.value.values_at.Goals as goal

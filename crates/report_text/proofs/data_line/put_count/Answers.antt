@@ -1,7 +1,6 @@
-use Rattle.std.proofs.Common.{subst}
+use Rattle.scop_syntax.proofs.Common.{subst, codes}
 use Rattle.io_ports.specs.Writes.{Puts}
 use Rattle.report_text.proofs.Lines.{count_is}
-use Rattle.std.specs.Prelude.{codes}
 use Rattle.report_text.proofs.data_line.put_count.Goals as goal
 
 pub returns : goal.returns

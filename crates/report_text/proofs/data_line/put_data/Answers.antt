@@ -1,9 +1,6 @@
-use Rattle.std.proofs.Common.{◌∙◌, sym, ap, rules, FitsSigned, Bor, option_map}
-use Rattle.std.specs.Int.{w64}
-use Rattle.std.specs.Prelude.{codes}
-use Rattle.std.proofs.lemmas.Int.{to_z-of_z}
+use Rattle.scop_syntax.proofs.Common.{◌∙◌, sym, ap, rules, FitsSigned, Bor, w64, codes, to_z-of_z, program_of}
+use Rattle.std.proofs.Common.{option_map}
 use Rattle.scop_syntax.specs.declared.tree.Kernel.{Kernel}
-use Rattle.scop_syntax.specs.View.{program_of}
 use Rattle.report_text.specs.StatusText.{data_text, extent_text, named}
 use Rattle.report_text.proofs.Lines.{puts_as}
 use Rattle.report_text.proofs.data_line.put_data.Goals as goal

@@ -1,5 +1,4 @@
-use Rattle.std.proofs.Common.{rules, ◌≡◌, ◌∙◌, ap, subst}
-use Rattle.std.specs.Prelude.{codes, decimal}
+use Rattle.scop_syntax.proofs.Common.{rules, ◌≡◌, ◌∙◌, ap, subst, codes, decimal}
 use Rattle.io_ports.specs.Writes.{Puts}
 use Rattle.report_text.specs.StatusText.{named}
 use Rattle.report_text.proofs.Lines.{total_is}

@@ -1,4 +1,4 @@
-use Rattle.std.proofs.Common.{refl}
+use Rattle.scop_syntax.proofs.Common.{refl}
 use Rattle.std.specs.Fmt.{digits}
 use Rattle.form_text.specs.Forms.{form_text}
 use Rattle.report_text.proofs.deps_laws.texts_of_two_kernels.Goals as goal

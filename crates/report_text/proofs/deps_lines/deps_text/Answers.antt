@@ -1,5 +1,4 @@
-use Rattle.std.proofs.Common.{◌∙◌, ◌-◌, ap, sym, drop, length, List, ℕ, drop_of_length-le}
-use Rattle.scop_syntax.specs.View.{program_of}
+use Rattle.scop_syntax.proofs.Common.{◌∙◌, ◌-◌, ap, sym, drop, length, List, ℕ, drop_of_length-le, program_of}
 use Rattle.iteration_domains.specs.Model.{Modelled}
 use Rattle.report_text.specs.DepsText.{deps_text, lines_of}
 use Rattle.dataflow.specs.ReadSources.{reads_in}

@@ -1,6 +1,5 @@
 -- The lines so far and those of the statements to come are all lines.
-use Rattle.std.proofs.Common.{◌≡◌, ◌++◌, drop}
-use Rattle.scop_syntax.specs.View.{program_of}
+use Rattle.scop_syntax.proofs.Common.{◌≡◌, ◌++◌, drop, program_of}
 use Rattle.dataflow.specs.ReadSources.{reads_in}
 use Rattle.report_text.specs.DepsText.{lines_of, deps_text}
 use Rattle.report_text.proofs.deps_lines.deps_text.Given as goal

@@ -1,7 +1,7 @@
-use Rattle.std.proofs.Common.{rules, ◌≡◌, ◌∙◌, ◌-◌, ◌<◌, ℕ, ◌++◌, ap, sym, subst, arith, append-nil, get_or, length}
+use Rattle.scop_syntax.proofs.Common.{rules, ◌≡◌, ◌∙◌, ◌-◌, ◌<◌, ℕ, ◌++◌, ap, sym, subst, arith, append-nil, get_or}
+use Rattle.scop_syntax.proofs.Common.{length, program_of}
 use Rattle.std.proofs.Common.{ltb-false}
 use Rattle.scop_lexer.specs.Bytes.{Text}
-use Rattle.scop_syntax.specs.View.{program_of}
 use Rattle.dataflow.specs.ReadSources.{reads_from, reads_of_statement}
 use Rattle.report_text.specs.DepsText.{lines_of}
 use Rattle.report_text.proofs.DepsLemmas.{lines_past, line_more}

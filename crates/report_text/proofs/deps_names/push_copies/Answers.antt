@@ -1,5 +1,5 @@
 -- One name more, and at the end all of them.
-use Rattle.std.proofs.Common.{◌∙◌, ◌∷◌, [], ◌+◌, ◌++◌, ap, drop, get_or, drop_of_length-le}
+use Rattle.scop_syntax.proofs.Common.{◌∙◌, ◌∷◌, [], ◌+◌, ◌++◌, ap, drop, get_or, drop_of_length-le}
 use Rattle.quast_text.specs.Waiting.{texts_of}
 use Rattle.report_text.proofs.AppendedTexts.{next_appended, last_appended}
 use Rattle.report_text.proofs.DepsLemmas.{texts_next}

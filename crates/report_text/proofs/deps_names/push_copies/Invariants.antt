@@ -1,5 +1,5 @@
 -- The names so far and those to come are all names.
-use Rattle.std.proofs.Common.{◌≡◌, ◌++◌, drop}
+use Rattle.scop_syntax.proofs.Common.{◌≡◌, ◌++◌, drop}
 use Rattle.quast_text.specs.Waiting.{texts_of}
 use Rattle.report_text.proofs.deps_names.push_copies.Given as goal
 

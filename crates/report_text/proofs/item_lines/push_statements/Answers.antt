@@ -1,5 +1,5 @@
 -- One statement more, and at the end all of them.
-use Rattle.std.proofs.Common.{◌∙◌, ◌+◌, ◌++◌, ap, drop, get_or, drop_of_length-le, map}
+use Rattle.scop_syntax.proofs.Common.{◌∙◌, ◌+◌, ◌++◌, ap, drop, get_or, drop_of_length-le, map}
 use Rattle.report_text.specs.ScheduleText.{statement_text, statements_from}
 use Rattle.report_text.specs.ScheduleLines.{part_view}
 use Rattle.report_text.proofs.AppendedTexts.{next_appended, last_appended}

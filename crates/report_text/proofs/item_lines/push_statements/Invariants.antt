@@ -1,5 +1,5 @@
 -- What was appended so far and the statements to come are all statements.
-use Rattle.std.proofs.Common.{◌≡◌, ◌++◌, drop, map}
+use Rattle.scop_syntax.proofs.Common.{◌≡◌, ◌++◌, drop, map}
 use Rattle.report_text.specs.ScheduleText.{statements_from}
 use Rattle.report_text.specs.ScheduleLines.{part_view}
 use Rattle.report_text.proofs.item_lines.push_statements.Given as goal

@@ -1,6 +1,6 @@
 -- One line more, and at the end the text of the blocks.
-use Rattle.std.proofs.Common.{◌∙◌, ◌+◌, ◌++◌, ◌<◌, ◌≤◌, sym, subst, ap, arith, length, drop, get_or}
-use Rattle.std.proofs.lemmas.List.{length-map, get_or-map}
+use Rattle.scop_syntax.proofs.Common.{◌∙◌, ◌+◌, ◌++◌, ◌<◌, ◌≤◌, sym, subst, ap, arith, length, drop, get_or, length-map}
+use Rattle.scop_syntax.proofs.Common.{get_or-map}
 use Rattle.schedule_rows.specs.Schedule.{item_of}
 use Rattle.report_text.specs.ScheduleLines.{item_text, items_text}
 use Rattle.report_text.proofs.AppendedTexts.{next_appended}

@@ -1,5 +1,4 @@
-use Rattle.std.proofs.Common.{◌∙◌, ◌++◌, ap, subst}
-use Rattle.std.specs.Prelude.{codes}
+use Rattle.scop_syntax.proofs.Common.{◌∙◌, ◌++◌, ap, subst, codes}
 use Rattle.io_ports.specs.Writes.{Puts}
 use Rattle.report_text.specs.StatusText.{place_text}
 use Rattle.report_text.proofs.Lines.{refusal_is}

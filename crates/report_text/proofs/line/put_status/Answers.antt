@@ -1,6 +1,6 @@
-use Rattle.std.proofs.Common.{sym, ap, Bor, option_map}
+use Rattle.scop_syntax.proofs.Common.{sym, ap, Bor, program_of}
+use Rattle.std.proofs.Common.{option_map}
 use Rattle.scop_syntax.specs.declared.tree.Kernel.{Kernel}
-use Rattle.scop_syntax.specs.View.{program_of}
 use Rattle.report_text.specs.StatusText.{status_text}
 use Rattle.report_text.proofs.Lines.{puts_as}
 use Rattle.report_text.proofs.line.put_status.Goals as goal

@@ -1,10 +1,6 @@
-use Rattle.std.proofs.Common.{rules, subst, FitsSigned}
-use Rattle.std.specs.Int.{w64}
-use Rattle.std.proofs.lemmas.Int.{to_z-of_z}
+use Rattle.scop_syntax.proofs.Common.{rules, subst, FitsSigned, w64, to_z-of_z, codes, signed_decimal}
 use Rattle.io_ports.specs.Writes.{Puts}
 use Rattle.report_text.proofs.Lines.{outside_is}
-use Rattle.std.specs.Prelude.{codes}
-use Rattle.std.specs.Fmt.{signed_decimal}
 use Rattle.report_text.proofs.outside_line.put_outside.Goals as goal
 
 pub returns : goal.returns

@@ -1,4 +1,4 @@
-use Rattle.std.proofs.Common.{subst}
+use Rattle.scop_syntax.proofs.Common.{subst}
 use Rattle.io_ports.specs.Writes.{Puts}
 use Rattle.report_text.proofs.Lines.{named_is}
 use Rattle.report_text.proofs.parts.put_named.Goals as goal

@@ -1,4 +1,4 @@
-use Rattle.std.proofs.Common.{◌∙◌, ◌++◌, ◌+◌, ap, drop, get_or}
+use Rattle.scop_syntax.proofs.Common.{◌∙◌, ◌++◌, ◌+◌, ap, drop, get_or}
 use Rattle.io_ports.proofs.PutTexts.{next_put, next_piece_cut}
 use Rattle.report_text.specs.declared.parts.Part.TheVariants as part
 use Rattle.report_text.specs.Parts.{part_text, parts_text}

@@ -1,9 +1,6 @@
 -- One number more, and at the end all of them.
-use Rattle.std.proofs.Common.{rules, ◌∙◌, ◌+◌, ◌++◌, ap, drop, get_or, pos, drop_of_length-le, FitsSigned}
-use Rattle.std.specs.Int.{w128}
-use Rattle.std.specs.Prelude.{codes}
-use Rattle.std.specs.Fmt.{signed_decimal}
-use Rattle.std.proofs.lemmas.Int.{to_z-of_z}
+use Rattle.scop_syntax.proofs.Common.{rules, ◌∙◌, ◌+◌, ◌++◌, ap, drop, get_or, pos, drop_of_length-le, FitsSigned, w128}
+use Rattle.scop_syntax.proofs.Common.{codes, signed_decimal, to_z-of_z}
 use Rattle.report_text.specs.ScheduleText.{before, numbers_from}
 use Rattle.report_text.proofs.AppendedTexts.{next_appended, last_appended}
 use Rattle.report_text.proofs.ScheduleLemmas.{numbers_next}

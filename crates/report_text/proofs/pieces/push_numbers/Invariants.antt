@@ -1,5 +1,5 @@
 -- What was appended so far and the numbers to come are all numbers.
-use Rattle.std.proofs.Common.{◌≡◌, ◌++◌, drop}
+use Rattle.scop_syntax.proofs.Common.{◌≡◌, ◌++◌, drop}
 use Rattle.report_text.specs.ScheduleText.{numbers_from}
 use Rattle.report_text.proofs.pieces.push_numbers.Given as goal
 

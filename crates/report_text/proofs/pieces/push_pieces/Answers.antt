@@ -1,5 +1,5 @@
 -- One piece more, and at the end all of them.
-use Rattle.std.proofs.Common.{◌∙◌, ◌+◌, ◌++◌, ap, drop, drop_of_length-le}
+use Rattle.scop_syntax.proofs.Common.{◌∙◌, ◌+◌, ◌++◌, ap, drop, drop_of_length-le}
 use Rattle.report_text.specs.Pieces.{pieces_text}
 use Rattle.report_text.proofs.AppendedTexts.{next_appended, last_appended}
 use Rattle.report_text.proofs.Lines.{pieces_next}

@@ -1,10 +1,5 @@
-use Rattle.std.proofs.Common.{◌≡◌, ◌∙◌, ◌+◌, ◌%◌, ◌^◌, ℕ, true, ap, arith, get_or}
-use Rattle.std.specs.Prelude.{nat_eq}
-use Rattle.std.proofs.lemmas.Bool.{eq-eqb}
-use Rattle.std.proofs.lemmas.Option.{slice_get_within}
-use Rattle.scop_syntax.specs.Cells.{Cell}
-use Rattle.scop_syntax.specs.Execution.{cell_number, held, value_stored}
-use Rattle.scop_syntax.specs.Reductions.{is_marked}
+use Rattle.scop_syntax.proofs.Common.{◌≡◌, ◌∙◌, ◌+◌, ◌%◌, ◌^◌, ℕ, true, ap, arith, get_or, nat_eq, eq-eqb}
+use Rattle.scop_syntax.proofs.Common.{slice_get_within, Cell, cell_number, held, value_stored, is_marked}
 use Rattle.tile_events.specs.Flat.{flat, written_by}
 use Rattle.tile_events.specs.Plan.{Plan, stored}
 use Rattle.tile_events.specs.Sound.{is_done}

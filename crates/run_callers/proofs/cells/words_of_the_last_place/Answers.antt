@@ -1,7 +1,5 @@
-use Rattle.std.proofs.Common.{◌≡◌, ◌∙◌, ◌+◌, ◌%◌, ◌^◌, ℕ, ap, arith, map}
-use Rattle.std.proofs.lemmas.Option.{slice_get_within}
-use Rattle.std.specs.Prelude.{slice_index}
-use Rattle.scop_syntax.specs.Execution.{cell_number, held, value_stored}
+use Rattle.scop_syntax.proofs.Common.{◌≡◌, ◌∙◌, ◌+◌, ◌%◌, ◌^◌, ℕ, ap, arith, map, slice_get_within, slice_index}
+use Rattle.scop_syntax.proofs.Common.{cell_number, held, value_stored}
 use Rattle.tile_events.specs.Flat.{flat}
 use Rattle.tile_events.specs.Rule.{core}
 use Rattle.tile_events.specs.Sound.{is_done}

@@ -1,5 +1,4 @@
-use Rattle.std.proofs.Common.{◌∙◌, [], arith, subst}
-use Rattle.std.specs.Prelude.{◌<◌}
+use Rattle.scop_syntax.proofs.Common.{◌∙◌, [], arith, subst, ◌<◌}
 use Rattle.tile_core.specs.Plans.{deal_of}
 use Rattle.run_callers.proofs.cores.plans_of_three_places.Goals as goal
 

@@ -1,5 +1,4 @@
-use Rattle.std.proofs.Common.{◌≡◌, ◌∙◌, ℕ, [], sym}
-use mathlib.Core.Option.{some}
+use Rattle.scop_syntax.proofs.Common.{◌≡◌, ◌∙◌, ℕ, [], sym, some}
 use Rattle.tile_events.specs.Core.{idle, working}
 use Rattle.run_callers.proofs.cores.stretch_of_an_idle_worker.Goals as goal
 

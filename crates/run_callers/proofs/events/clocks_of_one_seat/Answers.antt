@@ -1,6 +1,4 @@
-use Rattle.std.proofs.Common.{◌≡◌, ◌∙◌, arith, ap, subst, sym}
-use Rattle.std.specs.Prelude.{slice_index, slice_set}
-use lib.ListN.{get_elem?}
+use Rattle.scop_syntax.proofs.Common.{◌≡◌, ◌∙◌, arith, ap, subst, sym, slice_index, slice_set, get_elem?}
 use Rattle.tile_events.specs.Example.{two}
 use Rattle.run_callers.proofs.events.clocks_of_one_seat.Goals as goal
 

@@ -1,4 +1,4 @@
-use Rattle.std.proofs.Common.{arith}
+use Rattle.scop_syntax.proofs.Common.{arith}
 use Rattle.tile_events.specs.Example.{first, two}
 use Rattle.run_callers.proofs.events.counts_after_an_event.Goals as goal
 

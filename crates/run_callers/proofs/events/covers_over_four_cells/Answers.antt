@@ -1,4 +1,4 @@
-use Rattle.std.proofs.Common.{[], ◌∷◌}
+use Rattle.scop_syntax.proofs.Common.{[], ◌∷◌}
 use Rattle.run_callers.proofs.events.covers_over_four_cells.Goals as goal
 
 pub returns : goal.returns

@@ -1,4 +1,4 @@
-use Rattle.std.proofs.Common.{◌≡◌, ◌<◌, ⊎_elim, arith, inr, refl}
+use Rattle.scop_syntax.proofs.Common.{◌≡◌, ◌<◌, ⊎_elim, arith, inr, refl}
 use Rattle.tile_events.specs.Example.{two}
 use Rattle.run_callers.proofs.events.plans_by_waves.Goals as goal
 

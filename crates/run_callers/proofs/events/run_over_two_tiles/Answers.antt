@@ -1,4 +1,4 @@
-use Rattle.std.proofs.Common.{ap, get_or}
+use Rattle.scop_syntax.proofs.Common.{ap, get_or}
 use Rattle.run_callers.proofs.events.run_over_two_tiles.Goals as goal
 
 pub returns : goal.returns

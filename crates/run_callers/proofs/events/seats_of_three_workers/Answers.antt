@@ -1,6 +1,4 @@
-use Rattle.std.proofs.Common.{ap, arith, inl, refl}
-use lib.ListN.{get_elem?}
-use Rattle.std.specs.Prelude.{nat_eq, if◌then◌else◌}
+use Rattle.scop_syntax.proofs.Common.{ap, arith, inl, refl, get_elem?, nat_eq, if◌then◌else◌}
 use Rattle.tile_events.specs.Core.{ended, idle}
 use Rattle.tile_events.specs.Example.{two}
 use Rattle.tile_events.specs.Rule.{unmoved}

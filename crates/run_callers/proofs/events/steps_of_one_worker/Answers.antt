@@ -1,4 +1,4 @@
-use Rattle.std.proofs.Common.{[], ◌∷◌, arith, refl, subst, sym}
+use Rattle.scop_syntax.proofs.Common.{[], ◌∷◌, arith, refl, subst, sym}
 use mathlib.Core.Option.{none}
 use Rattle.atomic_table.specs.Table.{step}
 use Rattle.tile_events.specs.Example.{counted, two}

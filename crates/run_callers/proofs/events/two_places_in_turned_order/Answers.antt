@@ -1,4 +1,4 @@
-use Rattle.std.proofs.Common.{◌-◌, [], arith, refl}
+use Rattle.scop_syntax.proofs.Common.{◌-◌, [], arith, refl}
 use Rattle.tile_events.specs.Deal.{Deal, IsScan}
 use Rattle.run_callers.proofs.events.two_places_in_turned_order.Goals as goal
 

@@ -1,4 +1,4 @@
-use Rattle.std.proofs.Common.{[], ◌∷◌, arith}
+use Rattle.scop_syntax.proofs.Common.{[], ◌∷◌, arith}
 use Rattle.run_callers.proofs.events.walks_over_four_cells.Goals as goal
 
 pub returns-clause-reads : goal.returns-clause-reads

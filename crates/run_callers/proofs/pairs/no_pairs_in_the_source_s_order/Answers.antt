@@ -1,5 +1,4 @@
-use Rattle.std.proofs.Common.{[]}
-use Rattle.scop_syntax.specs.Walk.{walk_of}
+use Rattle.scop_syntax.proofs.Common.{[], walk_of}
 use Rattle.run_callers.proofs.pairs.no_pairs_in_the_source_s_order.Goals as goal
 
 pub returns : goal.returns

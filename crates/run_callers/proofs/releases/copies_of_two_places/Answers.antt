@@ -1,6 +1,4 @@
-use Rattle.std.proofs.Common.{◌≡◌, ◌⊎◌, inl, inr, ℕ, zero, suc, ◌<◌, refl, arith}
-use Rattle.std.specs.Prelude.{Some}
-use Rattle.scop_syntax.specs.Members.{In}
+use Rattle.scop_syntax.proofs.Common.{◌≡◌, ◌⊎◌, inl, inr, ℕ, zero, suc, ◌<◌, refl, arith, Some, In}
 use Rattle.tile_events.specs.Copies.{AreSources, IsFlowPlan}
 use Rattle.tile_events.specs.Example.{sources_of_two, two}
 use Rattle.run_callers.proofs.SmallPlans.{two_dealt, two_inside}

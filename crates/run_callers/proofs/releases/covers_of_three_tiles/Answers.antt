@@ -1,4 +1,4 @@
-use Rattle.std.proofs.Common.{refl, arith}
+use Rattle.scop_syntax.proofs.Common.{refl, arith}
 use Rattle.tile_events.specs.Example.{both_to_last, three}
 use Rattle.run_callers.proofs.SmallPlans.{single_good}
 use Rattle.run_callers.proofs.ThreeTiles.{three_pairs}

@@ -1,6 +1,5 @@
-use Rattle.std.proofs.Common.{◌≡◌, ◌∙◌, ℕ, zero, suc, ◌+◌, ◌<◌, ◌&&◌, inl, inr, ⊎_elim, Bool, true, refl, arith}
-use Rattle.std.specs.Prelude.{nat_eq}
-use Rattle.std.proofs.lemmas.Bool.{and_from}
+use Rattle.scop_syntax.proofs.Common.{◌≡◌, ◌∙◌, ℕ, zero, suc, ◌+◌, ◌<◌, ◌&&◌, inl, inr, ⊎_elim, Bool, true, refl, arith}
+use Rattle.scop_syntax.proofs.Common.{nat_eq, and_from}
 use Rattle.tile_events.specs.Core.{State}
 use Rattle.tile_events.specs.Example.{both_to_last, counted, three}
 use Rattle.tile_events.specs.Plan.{count_of}

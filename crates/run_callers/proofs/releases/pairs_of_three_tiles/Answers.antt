@@ -1,4 +1,4 @@
-use Rattle.std.proofs.Common.{arith}
+use Rattle.scop_syntax.proofs.Common.{arith}
 use Rattle.run_callers.proofs.releases.pairs_of_three_tiles.Goals as goal
 
 pub returns : goal.returns

@@ -1,4 +1,4 @@
-use Rattle.std.proofs.Common.{arith}
+use Rattle.scop_syntax.proofs.Common.{arith}
 use Rattle.tile_events.specs.Example.{both_to_last, three}
 use Rattle.run_callers.proofs.ThreeTiles.{three_covered, three_dealt, three_edges}
 use Rattle.run_callers.proofs.releases.plan_of_three_tiles.Goals as goal

@@ -1,4 +1,4 @@
-use Rattle.std.proofs.Common.{ap, get_or}
+use Rattle.scop_syntax.proofs.Common.{ap, get_or}
 use Rattle.run_callers.proofs.releases.run_of_three_adds.Goals as goal
 
 pub returns-clause-store : goal.returns-clause-store

@@ -1,4 +1,4 @@
-use Rattle.std.proofs.Common.{ap, get_or}
+use Rattle.scop_syntax.proofs.Common.{ap, get_or}
 use Rattle.run_callers.proofs.releases.run_over_three_tiles.Goals as goal
 
 pub returns-clause-short : goal.returns-clause-short

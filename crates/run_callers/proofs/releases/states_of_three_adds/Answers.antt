@@ -1,4 +1,4 @@
-use Rattle.std.proofs.Common.{refl}
+use Rattle.scop_syntax.proofs.Common.{refl}
 use Rattle.tile_events.specs.Core.{replay}
 use Rattle.tile_events.specs.Example.{adding, adding_first, adding_run}
 use Rattle.run_callers.proofs.SmallPlans.{adding_dealt, adding_opening, single_good}

@@ -1,5 +1,4 @@
-use Rattle.std.proofs.Common.{arith}
-use Rattle.std.specs.Prelude.{take}
+use Rattle.scop_syntax.proofs.Common.{arith, take}
 use Rattle.tile_events.specs.Example.{both_to_last, counted, counted_first, counted_run, three}
 use Rattle.run_callers.proofs.ThreeTiles.{counted_opening, last_begun, opened, others_finished, three_covered}
 use Rattle.run_callers.proofs.ThreeTiles.{three_dealt, three_edges}

@@ -1,4 +1,4 @@
-use Rattle.std.proofs.Common.{◌≡◌, ◌∙◌, ℕ, ◌+◌, ◌%◌, ◌^◌, Bool, true, refl, arith}
+use Rattle.scop_syntax.proofs.Common.{◌≡◌, ◌∙◌, ℕ, ◌+◌, ◌%◌, ◌^◌, Bool, true, refl, arith}
 use Rattle.tile_events.specs.Example.{adding}
 use Rattle.tile_events.specs.Sound.{is_done}
 use Rattle.tile_events.specs.Sums.{sum_of}

@@ -1,4 +1,4 @@
-use Rattle.std.proofs.Common.{[]}
+use Rattle.scop_syntax.proofs.Common.{[]}
 use Rattle.loop_tree.specs.Tiling.{tiled}
 use Rattle.run_callers.proofs.tiles.instances_rise_by_tiles_of_size_1.Goals as goal
 

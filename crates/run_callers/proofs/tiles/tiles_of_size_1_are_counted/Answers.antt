@@ -1,4 +1,4 @@
-use Rattle.std.proofs.Common.{[]}
+use Rattle.scop_syntax.proofs.Common.{[]}
 use Rattle.loop_tree.specs.Tiling.{tiled}
 use Rattle.run_callers.proofs.tiles.tiles_of_size_1_are_counted.Goals as goal
 

@@ -1,4 +1,4 @@
-use Rattle.std.proofs.Common.{refl}
+use Rattle.scop_syntax.proofs.Common.{refl}
 use Rattle.loop_tree.specs.Tiling.{kept}
 use Rattle.run_callers.proofs.tiles.tiles_of_the_source_lie_in_one_wave.Goals as goal
 

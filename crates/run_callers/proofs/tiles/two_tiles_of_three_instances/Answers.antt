@@ -1,4 +1,4 @@
-use Rattle.std.proofs.Common.{[], ◌∷◌, arith, sym}
+use Rattle.scop_syntax.proofs.Common.{[], ◌∷◌, arith, sym}
 use Rattle.loop_tree.specs.Tiling.{tiled}
 use Rattle.run_callers.proofs.tiles.two_tiles_of_three_instances.Goals as goal
 

@@ -1,4 +1,4 @@
-use Rattle.std.proofs.Common.{⊎_elim, arith}
+use Rattle.scop_syntax.proofs.Common.{⊎_elim, arith}
 use Rattle.run_callers.proofs.waiting.tiles_that_wait.Goals as goal
 
 pub returns-clause-released : goal.returns-clause-released

@@ -1,5 +1,4 @@
-use Rattle.std.proofs.Common.{rules, ◌≡◌, ◌++◌, ◌∷◌, [], ◌<◌, length}
-use Rattle.std.specs.Prelude.{Some, None, codes}
+use Rattle.std.proofs.Common.{rules, ◌≡◌, ◌++◌, ◌∷◌, [], ◌<◌, length, Some, None, codes}
 use Rattle.form_text.specs.Reading.{strip}
 use Rattle.schedule_lines.specs.Reading.{entry_in, numbers_in}
 use Rattle.schedule_lines.proofs.ReadLists.{numbers_end, numbers_more, numbers_stop}

@@ -1,5 +1,4 @@
-use Rattle.std.proofs.Common.{rules, refl, ap, ◌≡◌, ◌∙◌, ◌++◌, ◌∷◌, [], ◌<◌, length, map, get_or}
-use Rattle.std.specs.Prelude.{Some}
+use Rattle.std.proofs.Common.{rules, refl, ap, ◌≡◌, ◌∙◌, ◌++◌, ◌∷◌, [], ◌<◌, length, map, get_or, Some}
 use Rattle.std.proofs.lemmas.List.{map_push}
 use Rattle.schedule_lines.specs.Reading.{part_in, parts_in}
 use Rattle.schedule_lines.specs.View.{part_view}

@@ -1,5 +1,4 @@
-use Rattle.std.proofs.Common.{rules, ◌≡◌, ◌<◌}
-use Rattle.std.specs.Prelude.{None}
+use Rattle.std.proofs.Common.{rules, ◌≡◌, ◌<◌, None}
 use Rattle.schedule_lines.specs.Reading.{value_in, values_in}
 use Rattle.schedule_lines.proofs.ReadLists.{values_stop}
 use Rattle.schedule_lines.proofs.scalars.read_values.Goals as goal

@@ -1,4 +1,4 @@
-use Rattle.std.proofs.Common.{◌≡◌, ◌∙◌}
+use Rattle.scop_syntax.proofs.Common.{◌≡◌, ◌∙◌}
 use Rattle.schedule_rows.proofs.Chains.{along_chain}
 use Rattle.schedule_rows.proofs.pair_laws.kept_pairs_chain.Goals as goal
 

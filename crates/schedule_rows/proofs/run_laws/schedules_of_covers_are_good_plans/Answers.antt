@@ -1,4 +1,4 @@
-use Rattle.scop_syntax.specs.Walk.{instance, walk_of}
+use Rattle.scop_syntax.proofs.Common.{instance, walk_of}
 use Rattle.schedule_rows.proofs.CoverPlans.{conflict_along}
 use Rattle.schedule_rows.proofs.Tiling.{along_good}
 use Rattle.schedule_rows.proofs.WalkOrder.{WalkFacts, turns_rise}

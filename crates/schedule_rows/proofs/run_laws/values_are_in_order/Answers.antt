@@ -1,4 +1,4 @@
-use Rattle.std.specs.Prelude.{◌≡◌}
+use Rattle.scop_syntax.proofs.Common.{◌≡◌}
 use Rattle.schedule_rows.proofs.BlockOrder.{along_values}
 use Rattle.schedule_rows.proofs.run_laws.values_are_in_order.Goals as goal
 

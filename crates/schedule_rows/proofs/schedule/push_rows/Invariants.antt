@@ -1,4 +1,4 @@
-use Rattle.std.proofs.Common.{◌≡◌, ◌++◌, map}
+use Rattle.scop_syntax.proofs.Common.{◌≡◌, ◌++◌, map}
 use Rattle.schedule_rows.specs.Schedule.{row, item_of, marked_of}
 use Rattle.schedule_rows.proofs.schedule.push_rows.Given as goal
 

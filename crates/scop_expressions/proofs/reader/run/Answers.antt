@@ -1,6 +1,5 @@
-use Rattle.std.proofs.Common.{◌∙◌, get_or, sym, ap, ap₂, subst}
+use Rattle.std.proofs.Common.{◌∙◌, get_or, sym, ap, ap₂, subst, Err}
 use Rattle.scop_tokens.specs.declared.Token.TheVariants as token
-use Rattle.std.specs.Prelude.{Err}
 use Rattle.scop_expressions.specs.Gives.{Gives}
 use Rattle.scop_expressions.specs.Grammar.{told_at}
 use Rattle.scop_expressions.specs.Machine.{State, Answer, or_fault, unfit, unended, depth}

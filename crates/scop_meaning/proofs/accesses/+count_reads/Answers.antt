@@ -1,7 +1,4 @@
-use Rattle.std.proofs.Common.{length, ap, arith, length-append}
-use Rattle.scop_syntax.specs.Tree.{Expression}
-use Rattle.scop_syntax.specs.Cells.{reads_of}
-use Rattle.scop_syntax.specs.View.{expression_of}
+use Rattle.scop_syntax.proofs.Common.{length, ap, arith, length-append, Expression, reads_of, expression_of}
 use Rattle.scop_meaning.proofs.Chains.{chained}
 use Rattle.scop_meaning.proofs.Nodes.{negation, complement, conversion, left_shift, right_shift, narrowing}
 use Rattle.scop_meaning.proofs.accesses.+count_reads.Goals as goal

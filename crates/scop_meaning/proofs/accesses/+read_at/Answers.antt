@@ -1,11 +1,7 @@
-use Rattle.std.proofs.Common.{◌-◌, ◌<◌, ◌≤◌, length, ap, sym, ◌∙◌, arith}
-use Rattle.std.specs.Prelude.{slice_get}
+use Rattle.scop_syntax.proofs.Common.{◌-◌, ◌<◌, ◌≤◌, length, ap, sym, ◌∙◌, arith, slice_get, Expression, reads_of}
+use Rattle.scop_syntax.proofs.Common.{expression_of, expression_binary}
 use Rattle.whole_numbers.proofs.Entries.{get_front}
-use Rattle.scop_syntax.specs.Tree.{Expression}
 use Rattle.scop_syntax.specs.declared.tree.Expr.{Expr}
-use Rattle.scop_syntax.specs.Cells.{reads_of}
-use Rattle.scop_syntax.specs.View.{expression_of}
-use Rattle.scop_syntax.proofs.Views.{expression_binary}
 use Rattle.scop_meaning.proofs.Numbering.{get_back}
 use Rattle.scop_meaning.proofs.Nodes.{negation, complement, conversion, left_shift, right_shift, narrowing}
 use Rattle.scop_meaning.proofs.accesses.+read_at.Goals as goal

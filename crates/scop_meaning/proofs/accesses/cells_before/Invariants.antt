@@ -1,5 +1,4 @@
-use Rattle.std.proofs.Common.{◌≡◌, take}
-use Rattle.scop_syntax.specs.Execution.{total_cells}
+use Rattle.scop_syntax.proofs.Common.{◌≡◌, take, total_cells}
 use Rattle.scop_meaning.proofs.accesses.cells_before.Given as goal
 
 abbrev pub invariant-loop-at : goal.invariant-loop-at

@@ -1,6 +1,4 @@
-use Rattle.std.proofs.Common.{◌+◌, ◌<◌, ◌^◌, [], get_or, ap, ◌∙◌, arith, rules}
-use Rattle.scop_syntax.specs.Tree.{Access}
-use Rattle.scop_syntax.specs.Execution.{cell_count}
+use Rattle.scop_syntax.proofs.Common.{◌+◌, ◌<◌, ◌^◌, [], get_or, ap, ◌∙◌, arith, rules, Access, cell_count}
 use Rattle.scop_meaning.proofs.Numbering.{extents_at}
 use Rattle.scop_meaning.proofs.accesses.number_of.Goals as goal
 

@@ -1,9 +1,5 @@
-use Rattle.std.proofs.Common.{◌+◌, ◌*◌, ◌<◌, length, get_or, sym, subst, refl, arith, ap, ◌∙◌}
-use Rattle.std.specs.Prelude.{pos, ◌≤ℤ◌, ◌<ℤ◌}
-use Rattle.std.proofs.lemmas.List.{length-map}
-use Rattle.whole_numbers.specs.Affine.{value_of}
-use Rattle.scop_syntax.specs.Cells.{values}
-use Rattle.scop_syntax.specs.Execution.{size_of}
+use Rattle.scop_syntax.proofs.Common.{◌+◌, ◌*◌, ◌<◌, length, get_or, sym, subst, refl, arith, ap, ◌∙◌, pos, ◌≤ℤ◌, ◌<ℤ◌}
+use Rattle.scop_syntax.proofs.Common.{length-map, value_of, values, size_of}
 use Rattle.scop_meaning.proofs.Offsets.{
   OffsetSoFar,
   subscript_at,

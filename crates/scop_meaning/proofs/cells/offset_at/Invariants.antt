@@ -1,4 +1,4 @@
-use Rattle.scop_syntax.specs.Cells.{values}
+use Rattle.scop_syntax.proofs.Common.{values}
 use Rattle.scop_meaning.proofs.Offsets.{OffsetSoFar}
 use Rattle.scop_meaning.proofs.cells.offset_at.Given as goal
 

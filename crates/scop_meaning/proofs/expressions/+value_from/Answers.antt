@@ -1,7 +1,4 @@
-use Rattle.std.proofs.Common.{length, ap, ◌∙◌, arith, refl}
-use Rattle.scop_syntax.specs.Tree.{Expression}
-use Rattle.scop_syntax.specs.Cells.{reads_of}
-use Rattle.scop_syntax.specs.View.{expression_of, operator_of}
+use Rattle.scop_syntax.proofs.Common.{length, ap, ◌∙◌, arith, refl, Expression, reads_of, expression_of, operator_of}
 use Rattle.scop_meaning.proofs.Chains.{chained, chained_end, chained_value, expression_read}
 use Rattle.scop_meaning.proofs.Nodes.{negation, complement, conversion, left_shift, right_shift, narrowing}
 use Rattle.scop_meaning.proofs.expressions.+value_from.Goals as goal

@@ -1,14 +1,8 @@
-use Rattle.std.proofs.Common.{◌<◌, length, map, ap, sym, subst, ◌∙◌, ℕ, List, get_or, ◌≡◌}
-use Rattle.std.specs.Prelude.{ℤ, FitsSigned}
-use Rattle.std.specs.Int.{w64}
-use Rattle.std.proofs.lemmas.List.{get_or-map, length-map}
-use Rattle.std.proofs.lemmas.List.Elements.{All-get_or}
-use Rattle.whole_numbers.specs.Affine.{value_of}
+use Rattle.scop_syntax.proofs.Common.{◌<◌, length, map, ap, sym, subst, ◌∙◌, ℕ, List, get_or, ◌≡◌, ℤ, FitsSigned, w64}
+use Rattle.scop_syntax.proofs.Common.{get_or-map, length-map, All-get_or, value_of, test_of, test_form}
 use Rattle.scop_syntax.specs.Tree.{Test as Mirror}
 use Rattle.scop_syntax.specs.declared.tree.Test.{Test}
-use Rattle.scop_syntax.specs.View.{test_of}
 use Rattle.scop_syntax.specs.Fits.{TestsFit}
-use Rattle.scop_syntax.specs.Kernel.{test_form}
 use Rattle.scop_meaning.proofs.guards.all_hold.Goals as goal
 
 test_fits : (tests : List Test) (point : List ℤ) (i : ℕ) (t : Test) → t ≡ get_or tests i t → i < length tests

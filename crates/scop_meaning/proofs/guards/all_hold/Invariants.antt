@@ -1,5 +1,4 @@
-use Rattle.std.proofs.Common.{◌≡◌, drop, map}
-use Rattle.scop_syntax.specs.View.{test_of}
+use Rattle.scop_syntax.proofs.Common.{◌≡◌, drop, map, test_of}
 use Rattle.scop_syntax.specs.Walk.{all_hold as tests_hold}
 use Rattle.scop_meaning.proofs.guards.all_hold.Given as goal
 

@@ -1,12 +1,6 @@
-use Rattle.std.proofs.Common.{◌≡◌, ◌+◌, ◌<◌, List, length, drop, ap, ap₂, subst, sym, ◌∙◌, arith, rules, to_z, of_z}
-use Rattle.std.specs.Prelude.{ℤ, pos, FitsSigned}
-use Rattle.std.specs.Int.{w64}
-use Rattle.std.proofs.lemmas.Int.{to_z-of_z}
-use Rattle.whole_numbers.specs.Affine.{Affine, value_of}
-use Rattle.scop_syntax.specs.Tree.{Trees, Head, more, none}
-use Rattle.scop_syntax.specs.View.{items_of, tree_of}
-use Rattle.scop_syntax.specs.Walk.{turn_point}
-use Rattle.scop_syntax.proofs.Weights.{weight, weight_all, item_weight, item_here}
+use Rattle.scop_syntax.proofs.Common.{◌≡◌, ◌+◌, ◌<◌, List, length, drop, ap, ap₂, subst, sym, ◌∙◌, arith, rules, to_z}
+use Rattle.scop_syntax.proofs.Common.{of_z, ℤ, pos, FitsSigned, w64, to_z-of_z, Affine, value_of, Trees, Head, more}
+use Rattle.scop_syntax.proofs.Common.{none, items_of, tree_of, turn_point, weight, weight_all, item_weight, item_here}
 use Rattle.scop_meaning.specs.Conditions.{CanCheck, CanTurn}
 use Rattle.scop_meaning.specs.declared.loops.TheConstants.{ROOM}
 use Rattle.scop_meaning.proofs.WalkSteps.{can_turn, first_turn_fits}

@@ -1,7 +1,5 @@
-use Rattle.std.proofs.Common.{◌+◌, ◌<◌, ◌≤◌, length, ap, arith, rules}
-use Rattle.scop_syntax.specs.View.{items_of, tree_of}
-use Rattle.scop_syntax.specs.Walk.{statements_in, statements_in_all}
-use Rattle.scop_syntax.proofs.Weights.{weight, weight_all, item_weight, item_here}
+use Rattle.scop_syntax.proofs.Common.{◌+◌, ◌<◌, ◌≤◌, length, ap, arith, rules, items_of, tree_of, statements_in}
+use Rattle.scop_syntax.proofs.Common.{statements_in_all, weight, weight_all, item_weight, item_here}
 use Rattle.scop_meaning.proofs.index.+counting.Goals as goal
 
 pub count_all-count_in-count-requires : goal.count_all-count_in-count-requires

@@ -1,7 +1,4 @@
-use Rattle.std.proofs.Common.{◌≡◌, ◌+◌, drop}
-use Rattle.scop_syntax.specs.View.{items_of, tree_of}
-use Rattle.scop_syntax.specs.Walk.{statements_in_all}
-use Rattle.scop_syntax.proofs.Weights.{weight, weight_all}
+use Rattle.scop_syntax.proofs.Common.{◌≡◌, ◌+◌, drop, items_of, tree_of, statements_in_all, weight, weight_all}
 use Rattle.scop_meaning.proofs.index.+counting.Given as goal
 
 abbrev pub decreases-count_all : goal.decreases-count_all

@@ -1,10 +1,7 @@
-use Rattle.std.proofs.Common.{◌≡◌, ℕ, ◌+◌, length, Option, Some, None, ap, subst, sym, ◌∙◌, arith, length-append}
-use Rattle.std.specs.Prelude.{MatchOption, ⊤}
-use Rattle.scop_syntax.specs.Tree.{Expression}
+use Rattle.scop_syntax.proofs.Common.{◌≡◌, ℕ, ◌+◌, length, Option, Some, None, ap, subst, sym, ◌∙◌, arith}
+use Rattle.scop_syntax.proofs.Common.{length-append, MatchOption, ⊤, Expression, reads_of, expression_of}
+use Rattle.scop_syntax.proofs.Common.{expression_binary}
 use Rattle.scop_syntax.specs.declared.tree.Expr.{Expr}
-use Rattle.scop_syntax.specs.Cells.{reads_of}
-use Rattle.scop_syntax.specs.View.{expression_of}
-use Rattle.scop_syntax.proofs.Views.{expression_binary}
 use Rattle.scop_meaning.specs.declared.index.Outside.{Outside}
 use Rattle.scop_meaning.specs.Outside.{FindsFirst}
 use Rattle.scop_meaning.proofs.Checks.{found_left, found_right}

@@ -1,9 +1,5 @@
-use Rattle.std.proofs.Common.{ℕ, List, sym, subst}
-use Rattle.std.specs.Prelude.{ℤ}
+use Rattle.scop_syntax.proofs.Common.{ℕ, List, sym, subst, ℤ, program_of, items_of, layout, has_parameters}
 use Rattle.scop_syntax.specs.declared.tree.Item.{Item}
-use Rattle.scop_syntax.specs.View.{program_of, items_of}
-use Rattle.scop_syntax.specs.Execution.{layout}
-use Rattle.scop_syntax.specs.Limits.{has_parameters}
 use Rattle.scop_meaning.specs.Conditions.{CanCheck}
 use Rattle.scop_meaning.proofs.Kernels.{kernel_checks}
 use Rattle.scop_meaning.proofs.index.first_outside.Goals as goal

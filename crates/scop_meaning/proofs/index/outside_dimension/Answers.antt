@@ -17,12 +17,7 @@ use Rattle.std.proofs.Common.{
   to_z,
   of_z,
 }
-use Rattle.std.specs.Prelude.{ℤ, pos, FitsSigned}
-use Rattle.std.specs.Int.{w64}
-use Rattle.std.proofs.lemmas.Int.{to_z-of_z}
-use Rattle.std.proofs.lemmas.List.{length-map}
-use Rattle.whole_numbers.specs.Affine.{value_of}
-use Rattle.scop_syntax.specs.Cells.{values}
+use Rattle.scop_syntax.proofs.Common.{ℤ, pos, FitsSigned, w64, to_z-of_z, length-map, value_of, values}
 use Rattle.scop_syntax.specs.Failures.{is_within}
 use Rattle.scop_meaning.specs.declared.index.Outside.{Outside}
 use Rattle.scop_meaning.specs.Outside.{first_of}

@@ -1,7 +1,5 @@
-use Rattle.std.proofs.Common.{◌≡◌, ◌+◌, drop}
-use Rattle.scop_syntax.specs.Cells.{values}
+use Rattle.scop_syntax.proofs.Common.{◌≡◌, ◌+◌, drop, values, Visit}
 use Rattle.scop_syntax.specs.Failures.{outside_dimensions}
-use Rattle.scop_syntax.specs.Walk.{Visit}
 use Rattle.scop_meaning.specs.Outside.{first_of}
 use Rattle.scop_meaning.proofs.index.outside_dimension.Given as goal
 

@@ -1,14 +1,8 @@
-use Rattle.std.proofs.Common.{◌≡◌, ◌-◌, ◌+◌, ◌<◌, List, length, take, drop, get_or, ap, subst, sym, ◌∙◌, arith, rules}
-use Rattle.std.specs.Prelude.{ℤ, pos, ◌+ℤ◌, ◌*ℤ◌, FitsSigned}
-use Rattle.std.specs.Int.{w64}
-use Rattle.std.proofs.lemmas.Int.{to_z-of_z}
-use Rattle.whole_numbers.specs.Affine.{value_of}
-use Rattle.scop_syntax.specs.Tree.{Tree, loop, more, none}
+use Rattle.scop_syntax.proofs.Common.{◌≡◌, ◌-◌, ◌+◌, ◌<◌, List, length, take, drop, get_or, ap, subst, sym, ◌∙◌, arith}
+use Rattle.scop_syntax.proofs.Common.{rules, ℤ, pos, ◌+ℤ◌, ◌*ℤ◌, FitsSigned, w64, to_z-of_z, value_of, Tree, loop, more}
+use Rattle.scop_syntax.proofs.Common.{none, items_of, tree_of, turn_point, weight, weight_all}
 use Rattle.scop_syntax.specs.declared.tree.Item.{Item}
-use Rattle.scop_syntax.specs.View.{items_of, tree_of}
-use Rattle.scop_syntax.specs.Walk.{turn_point}
 use Rattle.scop_syntax.proofs.Views.{tree_loop}
-use Rattle.scop_syntax.proofs.Weights.{weight, weight_all}
 use Rattle.scop_meaning.specs.Instances.{CanFind, act_at, act_at_all}
 use Rattle.scop_meaning.specs.declared.loops.TheConstants.{ROOM}
 use Rattle.scop_meaning.proofs.StatementSearch.{can_enter, is_entered}

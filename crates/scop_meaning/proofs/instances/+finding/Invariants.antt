@@ -1,6 +1,4 @@
-use Rattle.std.proofs.Common.{◌+◌}
-use Rattle.scop_syntax.specs.View.{items_of, tree_of}
-use Rattle.scop_syntax.proofs.Weights.{weight, weight_all}
+use Rattle.scop_syntax.proofs.Common.{◌+◌, items_of, tree_of, weight, weight_all}
 use Rattle.scop_meaning.proofs.instances.+finding.Given as goal
 
 abbrev pub decreases-find_among : goal.decreases-find_among

@@ -1,12 +1,6 @@
-use Rattle.std.proofs.Common.{◌≡◌, ◌<◌, ℕ, List, Some, length, ap, subst, sym, ◌∙◌}
-use Rattle.std.specs.Prelude.{ℤ, slice_get}
-use Rattle.scop_syntax.specs.Acts.{Act}
-use Rattle.scop_syntax.specs.Cells.{accesses, cell_of}
-use Rattle.scop_syntax.specs.Execution.{IsCell, cell_number, layout}
-use Rattle.scop_syntax.specs.Tree.{Access}
-use Rattle.scop_syntax.specs.View.{instance_of, program_of}
-use Rattle.scop_syntax.specs.Walk.{instance, walk_of}
-use Rattle.scop_syntax.proofs.Members.{in_from_place, in_map_from}
+use Rattle.scop_syntax.proofs.Common.{◌≡◌, ◌<◌, ℕ, List, Some, length, ap, subst, sym, ◌∙◌, ℤ, slice_get, Act, accesses}
+use Rattle.scop_syntax.proofs.Common.{cell_of, IsCell, cell_number, layout, Access, instance_of, program_of, instance}
+use Rattle.scop_syntax.proofs.Common.{walk_of, in_from_place, in_map_from}
 use Rattle.scop_meaning.specs.Instances.{AreLayout, IsVisitOf}
 use Rattle.scop_meaning.proofs.instances.cell.Goals as goal
 

@@ -1,12 +1,7 @@
-use Rattle.std.proofs.Common.{◌≤◌, List, length, ap, subst, sym, refl}
-use Rattle.std.specs.Prelude.{ℤ}
-use Rattle.scop_syntax.specs.Acts.{Act}
+use Rattle.scop_syntax.proofs.Common.{◌≤◌, List, length, ap, subst, sym, refl, ℤ, Act, instance_of, items_of}
+use Rattle.scop_syntax.proofs.Common.{program_of, Instance, Visit, instance, walk_of, has_parameters, in_map_from}
 use Rattle.scop_syntax.specs.Cells.{reads as reads_by}
 use Rattle.scop_syntax.specs.declared.tree.Item.{Item}
-use Rattle.scop_syntax.specs.View.{instance_of, items_of, program_of}
-use Rattle.scop_syntax.specs.Walk.{Instance, Visit, instance, walk_of}
-use Rattle.scop_syntax.specs.Limits.{has_parameters}
-use Rattle.scop_syntax.proofs.Members.{in_map_from}
 use Rattle.scop_meaning.specs.Instances.{CanFind}
 use Rattle.scop_meaning.proofs.StatementSearch.{can_find, found_visit}
 use Rattle.scop_meaning.proofs.instances.find.Goals as goal

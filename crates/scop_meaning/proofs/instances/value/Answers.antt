@@ -1,11 +1,6 @@
-use Rattle.std.proofs.Common.{List, length, ap, sym, ◌∙◌}
-use Rattle.std.specs.Prelude.{ℤ}
-use Rattle.scop_syntax.specs.Acts.{Act}
+use Rattle.scop_syntax.proofs.Common.{List, length, ap, sym, ◌∙◌, ℤ, Act, stored_by, instance_of, program_of}
+use Rattle.scop_syntax.proofs.Common.{statement_of, instance, walk_of, in_map_from}
 use Rattle.scop_syntax.specs.Cells.{reads as reads_by}
-use Rattle.scop_syntax.specs.Values.{stored_by}
-use Rattle.scop_syntax.specs.View.{instance_of, program_of, statement_of}
-use Rattle.scop_syntax.specs.Walk.{instance, walk_of}
-use Rattle.scop_syntax.proofs.Members.{in_map_from}
 use Rattle.scop_meaning.specs.Instances.{IsVisitOf}
 use Rattle.scop_meaning.proofs.Numbering.{reads_wanted}
 use Rattle.scop_meaning.proofs.instances.value.Goals as goal

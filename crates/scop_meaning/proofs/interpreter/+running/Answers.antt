@@ -1,17 +1,11 @@
-use Rattle.std.proofs.Common.{◌≡◌, ◌+◌, ◌<◌, ℕ, List, length, drop, ap, ap₂, subst, sym, ◌∙◌, arith, rules, to_z, of_z}
-use Rattle.std.specs.Prelude.{ℤ, pos, FitsSigned}
-use Rattle.std.specs.Int.{w64}
-use Rattle.std.proofs.lemmas.Int.{to_z-of_z}
-use Rattle.whole_numbers.specs.Affine.{Affine, value_of}
-use Rattle.scop_syntax.specs.Cells.{accesses}
-use Rattle.scop_syntax.specs.Tree.{Tree, Trees, Head, statement, more, none}
-use Rattle.scop_syntax.specs.View.{items_of, tree_of, statement_of}
+use Rattle.scop_syntax.proofs.Common.{◌≡◌, ◌+◌, ◌<◌, ℕ, List, length, drop, ap, ap₂, subst, sym, ◌∙◌, arith, rules}
+use Rattle.scop_syntax.proofs.Common.{to_z, of_z, ℤ, pos, FitsSigned, w64, to_z-of_z, Affine, value_of, accesses, Tree}
+use Rattle.scop_syntax.proofs.Common.{Trees, Head, statement, more, none, items_of, tree_of, statement_of, turn_point}
+use Rattle.scop_syntax.proofs.Common.{weight, weight_all, item_weight, item_here}
 use Rattle.scop_syntax.specs.declared.tree.Item.{Item}
 use Rattle.scop_syntax.specs.declared.tree.Item.TheVariants as variant
 use Rattle.scop_syntax.specs.declared.tree.Stmt.{Stmt}
-use Rattle.scop_syntax.specs.Walk.{turn_point}
 use Rattle.scop_syntax.proofs.Views.{tree_statement}
-use Rattle.scop_syntax.proofs.Weights.{weight, weight_all, item_weight, item_here}
 use Rattle.scop_meaning.specs.Conditions.{CanRun, CanTurn, AreCells}
 use Rattle.scop_meaning.specs.declared.loops.TheConstants.{ROOM}
 use Rattle.scop_meaning.proofs.WalkSteps.{can_turn, first_turn_fits, loop_head, loop_space}

@@ -1,10 +1,6 @@
-use Rattle.std.proofs.Common.{List, ap, sym, subst, ◌∙◌, arith}
-use Rattle.std.specs.Prelude.{ℤ, ℕ}
+use Rattle.scop_syntax.proofs.Common.{List, ap, sym, subst, ◌∙◌, arith, ℤ, ℕ, program_of, items_of, IsShaped, held}
+use Rattle.scop_syntax.proofs.Common.{layout, acts_all, has_parameters}
 use Rattle.scop_syntax.specs.declared.tree.Item.{Item}
-use Rattle.scop_syntax.specs.View.{program_of, items_of}
-use Rattle.scop_syntax.specs.Execution.{IsShaped, held, layout}
-use Rattle.scop_syntax.specs.Acts.{acts_all}
-use Rattle.scop_syntax.specs.Limits.{has_parameters}
 use Rattle.scop_meaning.specs.Conditions.{CanRun, ran}
 use Rattle.scop_meaning.proofs.Kernels.{kernel_runs, exec_is}
 use Rattle.scop_meaning.proofs.interpreter.run_plain.Goals as goal

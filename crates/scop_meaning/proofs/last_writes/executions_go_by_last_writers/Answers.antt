@@ -1,7 +1,5 @@
-use Rattle.std.proofs.Common.{ap, sym, ◌∙◌}
-use Rattle.scop_syntax.specs.Execution.{before_place, layout, value_stored, values_read}
-use Rattle.scop_syntax.specs.Values.{stored_by}
-use Rattle.scop_syntax.specs.Walk.{walk_of}
+use Rattle.scop_syntax.proofs.Common.{ap, sym, ◌∙◌, before_place, layout, value_stored, stored_by, walk_of}
+use Rattle.scop_syntax.specs.Execution.{values_read}
 use Rattle.scop_meaning.proofs.last_writes.executions_go_by_last_writers.Goals as goal
 
 pub returns-clause-cells : goal.returns-clause-cells

@@ -1,9 +1,6 @@
-use Rattle.std.proofs.Common.{◌≡◌, List, [], ◌∷◌, ◌++◌, ap, ap₂, ◌∙◌, rules}
-use Rattle.std.specs.Prelude.{ℤ, ◌+ℤ◌, ◌*ℤ◌, FitsSigned}
-use Rattle.std.specs.Int.{w64, int_wrap}
-use Rattle.std.proofs.lemmas.Int.{int_wrap_fits, int_wrap-add_left, to_z-of_z}
-use Rattle.whole_numbers.specs.Affine.{Affine, value_of}
-use Rattle.scop_syntax.specs.Tree.{Head}
+use Rattle.scop_syntax.proofs.Common.{◌≡◌, List, [], ◌∷◌, ◌++◌, ap, ap₂, ◌∙◌, rules, ℤ, ◌+ℤ◌, ◌*ℤ◌, FitsSigned, w64}
+use Rattle.scop_syntax.proofs.Common.{int_wrap_fits, int_wrap-add_left, to_z-of_z, Affine, value_of, Head}
+use Rattle.std.specs.Int.{int_wrap}
 use Rattle.scop_meaning.proofs.loops.enter_at.Goals as goal
 
 pub returns-clause-wrapped : goal.returns-clause-wrapped

@@ -1,10 +1,6 @@
-use Rattle.std.proofs.Common.{◌≡◌, ◌/◌, ◌+◌, List, arith, rules, ap, ap₂, subst, sym, ◌∙◌}
-use Rattle.std.specs.Prelude.{ℤ, pos, ◌≤ℤ◌, FitsSigned, unsigned_abs}
-use Rattle.std.specs.Int.{w64}
-use Rattle.std.proofs.lemmas.Int.{ints, to_z-of_z}
-use Rattle.whole_numbers.specs.Affine.{Affine, value_of}
-use Rattle.scop_syntax.specs.Tree.{Head}
-use Rattle.scop_syntax.specs.Walk.{RunsFor, condition_at}
+use Rattle.scop_syntax.proofs.Common.{◌≡◌, ◌/◌, ◌+◌, List, arith, rules, ap, ap₂, subst, sym, ◌∙◌, ℤ, pos, ◌≤ℤ◌}
+use Rattle.scop_syntax.proofs.Common.{FitsSigned, unsigned_abs, w64, ints, to_z-of_z, Affine, value_of, Head, RunsFor}
+use Rattle.scop_syntax.proofs.Common.{condition_at}
 use Rattle.scop_meaning.proofs.Turns.{runs_head}
 use Rattle.scop_meaning.proofs.loops.turns_of.Goals as goal
 

@@ -1,4 +1,4 @@
-use Rattle.std.proofs.Common.{arith}
+use Rattle.scop_syntax.proofs.Common.{arith}
 use Rattle.scop_meaning.proofs.Shifts.{none_left}
 use Rattle.scop_meaning.proofs.operators.shifted_left.Goals as goal
 

@@ -1,4 +1,4 @@
-use Rattle.std.proofs.Common.{◌<◌, ◌^◌, arith, rules}
+use Rattle.scop_syntax.proofs.Common.{◌<◌, ◌^◌, arith, rules}
 use Rattle.scop_meaning.proofs.Shifts.{none_right}
 use Rattle.scop_meaning.proofs.operators.shifted_right.Goals as goal
 

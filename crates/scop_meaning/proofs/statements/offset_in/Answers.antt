@@ -1,7 +1,5 @@
-use Rattle.std.proofs.Common.{ℕ, List, [], ◌<◌, ◌^◌, get_or, length, subst, sym, ap, ◌∙◌, ◌≡◌, rules}
-use Rattle.scop_syntax.specs.Tree.{Access}
-use Rattle.scop_syntax.specs.Cells.{cell_of}
-use Rattle.scop_syntax.specs.Execution.{cell_count, offset_of}
+use Rattle.scop_syntax.proofs.Common.{ℕ, List, [], ◌<◌, ◌^◌, get_or, length, subst, sym, ap, ◌∙◌, ◌≡◌, rules, Access}
+use Rattle.scop_syntax.proofs.Common.{cell_of, cell_count, offset_of}
 use Rattle.scop_syntax.proofs.Memory.{cell_array, cell_offset}
 use Rattle.scop_meaning.proofs.statements.offset_in.Goals as goal
 

@@ -1,9 +1,5 @@
-use Rattle.std.proofs.Common.{◌∙◌, ℕ, ap, inl, length, refl}
-use Rattle.std.proofs.lemmas.List.{length-map}
-use Rattle.scop_syntax.specs.Cells.{cell_of, reads as reads_by}
-use Rattle.scop_syntax.specs.Execution.{held}
-use Rattle.scop_syntax.specs.Tree.{Access}
-use Rattle.scop_syntax.specs.View.{statement_of}
+use Rattle.scop_syntax.proofs.Common.{◌∙◌, ℕ, ap, inl, length, refl, length-map, cell_of, held, Access, statement_of}
+use Rattle.scop_syntax.specs.Cells.{reads as reads_by}
 use Rattle.scop_meaning.proofs.Numbering.{reads_wanted}
 use Rattle.scop_meaning.proofs.statements.run_statement.Goals as goal
 

@@ -1,13 +1,8 @@
-use Rattle.std.proofs.Common.{◌≡◌, ◌∙◌, ◌+◌, ◌<◌, ℕ, List, [], ◌∷◌, ◌++◌, Some, ap, ap₂, arith, length, suc}
-use Rattle.std.proofs.Common.{sym}
-use Rattle.std.specs.Prelude.{slice_get}
+use Rattle.scop_syntax.proofs.Common.{◌≡◌, ◌∙◌, ◌+◌, ◌<◌, ℕ, List, [], ◌∷◌, ◌++◌, Some, ap, ap₂, arith, length, suc}
+use Rattle.scop_syntax.proofs.Common.{sym, slice_get, get_or_from_slice_get, accesses, cell_of, held, Access}
+use Rattle.scop_syntax.proofs.Common.{statement_of, in_from_place}
 use Rattle.std.proofs.lemmas.List.{map_more}
-use Rattle.std.proofs.lemmas.Option.{get_or_from_slice_get}
-use Rattle.scop_syntax.specs.Cells.{accesses, cell_of, reads as reads_by}
-use Rattle.scop_syntax.specs.Execution.{held}
-use Rattle.scop_syntax.specs.Tree.{Access}
-use Rattle.scop_syntax.specs.View.{statement_of}
-use Rattle.scop_syntax.proofs.Members.{in_from_place}
+use Rattle.scop_syntax.specs.Cells.{reads as reads_by}
 use Rattle.scop_meaning.proofs.statements.values_read.Goals as goal
 
 pub read-requires-clause-cell : goal.read-requires-clause-cell

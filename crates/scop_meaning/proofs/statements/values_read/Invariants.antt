@@ -1,7 +1,5 @@
-use Rattle.std.proofs.Common.{◌≡◌, map, take}
-use Rattle.scop_syntax.specs.Cells.{cell_of, reads as reads_by}
-use Rattle.scop_syntax.specs.Execution.{held}
-use Rattle.scop_syntax.specs.View.{statement_of}
+use Rattle.scop_syntax.proofs.Common.{◌≡◌, map, take, cell_of, held, statement_of}
+use Rattle.scop_syntax.specs.Cells.{reads as reads_by}
 use Rattle.scop_meaning.proofs.statements.values_read.Given as goal
 
 abbrev pub invariant-loop-number : goal.invariant-loop-number

@@ -1,4 +1,4 @@
-use Rattle.std.proofs.Common.{◌∙◌}
+use Rattle.scop_syntax.proofs.Common.{◌∙◌}
 use Rattle.scop_meaning.proofs.statements.write.Goals as goal
 
 pub returns-clause-ready : goal.returns-clause-ready

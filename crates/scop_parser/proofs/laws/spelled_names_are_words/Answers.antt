@@ -1,5 +1,4 @@
-use Rattle.std.proofs.Common.{sym, subst}
-use Rattle.std.specs.Prelude.{All}
+use Rattle.scop_syntax.proofs.Common.{sym, subst, All}
 use Rattle.scop_lexer.specs.Words.{IsName}
 use Rattle.scop_units.specs.Names.{HasDistinctNames, header_names}
 use Rattle.scop_units.specs.Words.{words_of}

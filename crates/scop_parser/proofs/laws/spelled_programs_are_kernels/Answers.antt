@@ -1,5 +1,4 @@
-use Rattle.std.proofs.Common.{sym, subst}
-use Rattle.scop_syntax.specs.Kernel.{IsKernel}
+use Rattle.scop_syntax.proofs.Common.{sym, subst, IsKernel}
 use Rattle.scop_units.specs.Names.{HasDistinctNames}
 use Rattle.scop_units.specs.Words.{words_of}
 use Rattle.scop_parser.proofs.Worth.{has_worth}

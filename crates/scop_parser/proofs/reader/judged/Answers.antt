@@ -1,4 +1,4 @@
-use Rattle.std.proofs.Common.{rules, ◌≤◌, ◌^◌, ◌++◌, List, length, subst, sym, ap, ◌∙◌}
+use Rattle.scop_syntax.proofs.Common.{rules, ◌≤◌, ◌^◌, ◌++◌, List, length, subst, sym, ap, ◌∙◌}
 use Rattle.scop_grammar.specs.Kernel.{Piece}
 use Rattle.scop_grammar.specs.Turns.{pieces_of}
 use Rattle.scop_pass.specs.Machine.{first_state, run}

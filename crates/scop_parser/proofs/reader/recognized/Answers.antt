@@ -1,4 +1,4 @@
-use Rattle.std.proofs.Common.{◌++◌, []}
+use Rattle.scop_syntax.proofs.Common.{◌++◌, []}
 use Rattle.scop_parser.proofs.TokenFeed.{all_seen, early_stops, fed_first, fed_on, fed_stops, fed_taken, whole_kernel}
 use Rattle.scop_parser.proofs.reader.recognized.Goals as goal
 

@@ -1,5 +1,5 @@
 -- The reader stands behind the tokens so far.
-use Rattle.std.proofs.Common.{List}
+use Rattle.scop_syntax.proofs.Common.{List}
 use Rattle.scop_grammar.specs.Kernel.{Piece}
 use Rattle.scop_units.specs.View.{tokens_in}
 use Rattle.scop_units.specs.Words.{grammar_tokens}

@@ -1,4 +1,4 @@
-use Rattle.std.proofs.Common.{◌∙◌, sym, ap}
+use Rattle.scop_syntax.proofs.Common.{◌∙◌, sym, ap}
 use Rattle.scop_grammar.specs.Kernel.{kernel_elements}
 use Rattle.scop_roles.specs.Faults.{first}
 use Rattle.scop_pass.proofs.Kernels.{run-faults}

@@ -1,4 +1,4 @@
-use Rattle.std.proofs.Common.{sym, ◌∙◌}
+use Rattle.scop_syntax.proofs.Common.{sym, ◌∙◌}
 use Rattle.scop_roles.proofs.Firsts.{first_none}
 use Rattle.scop_pass.proofs.pass.checked.Goals as goal
 

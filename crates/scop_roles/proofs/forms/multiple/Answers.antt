@@ -1,5 +1,4 @@
-use Rattle.std.proofs.Common.{rules, ◌≡◌, ap, ◌∙◌, length}
-use Rattle.whole_numbers.proofs.Dot.{length-multiples}
+use Rattle.scop_syntax.proofs.Common.{rules, ◌≡◌, ap, ◌∙◌, length, length-multiples}
 use Rattle.scop_roles.proofs.forms.multiple.Goals as goal
 
 pub returns-clause-entries : goal.returns-clause-entries

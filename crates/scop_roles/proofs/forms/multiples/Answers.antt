@@ -1,7 +1,5 @@
-use Rattle.std.proofs.Common.{rules, ◌^◌, ◌≤◌, length, pos, get_or, arith, FitsSigned}
-use Rattle.std.specs.Int.{w64}
-use Rattle.std.proofs.lemmas.Int.{to_z-of_z}
-use Rattle.scop_syntax.proofs.Limits.{at_most_at, at_most_more}
+use Rattle.scop_syntax.proofs.Common.{rules, ◌^◌, ◌≤◌, length, pos, get_or, arith, FitsSigned, w64, to_z-of_z}
+use Rattle.scop_syntax.proofs.Common.{at_most_at, at_most_more}
 use Rattle.scop_roles.proofs.Multiples.{multiples_next, multiples_all}
 use Rattle.scop_roles.proofs.forms.multiples.Goals as goal
 

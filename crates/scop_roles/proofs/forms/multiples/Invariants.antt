@@ -1,5 +1,4 @@
-use Rattle.std.proofs.Common.{◌≡◌, ◌++◌, drop}
-use Rattle.whole_numbers.specs.Lists.{multiples}
+use Rattle.scop_syntax.proofs.Common.{◌≡◌, ◌++◌, drop, multiples}
 use Rattle.scop_roles.proofs.forms.multiples.Given as goal
 
 abbrev pub invariant-loop-number : goal.invariant-loop-number

@@ -1,7 +1,4 @@
-use Rattle.std.proofs.Common.{rules, FitsSigned}
-use Rattle.std.specs.Int.{w64}
-use Rattle.std.proofs.lemmas.Int.{to_z-of_z}
-use Rattle.whole_numbers.proofs.Dot.{sums-nil}
+use Rattle.scop_syntax.proofs.Common.{rules, FitsSigned, w64, to_z-of_z, sums-nil}
 use Rattle.scop_roles.proofs.forms.plus_constant.Goals as goal
 
 pub returns : goal.returns

@@ -1,7 +1,4 @@
-use Rattle.std.proofs.Common.{◌^◌, refl, arith, FitsSigned}
-use Rattle.std.specs.Prelude.{◌*ℤ◌}
-use Rattle.std.specs.Int.{w64}
-use Rattle.std.proofs.lemmas.Int.{to_z-of_z, fits_signed_mul}
+use Rattle.scop_syntax.proofs.Common.{◌^◌, refl, arith, FitsSigned, ◌*ℤ◌, w64, to_z-of_z, fits_signed_mul}
 use Rattle.scop_roles.proofs.forms.product.Goals as goal
 
 pub returns : goal.returns

@@ -1,5 +1,4 @@
-use Rattle.std.proofs.Common.{rules, ◌≡◌, length, ap, sym, ◌∙◌}
-use Rattle.whole_numbers.proofs.Dot.{length-sums}
+use Rattle.scop_syntax.proofs.Common.{rules, ◌≡◌, length, ap, sym, ◌∙◌, length-sums}
 use Rattle.scop_roles.proofs.forms.sum.Goals as goal
 
 pub returns-clause-entries : goal.returns-clause-entries

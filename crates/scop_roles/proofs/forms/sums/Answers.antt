@@ -1,7 +1,4 @@
-use Rattle.std.proofs.Common.{rules, ◌^◌, ◌≤◌, length, pos, get_or, FitsSigned}
-use Rattle.std.specs.Int.{w64}
-use Rattle.std.proofs.lemmas.Int.{to_z-of_z}
-use Rattle.scop_syntax.proofs.Limits.{at_most_at}
+use Rattle.scop_syntax.proofs.Common.{rules, ◌^◌, ◌≤◌, length, pos, get_or, FitsSigned, w64, to_z-of_z, at_most_at}
 use Rattle.scop_roles.proofs.Multiples.{sums_next, sums_all}
 use Rattle.scop_roles.proofs.forms.sums.Goals as goal
 

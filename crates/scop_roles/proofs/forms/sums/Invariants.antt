@@ -1,5 +1,4 @@
-use Rattle.std.proofs.Common.{◌≡◌, ◌++◌, drop}
-use Rattle.whole_numbers.specs.Lists.{sums}
+use Rattle.scop_syntax.proofs.Common.{◌≡◌, ◌++◌, drop, sums}
 use Rattle.scop_roles.proofs.forms.sums.Given as goal
 
 abbrev pub invariant-loop-at : goal.invariant-loop-at

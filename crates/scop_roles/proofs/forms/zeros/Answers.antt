@@ -1,5 +1,4 @@
-use Rattle.std.proofs.Common.{rules, sym}
-use Rattle.whole_numbers.proofs.Dot.{replicate-zeros}
+use Rattle.scop_syntax.proofs.Common.{rules, sym, replicate-zeros}
 use Rattle.scop_roles.proofs.forms.zeros.Goals as goal
 
 pub returns : goal.returns

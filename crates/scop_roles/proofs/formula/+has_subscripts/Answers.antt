@@ -1,5 +1,5 @@
-use Rattle.std.proofs.Common.{rules, ◌≡◌, ◌-◌, ◌==◌, ◌<◌, ◌≤◌, nat_lt, false, length, map, ap, sym, ◌∙◌, arith}
-use Rattle.std.proofs.lemmas.List.{length-map}
+use Rattle.scop_syntax.proofs.Common.{rules, ◌≡◌, ◌-◌, ◌==◌, ◌<◌, ◌≤◌, nat_lt, false, length, map, ap, sym, ◌∙◌, arith}
+use Rattle.scop_syntax.proofs.Common.{length-map}
 use Rattle.scop_roles.specs.Formula.{formula_of, subscripts}
 use Rattle.scop_roles.proofs.Views.{formula_index}
 use Rattle.scop_roles.proofs.Chains.{index_counts, index_lacks}

@@ -1,5 +1,4 @@
-use Rattle.std.proofs.Common.{rules, ◌<◌, ◌≤◌, [], length, fold, ap, sym, subst, ◌∙◌, arith}
-use Rattle.std.proofs.lemmas.List.{drop_all}
+use Rattle.scop_syntax.proofs.Common.{rules, ◌<◌, ◌≤◌, [], length, fold, ap, sym, subst, ◌∙◌, arith, drop_all}
 use Rattle.scop_expressions.specs.Tree.{size}
 use Rattle.scop_expressions.specs.declared.node.Node.TheVariants as node
 use Rattle.scop_expressions.specs.Base.TheVariants as base

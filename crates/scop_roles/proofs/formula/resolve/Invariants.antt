@@ -1,4 +1,4 @@
-use Rattle.std.proofs.Common.{◌≡◌, drop, fold, []}
+use Rattle.scop_syntax.proofs.Common.{◌≡◌, drop, fold, []}
 use Rattle.scop_roles.specs.Resolving.{built, held}
 use Rattle.scop_roles.proofs.formula.resolve.Given as goal
 

@@ -1,5 +1,4 @@
-use Rattle.std.proofs.Common.{map, fold, ap, sym, subst, ◌∙◌, refl, arith}
-use Rattle.std.specs.Prelude.{IfOk}
+use Rattle.scop_syntax.proofs.Common.{map, fold, ap, sym, subst, ◌∙◌, refl, arith, IfOk}
 use Rattle.scop_roles.specs.Formula.{argument_of, binary, cast, index, formula_of, unary, with_argument}
 use Rattle.scop_roles.specs.Judgement.{IsJudgement}
 use Rattle.scop_roles.proofs.Views.{formula_index, formula_bare_call, formula_unary, formula_cast, formula_commas}

@@ -1,5 +1,4 @@
-use Rattle.std.proofs.Common.{map, drop, fold}
-use Rattle.std.specs.Prelude.{IfOk}
+use Rattle.scop_syntax.proofs.Common.{map, drop, fold, IfOk}
 use Rattle.scop_roles.specs.Formula.{Formula, argument_of, formula_of, index, with_argument}
 use Rattle.scop_roles.specs.Judgement.{HasForm, IsJudgement}
 use Rattle.scop_roles.proofs.Chains.{Makes}

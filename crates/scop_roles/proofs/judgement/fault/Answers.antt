@@ -1,4 +1,4 @@
-use Rattle.std.proofs.Common.{◌∙◌}
+use Rattle.scop_syntax.proofs.Common.{◌∙◌}
 use Rattle.scop_roles.specs.Formula.{formula_of}
 use Rattle.scop_roles.proofs.NodeFaults.{faults_at}
 use Rattle.scop_roles.proofs.judgement.fault.Goals as goal

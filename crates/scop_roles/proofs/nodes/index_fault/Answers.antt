@@ -1,4 +1,4 @@
-use Rattle.std.proofs.Common.{ap, ◌∙◌}
+use Rattle.scop_syntax.proofs.Common.{ap, ◌∙◌}
 use Rattle.scop_roles.specs.Formula.{index}
 use Rattle.scop_roles.specs.Judgement.{is_zero, one_less}
 use Rattle.scop_roles.proofs.NodeFaults.{index_first, lacks_none}

@@ -1,4 +1,4 @@
-use Rattle.std.proofs.Common.{ap, ◌∙◌}
+use Rattle.scop_syntax.proofs.Common.{ap, ◌∙◌}
 use Rattle.scop_roles.specs.Faults.{first, told}
 use Rattle.scop_roles.proofs.nodes.of_bare_call.Goals as goal
 

@@ -1,5 +1,4 @@
-use Rattle.std.proofs.Common.{ap, ap₂, subst, ◌∙◌}
-use Rattle.std.specs.Prelude.{IfOk}
+use Rattle.scop_syntax.proofs.Common.{ap, ap₂, subst, ◌∙◌, IfOk}
 use Rattle.scop_roles.specs.Faults.{first, first_of, told}
 use Rattle.scop_roles.specs.Judgement.{IsJudgement}
 use Rattle.scop_roles.proofs.nodes.of_call.Goals as goal

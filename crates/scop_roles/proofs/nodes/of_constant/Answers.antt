@@ -1,4 +1,4 @@
-use Rattle.std.proofs.Common.{rules, refl}
+use Rattle.scop_syntax.proofs.Common.{rules, refl}
 use Rattle.scop_roles.proofs.nodes.of_constant.Goals as goal
 
 pub returns : goal.returns

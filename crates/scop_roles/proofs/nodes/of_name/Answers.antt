@@ -1,4 +1,4 @@
-use Rattle.std.proofs.Common.{rules, ◌∙◌, refl}
+use Rattle.scop_syntax.proofs.Common.{rules, ◌∙◌, refl}
 use Rattle.scop_roles.proofs.NodeForms.{long_name}
 use Rattle.scop_roles.proofs.nodes.of_name.Goals as goal
 

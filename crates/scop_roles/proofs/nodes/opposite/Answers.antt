@@ -1,4 +1,4 @@
-use Rattle.std.proofs.Common.{◌≢◌, None, sym, subst}
+use Rattle.scop_syntax.proofs.Common.{◌≢◌, None, sym, subst}
 use Rattle.scop_roles.specs.declared.fault.Kind.TheVariants as kind
 use Rattle.scop_roles.specs.declared.formula.Role.TheVariants as role
 use Rattle.scop_roles.specs.Formula.{unary}

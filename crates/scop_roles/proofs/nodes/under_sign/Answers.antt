@@ -1,4 +1,4 @@
-use Rattle.std.proofs.Common.{refl}
+use Rattle.scop_syntax.proofs.Common.{refl}
 use Rattle.scop_roles.proofs.nodes.under_sign.Goals as goal
 
 pub returns : goal.returns

@@ -1,4 +1,4 @@
-use Rattle.std.proofs.Common.{negsuc, arith}
+use Rattle.scop_syntax.proofs.Common.{negsuc, arith}
 use Rattle.scop_roles.proofs.Sizes.{affine_wide, multiple_wide}
 use Rattle.scop_roles.proofs.sides.combined.Goals as goal
 

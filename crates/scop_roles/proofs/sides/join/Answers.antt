@@ -1,4 +1,4 @@
-use Rattle.std.proofs.Common.{◌≡◌, true, inl, inr, sym, ◌∙◌}
+use Rattle.scop_syntax.proofs.Common.{◌≡◌, true, inl, inr, sym, ◌∙◌}
 use Rattle.scop_roles.specs.Forms.{is_sum_or_product}
 use Rattle.scop_roles.proofs.NodeForms.{joined_other, joined_names, joined_missing, joined_form, within_limits}
 use Rattle.scop_roles.proofs.sides.join.Goals as goal

@@ -1,4 +1,4 @@
-use Rattle.std.proofs.Common.{refl}
+use Rattle.scop_syntax.proofs.Common.{refl}
 use Rattle.scop_roles.proofs.NodeForms.{long_sides}
 use Rattle.scop_roles.proofs.sides.over_sides.Goals as goal
 

@@ -1,4 +1,4 @@
-use Rattle.std.proofs.Common.{◌≡◌, true, ap, subst, ◌∙◌}
+use Rattle.scop_syntax.proofs.Common.{◌≡◌, true, ap, subst, ◌∙◌}
 use Rattle.scop_roles.specs.Formula.{formula_of}
 use Rattle.scop_roles.specs.Forms.{is_signed, has_name}
 use Rattle.scop_roles.proofs.Views.{formula_binary}

@@ -1,4 +1,4 @@
-use Rattle.std.proofs.Common.{rules, ◌≡◌, map, fold, ap, sym, subst, ◌∙◌}
+use Rattle.scop_syntax.proofs.Common.{rules, ◌≡◌, map, fold, ap, sym, subst, ◌∙◌}
 use Rattle.scop_roles.specs.Formula.{formula_of, index}
 use Rattle.scop_roles.proofs.Views.{formula_index}
 use Rattle.scop_roles.proofs.Chains.{HasForms}

@@ -1,4 +1,4 @@
-use Rattle.std.proofs.Common.{◌≡◌, [], ◌∷◌, ◌++◌, map, fold, ap, sym, subst, ◌∙◌, refl, arith}
+use Rattle.scop_syntax.proofs.Common.{◌≡◌, [], ◌∷◌, ◌++◌, map, fold, ap, sym, subst, ◌∙◌, refl, arith}
 use Rattle.scop_expressions.specs.Op.TheVariants as op
 use Rattle.scop_roles.specs.Formula.{argument_of, formula_of, place, with_argument}
 use Rattle.scop_roles.specs.Values.{read_places}

@@ -1,4 +1,4 @@
-use Rattle.std.proofs.Common.{◌≡◌, ℕ, List, ◌++◌, map, drop, fold}
+use Rattle.scop_syntax.proofs.Common.{◌≡◌, ℕ, List, ◌++◌, map, drop, fold}
 use Rattle.scop_roles.specs.Formula.{Formula, argument_of, with_argument}
 use Rattle.scop_roles.specs.Values.{read_places}
 use Rattle.scop_roles.proofs.Chains.{Makes}

@@ -1,6 +1,4 @@
-use Rattle.std.proofs.Common.{◌≡◌, false, map, fold, ap, sym, subst, ◌∙◌, refl, arith}
-use Rattle.std.specs.Prelude.{IfOk}
-use Rattle.scop_syntax.specs.View.{expression_of}
+use Rattle.scop_syntax.proofs.Common.{◌≡◌, false, map, fold, ap, sym, subst, ◌∙◌, refl, arith, IfOk, expression_of}
 use Rattle.scop_expressions.specs.Op.TheVariants as op
 use Rattle.scop_roles.specs.Formula.{argument_of, formula_of, index, unary, cast, binary, with_argument}
 use Rattle.scop_roles.specs.Forms.{is_signed, is_narrow}

@@ -1,6 +1,4 @@
-use Rattle.std.proofs.Common.{map, drop, fold}
-use Rattle.std.specs.Prelude.{IfOk}
-use Rattle.scop_syntax.specs.View.{expression_of}
+use Rattle.scop_syntax.proofs.Common.{map, drop, fold, IfOk, expression_of}
 use Rattle.scop_roles.specs.Formula.{Formula, argument_of, with_argument}
 use Rattle.scop_roles.specs.Values.{IsValueOf}
 use Rattle.scop_roles.proofs.Chains.{Makes}

@@ -1,5 +1,4 @@
-use Rattle.std.proofs.Common.{map}
-use Rattle.scop_syntax.specs.View.{test_of}
+use Rattle.scop_syntax.proofs.Common.{map, test_of}
 use Rattle.scop_roles.specs.Formula.{formula_of}
 use Rattle.scop_roles.proofs.FormulaValues.{on_ok, compared_tests}
 use Rattle.scop_roles.proofs.values.add_comparison.Goals as goal

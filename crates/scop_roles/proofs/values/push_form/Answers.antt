@@ -1,4 +1,4 @@
-use Rattle.std.proofs.Common.{refl}
+use Rattle.scop_syntax.proofs.Common.{refl}
 use Rattle.scop_roles.specs.Formula.{formula_of, index}
 use Rattle.scop_roles.proofs.FormulaValues.{on_ok, pushed_subscripts}
 use Rattle.scop_roles.proofs.values.push_form.Goals as goal

@@ -1,4 +1,4 @@
-use Rattle.std.proofs.Common.{rules, ◌≤◌, length, map, fold}
+use Rattle.scop_syntax.proofs.Common.{rules, ◌≤◌, length, map, fold}
 use Rattle.scop_roles.specs.Formula.{formula_of, index}
 use Rattle.scop_roles.proofs.Chains.{HasForms, makes_next, makes_whole}
 use Rattle.scop_roles.proofs.values.push_forms.Goals as goal

@@ -1,5 +1,4 @@
-use Rattle.std.proofs.Common.{List, map, drop, fold}
-use Rattle.whole_numbers.specs.Affine.{Affine}
+use Rattle.scop_syntax.proofs.Common.{List, map, drop, fold, Affine}
 use Rattle.scop_roles.specs.Formula.{Formula, formula_of, index}
 use Rattle.scop_roles.proofs.Chains.{HasForms, Makes}
 use Rattle.scop_roles.proofs.values.push_forms.Given as goal

@@ -1,6 +1,4 @@
-use Rattle.std.proofs.Common.{ap, ◌∙◌}
-use Rattle.scop_syntax.specs.Tree.{implied}
-use Rattle.scop_syntax.specs.View.{expression_of}
+use Rattle.scop_syntax.proofs.Common.{ap, ◌∙◌, implied, expression_of}
 use Rattle.scop_roles.specs.Values.{combined, narrowed_where}
 use Rattle.scop_roles.proofs.FormulaValues.{if_ok}
 use Rattle.scop_roles.proofs.values.shifted.Goals as goal

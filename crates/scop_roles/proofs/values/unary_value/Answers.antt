@@ -1,6 +1,4 @@
-use Rattle.std.proofs.Common.{subst}
-use Rattle.std.specs.Prelude.{IfOk}
-use Rattle.scop_syntax.specs.View.{expression_of}
+use Rattle.scop_syntax.proofs.Common.{subst, IfOk, expression_of}
 use Rattle.scop_roles.specs.Values.{IsValueOf}
 use Rattle.scop_roles.proofs.FormulaValues.{if_ok, unsigned_unary_value}
 use Rattle.scop_roles.proofs.values.unary_value.Goals as goal

@@ -1,10 +1,7 @@
-use Rattle.std.proofs.Common.{◌≡◌, ◌+◌, ◌<◌, rules, ap, sym, ◌∙◌, arith, length, drop, get_or, to_z, List}
-use Rattle.std.specs.Prelude.{ℤ, pos, ◌+ℤ◌, ◌*ℤ◌, FitsSigned}
-use Rattle.std.specs.Int.{w64, int_wrap}
-use Rattle.std.proofs.lemmas.Int.{ints, to_z-of_z, int_wrap_fits}
-use Rattle.std.proofs.lemmas.List.{get_or_default}
-use Rattle.whole_numbers.specs.Lists.{dot}
-use Rattle.whole_numbers.specs.Affine.{Affine, value_of}
+use Rattle.whole_numbers.proofs.Common.{◌≡◌, ◌+◌, ◌<◌, rules, ap, sym, ◌∙◌, arith, length, drop, get_or, to_z, List, ℤ}
+use Rattle.whole_numbers.proofs.Common.{pos, ◌+ℤ◌, ◌*ℤ◌, FitsSigned, w64, ints, to_z-of_z, int_wrap_fits}
+use Rattle.whole_numbers.proofs.Common.{get_or_default, dot, Affine, value_of}
+use Rattle.std.specs.Int.{int_wrap}
 use Rattle.scop_syntax.proofs.WrappedSums.{dot_step, dot_end, value_step}
 use Rattle.scop_syntax.proofs.affine_values.value_at.Goals as goal
 

@@ -1,8 +1,5 @@
-use Rattle.std.proofs.Common.{◌≡◌, drop}
-use Rattle.std.specs.Prelude.{◌+ℤ◌}
-use Rattle.std.specs.Int.{w64, int_wrap}
-use Rattle.whole_numbers.specs.Lists.{dot}
-use Rattle.whole_numbers.specs.Affine.{value_of}
+use Rattle.whole_numbers.proofs.Common.{◌≡◌, drop, ◌+ℤ◌, w64, dot, value_of}
+use Rattle.std.specs.Int.{int_wrap}
 use Rattle.scop_syntax.proofs.affine_values.value_at.Given as goal
 
 abbrev pub invariant-loop-at : goal.invariant-loop-at

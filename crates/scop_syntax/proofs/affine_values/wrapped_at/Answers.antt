@@ -1,8 +1,4 @@
-use Rattle.std.proofs.Common.{◌≡◌, ap, ◌∙◌, rules}
-use Rattle.std.specs.Prelude.{FitsSigned}
-use Rattle.std.specs.Int.{w64, cast_unsigned}
-use Rattle.std.proofs.lemmas.Int.{to_z-of_z}
-use Rattle.whole_numbers.specs.Affine.{value_of}
+use Rattle.whole_numbers.proofs.Common.{◌≡◌, ap, ◌∙◌, rules, FitsSigned, w64, cast_unsigned, to_z-of_z, value_of}
 use Rattle.scop_syntax.proofs.WrappedSums.{wrapped_is}
 use Rattle.scop_syntax.proofs.affine_values.wrapped_at.Goals as goal
 

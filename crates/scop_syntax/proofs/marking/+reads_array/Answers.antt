@@ -1,4 +1,4 @@
-use Rattle.std.proofs.Common.{◌∙◌, sym, refl}
+use Rattle.whole_numbers.proofs.Common.{◌∙◌, sym, refl}
 use Rattle.scop_syntax.proofs.NamedArrays.{first_reads, second_reads}
 use Rattle.scop_syntax.proofs.marking.+reads_array.Goals as goal
 

@@ -1,4 +1,4 @@
-use Rattle.std.proofs.Common.{◌≡◌, ◌∙◌, List, Vec, Global, ℕ, ap, sym}
+use Rattle.whole_numbers.proofs.Common.{◌≡◌, ◌∙◌, List, Vec, Global, ℕ, ap, sym}
 use Rattle.scop_syntax.specs.Reductions.{is_reduced, marks_from}
 use Rattle.scop_syntax.specs.View.{program_of}
 use Rattle.scop_syntax.specs.Tree.{Statement}

@@ -1,4 +1,4 @@
-use Rattle.std.proofs.Common.{◌≡◌, drop}
+use Rattle.whole_numbers.proofs.Common.{◌≡◌, drop}
 use Rattle.scop_syntax.specs.Reductions.{is_written}
 use Rattle.scop_syntax.specs.StandingView.{bodies_of}
 use Rattle.scop_syntax.proofs.marking.writes_array.Given as goal

@@ -1,4 +1,4 @@
-use Rattle.std.proofs.Common.{◌≡◌, drop}
+use Rattle.whole_numbers.proofs.Common.{◌≡◌, drop}
 use Rattle.scop_syntax.specs.Reductions.{is_marked}
 use Rattle.scop_syntax.proofs.marks.is_marked.Given as goal
 

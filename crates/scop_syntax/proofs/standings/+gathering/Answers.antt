@@ -1,4 +1,4 @@
-use Rattle.std.proofs.Common.{rules, ◌+◌, ◌<◌, arith}
+use Rattle.whole_numbers.proofs.Common.{rules, ◌+◌, ◌<◌, arith}
 use Rattle.scop_syntax.specs.View.{items_of, tree_of}
 use Rattle.scop_syntax.proofs.Weights.{weight, weight_all, item_weight}
 use Rattle.scop_syntax.proofs.standings.+gathering.Goals as goal

@@ -1,5 +1,5 @@
 -- The statements so far, and those of the items to come, are all of them; a call goes over fewer items.
-use Rattle.std.proofs.Common.{◌≡◌, ◌+◌, ◌++◌, drop, map}
+use Rattle.whole_numbers.proofs.Common.{◌≡◌, ◌+◌, ◌++◌, drop, map}
 use Rattle.scop_syntax.specs.View.{items_of, tree_of}
 use Rattle.scop_syntax.proofs.Weights.{weight, weight_all}
 use Rattle.scop_syntax.specs.StandingView.{standing_of}

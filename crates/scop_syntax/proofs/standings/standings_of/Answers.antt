@@ -1,4 +1,4 @@
-use Rattle.std.proofs.Common.{◌∙◌, ◌++◌, List, ap, ap₂, map}
+use Rattle.whole_numbers.proofs.Common.{◌∙◌, ◌++◌, List, ap, ap₂, map}
 use Rattle.scop_syntax.specs.Tree.{Head}
 use Rattle.scop_syntax.specs.View.{items_of, program_of}
 use Rattle.scop_syntax.specs.declared.tree.Item.{Item}

@@ -1,5 +1,4 @@
-use Rattle.std.proofs.Common.{map, ap, ◌∙◌}
-use Rattle.std.specs.List.{list_any}
+use Rattle.scop_syntax.proofs.Common.{map, ap, ◌∙◌, list_any}
 use Rattle.scop_roles.specs.Formula.{argument_of, formula_of}
 use Rattle.scop_roles.proofs.Views.{formula_index, formula_commas}
 use Rattle.scop_units.specs.Loops.{names_entry}

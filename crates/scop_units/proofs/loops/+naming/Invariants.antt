@@ -1,5 +1,4 @@
-use Rattle.std.proofs.Common.{◌≡◌, map, drop}
-use Rattle.std.specs.List.{list_any}
+use Rattle.scop_syntax.proofs.Common.{◌≡◌, map, drop, list_any}
 use Rattle.scop_roles.specs.Formula.{argument_of, formula_of}
 use Rattle.scop_units.specs.Loops.{names_entry}
 use Rattle.scop_units.proofs.loops.+naming.Given as goal

@@ -1,5 +1,4 @@
-use Rattle.std.proofs.Common.{◌≡◌, length, sym, ◌∙◌}
-use Rattle.std.proofs.lemmas.List.{length-map}
+use Rattle.scop_syntax.proofs.Common.{◌≡◌, length, sym, ◌∙◌, length-map}
 use Rattle.scop_units.specs.View.{head_of, scope_of}
 use Rattle.scop_units.proofs.Parts.{loop_by}
 use Rattle.scop_units.proofs.loops.loop_fault.Goals as goal

@@ -1,5 +1,5 @@
 -- What is made, and what is to come.
-use Rattle.std.proofs.Common.{◌≡◌, ◌++◌, drop, map}
+use Rattle.scop_syntax.proofs.Common.{◌≡◌, ◌++◌, drop, map}
 use Rattle.scop_units.specs.Units.{padded}
 use Rattle.scop_units.proofs.padding.padded_all.Given as goal
 

@@ -1,5 +1,5 @@
 -- The arrays so far have other names.
-use Rattle.std.proofs.Common.{◌≡◌, map, drop}
+use Rattle.scop_syntax.proofs.Common.{◌≡◌, map, drop}
 use Rattle.scop_units.specs.Scopes.{array_in}
 use Rattle.scop_units.specs.View.{ranked}
 use Rattle.scop_units.proofs.scope.array_in.Given as goal

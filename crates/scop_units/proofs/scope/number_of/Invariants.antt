@@ -1,5 +1,5 @@
 -- The names so far are others.
-use Rattle.std.proofs.Common.{◌≡◌, map, drop}
+use Rattle.scop_syntax.proofs.Common.{◌≡◌, map, drop}
 use Rattle.scop_units.specs.Scopes.{number_from}
 use Rattle.scop_units.proofs.scope.number_of.Given as goal
 

@@ -1,5 +1,4 @@
-use Rattle.std.proofs.Common.{◌≡◌, length, map, sym, ◌∙◌}
-use Rattle.std.proofs.lemmas.List.{length-map}
+use Rattle.scop_syntax.proofs.Common.{◌≡◌, length, map, sym, ◌∙◌, length-map}
 use Rattle.scop_roles.specs.Formula.{formula_of}
 use Rattle.scop_units.specs.View.{ranked, scope_of, words_in}
 use Rattle.scop_units.proofs.Parts.{array_by}

@@ -1,4 +1,4 @@
-use Rattle.std.proofs.Common.{map}
+use Rattle.scop_syntax.proofs.Common.{map}
 use Rattle.scop_roles.specs.Formula.{formula_of}
 use Rattle.scop_roles.specs.Forms.{form}
 use Rattle.scop_units.specs.Scopes.{entries}

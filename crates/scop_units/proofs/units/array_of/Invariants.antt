@@ -1,6 +1,5 @@
 -- The forms so far, and those to come, which have no faults.
-use Rattle.std.proofs.Common.{◌≡◌, ◌++◌, drop, map}
-use Rattle.std.specs.Prelude.{None}
+use Rattle.scop_syntax.proofs.Common.{◌≡◌, ◌++◌, drop, map, None}
 use Rattle.scop_roles.specs.Formula.{formula_of}
 use Rattle.scop_roles.specs.Forms.{form}
 use Rattle.scop_roles.specs.Faults.{first}

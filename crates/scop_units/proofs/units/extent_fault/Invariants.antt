@@ -1,5 +1,5 @@
 -- The first fault so far, and those to come.
-use Rattle.std.proofs.Common.{◌≡◌, drop, map}
+use Rattle.scop_syntax.proofs.Common.{◌≡◌, drop, map}
 use Rattle.scop_roles.specs.Formula.{formula_of}
 use Rattle.scop_roles.specs.Faults.{first, first_of}
 use Rattle.scop_units.specs.Units.{extent_faults}

@@ -1,5 +1,4 @@
-use Rattle.std.proofs.Common.{◌≡◌, length, sym, ◌∙◌}
-use Rattle.std.proofs.lemmas.List.{length-map}
+use Rattle.scop_syntax.proofs.Common.{◌≡◌, length, sym, ◌∙◌, length-map}
 use Rattle.scop_units.specs.View.{scope_of, words_in}
 use Rattle.scop_units.proofs.Parts.{number_by}
 use Rattle.scop_units.proofs.units.number_fault.Goals as goal

@@ -1,5 +1,4 @@
-use Rattle.std.proofs.Common.{◌∙◌, ap}
-use Rattle.std.proofs.lemmas.Result.{IfOk-weaker}
+use Rattle.scop_syntax.proofs.Common.{◌∙◌, ap, IfOk-weaker}
 use Rattle.split_scan.specs.Copies.{bounding_in}
 use Rattle.split_scan.proofs.HullBounds.{hull_bars}
 use Rattle.split_scan.proofs.bars.bars.Goals as goal

@@ -1,4 +1,4 @@
-use Rattle.std.proofs.Common.{◌∙◌, ap}
+use Rattle.scop_syntax.proofs.Common.{◌∙◌, ap}
 use Rattle.plain_scan.proofs.CodeBounds.{take_all}
 use Rattle.split_scan.specs.Copies.{bounding_in}
 use Rattle.split_scan.proofs.HullBounds.{bounding_next}

@@ -1,4 +1,4 @@
-use Rattle.std.proofs.Common.{◌≡◌, take}
+use Rattle.scop_syntax.proofs.Common.{◌≡◌, take}
 use Rattle.split_scan.specs.Copies.{bounding_in}
 use Rattle.split_scan.proofs.bars.bounding.Given as goal
 

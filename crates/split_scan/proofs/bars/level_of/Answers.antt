@@ -1,7 +1,5 @@
-use Rattle.std.proofs.Common.{◌≡◌, ◌+◌, ◌++◌, ◌∙◌, ap, sym, subst, All, arith, List, map, pos}
-use Rattle.std.specs.Prelude.{◌≤ℤ◌}
-use Rattle.std.proofs.lemmas.List.Elements.{All-append}
-use Rattle.whole_numbers.specs.Affine.{Affine, widened}
+use Rattle.scop_syntax.proofs.Common.{◌≡◌, ◌+◌, ◌++◌, ◌∙◌, ap, sym, subst, All, arith, List, map, pos, ◌≤ℤ◌, All-append}
+use Rattle.scop_syntax.proofs.Common.{Affine, widened}
 use Rattle.affine_forms.specs.Parts.{variables_of}
 use Rattle.fm_projection.specs.Alone.{place_form}
 use Rattle.split_scan.specs.Questions.{AreNatural}

@@ -1,4 +1,4 @@
-use Rattle.std.proofs.Common.{◌≡◌, ◌++◌, [], ◌∷◌, ◌∙◌, rules}
+use Rattle.scop_syntax.proofs.Common.{◌≡◌, ◌++◌, [], ◌∷◌, ◌∙◌, rules}
 use Rattle.split_scan.proofs.copies.push_shadow.Goals as goal
 
 pub returns : goal.returns

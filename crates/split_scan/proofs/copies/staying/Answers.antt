@@ -1,4 +1,4 @@
-use Rattle.std.proofs.Common.{◌∙◌, ap, sym}
+use Rattle.scop_syntax.proofs.Common.{◌∙◌, ap, sym}
 use Rattle.plain_scan.specs.Hulls.{sets_in}
 use Rattle.split_scan.proofs.OutlineCopies.{staying_next, staying_none}
 use Rattle.split_scan.proofs.copies.staying.Goals as goal

@@ -1,4 +1,4 @@
-use Rattle.std.proofs.Common.{◌≡◌, take}
+use Rattle.scop_syntax.proofs.Common.{◌≡◌, take}
 use Rattle.plain_scan.specs.Hulls.{sets_in}
 use Rattle.split_scan.specs.Parts.{staying}
 use Rattle.split_scan.proofs.copies.staying.Given as goal

@@ -1,4 +1,4 @@
-use Rattle.std.proofs.Common.{◌≡◌, ◌+◌, subst, sym, All}
+use Rattle.scop_syntax.proofs.Common.{◌≡◌, ◌+◌, subst, sym, All}
 use Rattle.affine_forms.specs.Parts.{variables_of}
 use Rattle.split_scan.proofs.cutting.cells_of.Goals as goal
 

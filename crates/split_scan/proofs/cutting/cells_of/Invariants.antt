@@ -1,4 +1,4 @@
-use Rattle.std.proofs.Common.{◌+◌, ◌++◌, ◌∷◌, ℤ, List, All}
+use Rattle.scop_syntax.proofs.Common.{◌+◌, ◌++◌, ◌∷◌, ℤ, List, All}
 use Rattle.split_scan.specs.Questions.{IsIn}
 use Rattle.split_scan.specs.Parts.{InPart, IsCell}
 use Rattle.split_scan.proofs.cutting.cells_of.Given as goal

@@ -1,4 +1,4 @@
-use Rattle.std.proofs.Common.{◌+◌, subst, sym}
+use Rattle.scop_syntax.proofs.Common.{◌+◌, subst, sym}
 use Rattle.split_scan.specs.Parts.{IsCell}
 use Rattle.split_scan.proofs.NodeParts.{held_next}
 use Rattle.split_scan.proofs.cutting.cut_all.Goals as goal

@@ -1,11 +1,8 @@
-use Rattle.std.proofs.Common.{◌≡◌, ◌≢◌, ◌+◌, ◌++◌, [], ◌∷◌, pos, rules, ap₂, subst, sym, ◌∙◌, List, All}
-use Rattle.std.proofs.lemmas.List.Elements.{All-append, All-cons, All-nil}
-use Rattle.whole_numbers.specs.Affine.{Affine, complement}
-use Rattle.whole_numbers.proofs.Dot.{length-multiples}
+use Rattle.scop_syntax.proofs.Common.{◌≡◌, ◌≢◌, ◌+◌, ◌++◌, [], ◌∷◌, pos, rules, ap₂, subst, sym, ◌∙◌, List, All}
+use Rattle.scop_syntax.proofs.Common.{All-append, All-cons, All-nil, Affine, complement, length-multiples, negsuc}
 use Rattle.affine_forms.specs.Parts.{variables_of}
 use Rattle.fractions.specs.Elimination.{coefficient_of}
 use Rattle.plain_scan.specs.Between.{HasSmallNumbers}
-use Rattle.std.specs.Prelude.{negsuc}
 use Rattle.split_scan.specs.Questions.{IsCut}
 use Rattle.split_scan.proofs.NodeParts.{cell_more, goes_more}
 use Rattle.split_scan.proofs.cutting.cut_by.Goals as goal

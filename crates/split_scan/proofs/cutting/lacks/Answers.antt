@@ -1,6 +1,4 @@
-use Rattle.std.proofs.Common.{◌≡◌, ◌+◌, ◌++◌, ◌∙◌, ap, subst, sym, List, All}
-use Rattle.std.proofs.lemmas.List.Elements.{All-append}
-use Rattle.whole_numbers.specs.Affine.{Affine}
+use Rattle.scop_syntax.proofs.Common.{◌≡◌, ◌+◌, ◌++◌, ◌∙◌, ap, subst, sym, List, All, All-append, Affine}
 use Rattle.affine_forms.specs.Parts.{variables_of}
 use Rattle.split_scan.proofs.cutting.lacks.Goals as goal
 use Rattle.split_scan.proofs.cutting.lacks.Goals.{After-deref-2}

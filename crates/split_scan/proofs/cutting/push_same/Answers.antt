@@ -1,5 +1,4 @@
-use Rattle.std.proofs.Common.{◌∙◌}
-use Rattle.std.proofs.lemmas.Result.{on_ok_weaker}
+use Rattle.scop_syntax.proofs.Common.{◌∙◌, on_ok_weaker}
 use Rattle.split_scan.proofs.cutting.push_same.Goals as goal
 
 pub returns : goal.returns

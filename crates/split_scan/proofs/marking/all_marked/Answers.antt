@@ -1,4 +1,4 @@
-use Rattle.std.proofs.Common.{◌≡◌, ◌+◌, ◌++◌, [], ◌∷◌, subst, sym, rules, length}
+use Rattle.scop_syntax.proofs.Common.{◌≡◌, ◌+◌, ◌++◌, [], ◌∷◌, subst, sym, rules, length}
 use Rattle.plain_scan.specs.Hulls.{sets_in}
 use Rattle.split_scan.specs.Parts.{IsCell}
 use Rattle.split_scan.proofs.NodeParts.{held_next, marks_more, near_goes, part_more}

@@ -1,4 +1,4 @@
-use Rattle.std.proofs.Common.{◌∙◌, ap, length, subst, sym}
+use Rattle.scop_syntax.proofs.Common.{◌∙◌, ap, length, subst, sym}
 use Rattle.plain_scan.specs.Hulls.{sets_in}
 use Rattle.split_scan.specs.Parts.{Keeps}
 use Rattle.split_scan.proofs.marking.marked.Goals as goal

@@ -1,4 +1,4 @@
-use Rattle.std.proofs.Common.{◌≡◌, length}
+use Rattle.scop_syntax.proofs.Common.{◌≡◌, length}
 use Rattle.plain_scan.specs.Hulls.{sets_in}
 use Rattle.split_scan.specs.Parts.{Keeps}
 use Rattle.split_scan.proofs.marking.marks_of.Given as goal

@@ -1,5 +1,4 @@
-use Rattle.std.proofs.Common.{◌+◌, ◌++◌, ◌∷◌, All, subst, sym}
-use Rattle.std.proofs.lemmas.Result.{IfOk-weaker}
+use Rattle.scop_syntax.proofs.Common.{◌+◌, ◌++◌, ◌∷◌, All, subst, sym, IfOk-weaker}
 use Rattle.split_scan.specs.Parts.{IsCell}
 use Rattle.split_scan.proofs.marking.separated.Goals as goal
 

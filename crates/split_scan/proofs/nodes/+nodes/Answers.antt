@@ -1,8 +1,5 @@
-use Rattle.std.proofs.Common.{◌≡◌, ◌+◌, ◌-◌, ◌<◌, ◌++◌, ◌∙◌, [], suc, ap, sym, subst, All, arith, ap₂, ℕ, List, map}
-use Rattle.std.proofs.Common.{length, rules, refl, get_or}
-use Rattle.std.proofs.lemmas.List.Elements.{All-append}
-use Rattle.std.proofs.lemmas.Result.{IfOk-weaker}
-use Rattle.whole_numbers.specs.Affine.{Affine, widened}
+use Rattle.scop_syntax.proofs.Common.{◌≡◌, ◌+◌, ◌-◌, ◌<◌, ◌++◌, ◌∙◌, [], suc, ap, sym, subst, All, arith, ap₂, ℕ, List}
+use Rattle.scop_syntax.proofs.Common.{map, length, rules, refl, get_or, All-append, IfOk-weaker, Affine, widened}
 use Rattle.affine_forms.specs.Parts.{variables_of}
 use Rattle.integer_sets.specs.Scanned.{Scanned}
 use Rattle.loop_tree.specs.View.{nodes_of, tree_of, trees_of}

@@ -1,5 +1,4 @@
-use Rattle.std.proofs.Common.{◌≡◌, ◌-◌, ℤ, List, map, take}
-use Rattle.whole_numbers.specs.Affine.{Affine}
+use Rattle.scop_syntax.proofs.Common.{◌≡◌, ◌-◌, ℤ, List, map, take, Affine}
 use Rattle.loop_tree.specs.View.{tree_of}
 use Rattle.plain_scan.specs.Hulls.{sets_in}
 use Rattle.split_scan.specs.steps.Frames.{HasBodies, frame_of, rows_in}

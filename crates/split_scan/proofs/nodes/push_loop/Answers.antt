@@ -1,6 +1,4 @@
-use Rattle.std.proofs.Common.{◌≡◌, ◌++◌, ◌∙◌, ap, rules, List, map}
-use Rattle.std.proofs.lemmas.List.{map-append}
-use Rattle.whole_numbers.specs.Affine.{Affine}
+use Rattle.scop_syntax.proofs.Common.{◌≡◌, ◌++◌, ◌∙◌, ap, rules, List, map, map-append, Affine}
 use Rattle.loop_tree.specs.Tree.{Tree}
 use Rattle.loop_tree.specs.View.{tree_of}
 use Rattle.split_scan.proofs.InnerNodes.{one_tree}

@@ -1,5 +1,4 @@
-use Rattle.std.proofs.Common.{sym, subst, All}
-use Rattle.std.proofs.lemmas.Result.{IfOk-weaker}
+use Rattle.scop_syntax.proofs.Common.{sym, subst, All, IfOk-weaker}
 use Rattle.plain_scan.specs.Hulls.{sets_in}
 use Rattle.split_scan.proofs.OutlineCopies.{sets_count}
 use Rattle.split_scan.specs.Parts.{HasMarks}

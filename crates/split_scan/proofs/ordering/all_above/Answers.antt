@@ -1,5 +1,4 @@
-use Rattle.std.proofs.Common.{take, subst, sym, rules}
-use Rattle.std.specs.Bool.{IsTrue}
+use Rattle.scop_syntax.proofs.Common.{take, subst, sym, rules, IsTrue}
 use Rattle.plain_scan.proofs.CodeBounds.{take_next}
 use Rattle.split_scan.specs.Ordering.{AreBelow, IsBelowAll}
 use Rattle.split_scan.proofs.PartOrder.{below_more}

@@ -1,4 +1,4 @@
-use Rattle.std.proofs.Common.{take}
+use Rattle.scop_syntax.proofs.Common.{take}
 use Rattle.split_scan.specs.Ordering.{IsBelowAll}
 use Rattle.split_scan.proofs.ordering.all_above.Given as goal
 

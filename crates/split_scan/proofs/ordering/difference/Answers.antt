@@ -1,7 +1,5 @@
-use Rattle.std.proofs.Common.{◌≡◌, ◌∙◌, ◌+◌, sym, ap, ℤ, pos, negsuc, List, set}
-use Rattle.whole_numbers.specs.Lists.{zeros}
-use Rattle.whole_numbers.specs.Affine.{form_of}
-use Rattle.whole_numbers.proofs.Dot.{replicate-zeros}
+use Rattle.scop_syntax.proofs.Common.{◌≡◌, ◌∙◌, ◌+◌, sym, ap, ℤ, pos, negsuc, List, set, zeros, form_of}
+use Rattle.scop_syntax.proofs.Common.{replicate-zeros}
 use Rattle.integer_sets.specs.Wide.{Wide}
 use Rattle.fm_projection.proofs.RemovedEntries.{same_ok}
 use Rattle.split_scan.proofs.ordering.difference.Goals as goal

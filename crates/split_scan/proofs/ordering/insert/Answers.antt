@@ -1,4 +1,5 @@
-use Rattle.std.proofs.Common.{◌≡◌, ◌-◌, ◌++◌, ◌∷◌, take, drop, length, subst, sym, rules, arith, length-drop}
+use Rattle.scop_syntax.proofs.Common.{◌≡◌, ◌-◌, ◌++◌, ◌∷◌, take, drop, length, subst, sym, rules, arith}
+use Rattle.std.proofs.Common.{length-drop}
 use Rattle.plain_scan.proofs.CodeBounds.{take_all}
 use Rattle.split_scan.specs.Ordering.{IsBelowAll, Rise}
 use Rattle.split_scan.proofs.PartOrder.{rise_put}

@@ -1,7 +1,5 @@
-use Rattle.std.proofs.Common.{◌≡◌, ◌+◌, ◌++◌, [], ◌∷◌, rules, ap, ap₂, subst, sym, ◌∙◌, List, All, arith, map}
-use Rattle.std.specs.Bool.{IsTrue}
-use Rattle.std.proofs.lemmas.Result.{IfOk-weaker}
-use Rattle.whole_numbers.specs.Affine.{Affine, widened}
+use Rattle.scop_syntax.proofs.Common.{◌≡◌, ◌+◌, ◌++◌, [], ◌∷◌, rules, ap, ap₂, subst, sym, ◌∙◌, List, All, arith, map}
+use Rattle.scop_syntax.proofs.Common.{IsTrue, IfOk-weaker, Affine, widened}
 use Rattle.affine_forms.specs.Parts.{variables_of}
 use Rattle.split_scan.specs.Questions.{HasNone}
 use Rattle.split_scan.specs.Ordering.{turned}

@@ -1,4 +1,4 @@
-use Rattle.std.proofs.Common.{◌≡◌, ◌+◌, ◌++◌, [], ◌∷◌, rules, subst, All}
+use Rattle.scop_syntax.proofs.Common.{◌≡◌, ◌+◌, ◌++◌, [], ◌∷◌, rules, subst, All}
 use Rattle.affine_forms.specs.Parts.{variables_of}
 use Rattle.split_scan.specs.declared.part.Part.{Part}
 use Rattle.split_scan.specs.steps.Picking.{IsPicking}

@@ -1,4 +1,4 @@
-use Rattle.std.proofs.Common.{◌≡◌, ◌+◌, [], List, All, length}
+use Rattle.scop_syntax.proofs.Common.{◌≡◌, ◌+◌, [], List, All, length}
 use Rattle.affine_forms.specs.Parts.{variables_of}
 use Rattle.integer_sets.specs.Scanned.{Scanned}
 use Rattle.split_scan.specs.Ordering.{Rise}

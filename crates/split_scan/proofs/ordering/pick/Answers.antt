@@ -1,5 +1,4 @@
-use Rattle.std.proofs.Common.{◌≡◌, ◌+◌, false, rules, All}
-use Rattle.std.specs.Bool.{IsTrue}
+use Rattle.scop_syntax.proofs.Common.{◌≡◌, ◌+◌, false, rules, All, IsTrue}
 use Rattle.affine_forms.specs.Parts.{variables_of}
 use Rattle.split_scan.proofs.PartOrder.{all_put_is, picked_in, picked_out}
 use Rattle.split_scan.proofs.ordering.pick.Goals as goal

@@ -1,5 +1,4 @@
-use Rattle.std.proofs.Common.{◌≡◌, true, rules, ap, subst, ◌∙◌, List, [], ℤ, Ok}
-use Rattle.whole_numbers.specs.Affine.{Affine}
+use Rattle.scop_syntax.proofs.Common.{◌≡◌, true, rules, ap, subst, ◌∙◌, List, [], ℤ, Ok, Affine}
 use Rattle.integer_sets.specs.Constraints.{Constraints, system_of}
 use Rattle.pip_solver.specs.Emptiness.{IsBoundedPoint}
 use Rattle.split_scan.proofs.EmptinessAnswers.{none_of}

@@ -1,7 +1,4 @@
-use Rattle.std.proofs.Common.{◌≡◌, ◌+◌, ◌++◌, rules, ap, subst, ◌∙◌, List}
-use Rattle.std.specs.Bool.{IsTrue}
-use Rattle.std.proofs.lemmas.Result.{IfOk-weaker}
-use Rattle.whole_numbers.specs.Affine.{Affine}
+use Rattle.scop_syntax.proofs.Common.{◌≡◌, ◌+◌, ◌++◌, rules, ap, subst, ◌∙◌, List, IsTrue, IfOk-weaker, Affine}
 use Rattle.split_scan.specs.Questions.{HasNone}
 use Rattle.split_scan.proofs.EmptinessAnswers.{void_of}
 use Rattle.split_scan.proofs.questions.is_void.Goals as goal

@@ -1,5 +1,4 @@
-use Rattle.std.proofs.Common.{rules, ◌≡◌, ◌∙◌, zero, [], arith, length, subst, sym, All}
-use Rattle.std.proofs.lemmas.List.{nil_from_length}
+use Rattle.scop_syntax.proofs.Common.{rules, ◌≡◌, ◌∙◌, zero, [], arith, length, subst, sym, All, nil_from_length}
 use Rattle.loop_tree.specs.View.{nodes_of, trees_in}
 use Rattle.loop_tree.specs.Walk.{walk_all}
 use Rattle.loop_tree.specs.Scans.{Exact}

@@ -1,4 +1,4 @@
-use Rattle.std.proofs.Common.{◌≡◌, ◌+◌, subst, All, arith}
+use Rattle.scop_syntax.proofs.Common.{◌≡◌, ◌+◌, subst, All, arith}
 use Rattle.plain_scan.specs.Hulls.{sets_in}
 use Rattle.split_scan.specs.Nodes.{IsShaped}
 use Rattle.split_scan.proofs.InnerNodes.{shaped_of}

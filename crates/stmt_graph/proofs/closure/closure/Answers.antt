@@ -1,6 +1,6 @@
-use Rattle.std.proofs.Common.{ℕ, Bool, List, [], ◌∷◌, map, Vec, Global, get_or, length, sym, ◌∙◌, ap, subst}
-use Rattle.std.proofs.Common.{inl, inr, arith}
-use Rattle.std.proofs.lemmas.List.{map-append, length-map, length-append}
+use Rattle.scop_syntax.proofs.Common.{ℕ, Bool, List, [], ◌∷◌, map, Vec, Global, get_or, length, sym, ◌∙◌, ap, subst}
+use Rattle.scop_syntax.proofs.Common.{inl, inr, arith, map-append, length-map}
+use Rattle.std.proofs.lemmas.List.{length-append}
 use Rattle.stmt_graph.specs.Closure.{IsReached}
 use Rattle.stmt_graph.proofs.Counts.{lt_or_eq}
 use Rattle.stmt_graph.proofs.Reachability.{get_or_append, get_or_last}

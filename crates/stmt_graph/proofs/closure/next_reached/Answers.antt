@@ -1,6 +1,4 @@
-use Rattle.std.proofs.Common.{◌≡◌, ◌<◌, ℕ, length, true, get_or, arith, sym, ◌∙◌}
-use Rattle.std.proofs.lemmas.Bool.{false≢true}
-use Rattle.scop_syntax.proofs.Members.{in_at}
+use Rattle.scop_syntax.proofs.Common.{◌≡◌, ◌<◌, ℕ, length, true, get_or, arith, sym, ◌∙◌, false≢true, in_at}
 use Rattle.stmt_graph.specs.Closure.{at}
 use Rattle.stmt_graph.proofs.Reachability.{in_all, all_from}
 use Rattle.stmt_graph.proofs.closure.next_reached.Goals as goal

@@ -1,4 +1,4 @@
-use Rattle.std.proofs.Common.{◌≡◌, true, All, drop}
+use Rattle.scop_syntax.proofs.Common.{◌≡◌, true, All, drop}
 use Rattle.stmt_graph.specs.Closure.{at}
 use Rattle.stmt_graph.proofs.closure.next_reached.Given as goal
 

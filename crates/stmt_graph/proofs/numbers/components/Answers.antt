@@ -1,14 +1,11 @@
-use Rattle.std.proofs.Common.{◌≡◌, ℕ, Bool, List, map, Vec, Global, get_or, length, sym, ◌∙◌, ap, subst}
-use Rattle.std.proofs.Common.{arith, None, Some}
-use Rattle.std.proofs.lemmas.List.{length-map, length-replicate, get_or-replicate}
+use Rattle.scop_syntax.proofs.Common.{◌≡◌, ℕ, Bool, List, map, Vec, Global, get_or, length, sym, ◌∙◌, ap, subst, arith}
+use Rattle.scop_syntax.proofs.Common.{None, Some, length-map, length-replicate, get_or-replicate, nat_eq, add-one}
 use Rattle.stmt_graph.specs.Closure.{AreSquare, IsClosure, IsNext, IsGiven}
 use Rattle.stmt_graph.proofs.Counts.{count_within}
 use Rattle.stmt_graph.proofs.Reachability.{square}
 use Rattle.stmt_graph.proofs.ComponentNumbers.{IsPartial, given, none_given, none_next, none_unnumbered}
 use Rattle.stmt_graph.proofs.ComponentNumbers.{fewer_unnumbered}
-use Rattle.std.specs.Prelude.{nat_eq}
 use Rattle.stmt_graph.specs.Graph.{number_in, IsNumbering}
-use Rattle.std.proofs.Common.{add-one}
 use Rattle.stmt_graph.proofs.numbers.components.Goals as goal
 
 abbrev views : List (Vec Bool Global) → List (List Bool)

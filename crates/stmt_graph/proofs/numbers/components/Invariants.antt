@@ -1,4 +1,4 @@
-use Rattle.std.proofs.Common.{◌+◌, ◌≤◌}
+use Rattle.scop_syntax.proofs.Common.{◌+◌, ◌≤◌}
 use Rattle.stmt_graph.proofs.ComponentNumbers.{IsPartial, unnumbered}
 use Rattle.stmt_graph.proofs.numbers.components.Given as goal
 

@@ -1,5 +1,4 @@
-use Rattle.std.proofs.Common.{◌≡◌, ℕ, ◌<◌, ◌≤◌, map, length}
-use Rattle.std.specs.Prelude.{if◌then◌else◌}
+use Rattle.scop_syntax.proofs.Common.{◌≡◌, ℕ, ◌<◌, ◌≤◌, map, length, if◌then◌else◌}
 use Rattle.stmt_graph.specs.Graph.{number_in}
 use Rattle.stmt_graph.specs.Closure.{joined}
 use Rattle.stmt_graph.proofs.numbers.number_component.Given as goal

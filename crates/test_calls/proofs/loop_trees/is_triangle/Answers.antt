@@ -1,10 +1,5 @@
-use Rattle.std.proofs.Common.{rules, ◌≡◌, ℤ, pos, [], ◌∷◌, length, arith}
-use Rattle.std.specs.Prelude.{◌≤ℤ◌}
-use Rattle.std.proofs.lemmas.Int.{ints}
-use Rattle.std.proofs.lemmas.List.{length-map}
-use Rattle.std.proofs.lemmas.List.Elements.{All-nil, All-cons}
-use Rattle.scop_syntax.specs.Limits.{HasParameters}
-use Rattle.scop_syntax.specs.View.{program_of}
+use Rattle.scop_syntax.proofs.Common.{rules, ◌≡◌, ℤ, pos, [], ◌∷◌, length, arith, ◌≤ℤ◌, ints, length-map, All-nil}
+use Rattle.scop_syntax.proofs.Common.{All-cons, HasParameters, program_of}
 use Rattle.test_calls.proofs.loop_trees.is_triangle.Goals as goal
 
 pub visits_are-requires : goal.visits_are-requires

@@ -1,7 +1,4 @@
-use Rattle.std.proofs.Common.{List, [], subst, sym}
-use Rattle.std.proofs.lemmas.Result.{IfOk-weaker}
-use Rattle.scop_syntax.specs.Members.{In}
-use Rattle.scop_syntax.specs.View.{program_of}
+use Rattle.scop_syntax.proofs.Common.{List, [], subst, sym, IfOk-weaker, In, program_of}
 use Rattle.iteration_domains.specs.Dependence.{Dependence}
 use Rattle.iteration_domains.specs.Held.{HoldCovers}
 use Rattle.polypar.specs.Schedules.{IsScheduleFor}

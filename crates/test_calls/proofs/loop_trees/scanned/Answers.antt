@@ -1,4 +1,4 @@
-use Rattle.std.proofs.Common.{◌∙◌, [], sym}
+use Rattle.scop_syntax.proofs.Common.{◌∙◌, [], sym}
 use Rattle.std.proofs.lemmas.Result.{IfOk-at_ok}
 use Rattle.loop_tree.specs.View.{trees_in}
 use Rattle.polypar.specs.Trees.{AreTreesOf}

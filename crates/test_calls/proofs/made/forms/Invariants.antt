@@ -1,4 +1,4 @@
-use Rattle.std.proofs.Common.{◌≡◌, All}
+use Rattle.scop_syntax.proofs.Common.{◌≡◌, All}
 use Rattle.affine_forms.specs.Parts.{variables_of}
 use Rattle.test_calls.proofs.made.forms.Given as goal
 

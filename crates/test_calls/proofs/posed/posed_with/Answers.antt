@@ -1,6 +1,5 @@
 -- One dependence and its rows are those that are asked for.
-use Rattle.std.proofs.Common.{◌≡◌, ◌∷◌, [], ℕ, List, subst, sym, inl, inr}
-use Rattle.scop_syntax.specs.Members.{In}
+use Rattle.scop_syntax.proofs.Common.{◌≡◌, ◌∷◌, [], ℕ, List, subst, sym, inl, inr, In}
 use Rattle.integer_sets.specs.Constraints.{Constraints}
 use Rattle.iteration_domains.specs.Dependence.{Dependence}
 use Rattle.schedule_rows.specs.Schedule.{loops_in}

@@ -1,4 +1,4 @@
-use Rattle.std.proofs.Common.{◌≡◌, length}
+use Rattle.scop_syntax.proofs.Common.{◌≡◌, length}
 use Rattle.tile_core.specs.Cores.{IsCore, state_in}
 use Rattle.test_calls.proofs.steps.releases.Given as goal
 

@@ -1,5 +1,4 @@
-use Rattle.std.proofs.Common.{◌≡◌, pos, [], ◌∷◌}
-use Rattle.whole_numbers.specs.Affine.{form_of}
+use Rattle.scop_syntax.proofs.Common.{◌≡◌, pos, [], ◌∷◌, form_of}
 use Rattle.quast_trees.specs.Postfix.{tree_of}
 use Rattle.quast_trees.specs.Mapped.{Suits}
 use Rattle.test_calls.proofs.trees.staircase.Given as goal

@@ -1,7 +1,4 @@
-use Rattle.std.proofs.Common.{subst, sym}
-use Rattle.scop_syntax.specs.Execution.{AreInside, layout}
-use Rattle.scop_syntax.specs.View.{program_of}
-use Rattle.scop_syntax.specs.Walk.{walk_of}
+use Rattle.scop_syntax.proofs.Common.{subst, sym, AreInside, layout, program_of, walk_of}
 use Rattle.test_calls.proofs.workers.summary_of.Goals as goal
 
 pub run_plain-requires-clause-inside : goal.run_plain-requires-clause-inside

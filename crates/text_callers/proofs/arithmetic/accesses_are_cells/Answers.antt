@@ -1,4 +1,4 @@
-use Rattle.std.proofs.Common.{refl, []}
+use Rattle.scop_syntax.proofs.Common.{refl, []}
 use Rattle.text_callers.proofs.arithmetic.accesses_are_cells.Goals as goal
 
 pub returns : goal.returns

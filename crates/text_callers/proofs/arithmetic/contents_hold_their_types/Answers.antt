@@ -1,4 +1,4 @@
-use Rattle.std.specs.Prelude.{[]}
+use Rattle.scop_syntax.proofs.Common.{[]}
 use Rattle.text_callers.proofs.arithmetic.contents_hold_their_types.Goals as goal
 
 pub returns : goal.returns

@@ -1,4 +1,4 @@
-use Rattle.std.proofs.Common.{sym, []}
+use Rattle.scop_syntax.proofs.Common.{sym, []}
 use Rattle.text_callers.proofs.arithmetic.extents_of_kernels_without_parameters.Goals as goal
 
 pub returns : goal.returns

@@ -1,4 +1,4 @@
-use Rattle.std.proofs.Common.{rules, ℕ, ◌∷◌, [], All, subst, ◌<◌, ◌≤◌, arith}
+use Rattle.scop_syntax.proofs.Common.{rules, ℕ, ◌∷◌, [], All, subst, ◌<◌, ◌≤◌, arith}
 use Rattle.text_callers.proofs.arithmetic.faultless_texts_have_meanings.Goals as goal
 
 pub returns-clause-affine : goal.returns-clause-affine

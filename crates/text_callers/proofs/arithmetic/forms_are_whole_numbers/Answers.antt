@@ -1,4 +1,4 @@
-use Rattle.std.proofs.Common.{refl, []}
+use Rattle.scop_syntax.proofs.Common.{refl, []}
 use Rattle.text_callers.proofs.arithmetic.forms_are_whole_numbers.Goals as goal
 
 pub returns-clause-value : goal.returns-clause-value

@@ -1,4 +1,4 @@
-use Rattle.std.proofs.Common.{◌≡◌, refl, sym, ap, subst, []}
+use Rattle.scop_syntax.proofs.Common.{◌≡◌, refl, sym, ap, subst, []}
 use Rattle.scop_roles.specs.declared.formula.Meaning.TheVariants as meaning
 use Rattle.scop_units.specs.Scopes.{with_loop}
 use Rattle.scop_arithmetic.specs.Arithmetic.{IsNameOf}

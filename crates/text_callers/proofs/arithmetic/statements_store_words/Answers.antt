@@ -1,4 +1,4 @@
-use Rattle.std.proofs.Common.{refl, []}
+use Rattle.scop_syntax.proofs.Common.{refl, []}
 use Rattle.text_callers.proofs.arithmetic.statements_store_words.Goals as goal
 
 pub returns-clause-place : goal.returns-clause-place

@@ -1,4 +1,4 @@
-use Rattle.std.proofs.Common.{refl, []}
+use Rattle.scop_syntax.proofs.Common.{refl, []}
 use Rattle.text_callers.proofs.arithmetic.tests_of_conditions_that_hold.Goals as goal
 
 pub returns : goal.returns

@@ -1,4 +1,4 @@
-use Rattle.std.proofs.Common.{refl, []}
+use Rattle.scop_syntax.proofs.Common.{refl, []}
 use Rattle.text_callers.proofs.arithmetic.values_are_words.Goals as goal
 
 pub returns-clause-reads : goal.returns-clause-reads

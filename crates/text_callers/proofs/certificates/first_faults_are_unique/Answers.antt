@@ -1,6 +1,5 @@
 -- Two first faults are what one text is judged to have.
-use Rattle.std.proofs.Common.{◌∙◌, ap, sym, subst, Bool}
-use Rattle.std.specs.Prelude.{Result, Ok, Err, ⊤}
+use Rattle.scop_syntax.proofs.Common.{◌∙◌, ap, sym, subst, Bool, Result, Ok, Err, ⊤}
 use Rattle.plan_check.specs.Judged.{Rejected}
 use Rattle.text_callers.proofs.certificates.first_faults_are_unique.Goals as goal
 

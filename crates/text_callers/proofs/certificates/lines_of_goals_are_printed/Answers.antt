@@ -1,6 +1,5 @@
 -- What is read as a goal was printed as one.
-use Rattle.std.proofs.Common.{◌≡◌, ap, subst, ℕ}
-use Rattle.std.specs.Prelude.{⊤}
+use Rattle.scop_syntax.proofs.Common.{◌≡◌, ap, subst, ℕ, ⊤}
 use Rattle.form_text.specs.View.{saturated}
 use Rattle.scop_lexer.specs.Bytes.{Text}
 use Rattle.plan_check.specs.Printed.{goal_text, said_text, saturated_said}

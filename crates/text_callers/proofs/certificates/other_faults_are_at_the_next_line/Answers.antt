@@ -1,5 +1,5 @@
 -- Of the two places that a fault may have the other is a Goal's alone.
-use Rattle.std.proofs.Common.{◌≡◌, inl, inr, ℕ, suc}
+use Rattle.scop_syntax.proofs.Common.{◌≡◌, inl, inr, ℕ, suc}
 use Rattle.plan_check.specs.FirstFaults.{IsAtLine}
 use Rattle.plan_check.specs.Judged.{Rejected}
 use Rattle.plan_check.specs.declared.kinds.FaultKind.TheVariants as kind

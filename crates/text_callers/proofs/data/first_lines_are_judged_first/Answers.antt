@@ -1,4 +1,4 @@
-use Rattle.std.proofs.Common.{[], ◌∷◌, ◌∙◌, ap, sym}
+use Rattle.scop_syntax.proofs.Common.{[], ◌∷◌, ◌∙◌, ap, sym}
 use Rattle.std.specs.List.{join_with_byte}
 use Rattle.text_callers.proofs.data.first_lines_are_judged_first.Goals as goal
 

@@ -1,6 +1,4 @@
-use Rattle.std.proofs.Common.{[], ◌∷◌, ◌<◌, ◌^◌, ℕ, Bool, true, false, arith}
-use Rattle.std.specs.Prelude.{All}
-use Rattle.std.proofs.lemmas.List.Elements.{All-nil, All-cons}
+use Rattle.scop_syntax.proofs.Common.{[], ◌∷◌, ◌<◌, ◌^◌, ℕ, Bool, true, false, arith, All, All-nil, All-cons}
 use Rattle.data_lines.specs.Numbers.{HaveWidth}
 use Rattle.text_callers.proofs.data.lines_of_one_cell.Goals as goal
 

@@ -1,6 +1,5 @@
-use Rattle.std.proofs.Common.{[], ◌∷◌, subst, sym, refl}
-use Rattle.std.specs.Prelude.{codes}
-use Rattle.scop_syntax.specs.Tree.{Program, none as no_trees}
+use Rattle.scop_syntax.proofs.Common.{[], ◌∷◌, subst, sym, refl, codes, Program}
+use Rattle.scop_syntax.specs.Tree.{none as no_trees}
 use Rattle.data_lines.specs.Naming.{line_of}
 use Rattle.data_lines.specs.declared.refusal.DataRefusal.TheVariants.{Missing}
 use Rattle.data_text.specs.Described.{IsFirstBroken}

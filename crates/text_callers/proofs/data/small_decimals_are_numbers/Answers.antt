@@ -1,5 +1,4 @@
-use Rattle.std.proofs.Common.{◌++◌, ◌∙◌, arith}
-use Rattle.std.specs.Prelude.{codes, decimal}
+use Rattle.scop_syntax.proofs.Common.{◌++◌, ◌∙◌, arith, codes, decimal}
 use Rattle.text_callers.proofs.data.small_decimals_are_numbers.Goals as goal
 
 pub returns-clause-decimal : goal.returns-clause-decimal

@@ -1,4 +1,4 @@
-use Rattle.std.proofs.Common.{◌≡◌, subst}
+use Rattle.scop_syntax.proofs.Common.{◌≡◌, subst}
 use Rattle.form_text.specs.Reading.{behind_digits, number_in_front}
 use Rattle.form_text.specs.View.{saturated}
 use Rattle.text_callers.proofs.forms.number_in_front.Goals as goal

@@ -1,4 +1,4 @@
-use Rattle.std.proofs.Common.{[]}
+use Rattle.scop_syntax.proofs.Common.{[]}
 use Rattle.text_callers.proofs.forms.numbers_are_read_back.Goals as goal
 
 pub returns : goal.returns

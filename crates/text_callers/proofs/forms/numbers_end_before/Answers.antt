@@ -1,4 +1,4 @@
-use Rattle.std.proofs.Common.{[], codes}
+use Rattle.scop_syntax.proofs.Common.{[], codes}
 use Rattle.text_callers.proofs.forms.numbers_end_before.Goals as goal
 
 pub returns-clause-at_least : goal.returns-clause-at_least

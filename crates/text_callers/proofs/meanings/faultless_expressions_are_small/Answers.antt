@@ -1,4 +1,4 @@
-use Rattle.std.proofs.Common.{false}
+use Rattle.scop_syntax.proofs.Common.{false}
 use Rattle.scop_roles.specs.declared.formula.Meaning.TheVariants as meaning
 use Rattle.scop_roles.specs.Formula.{constant, index, name}
 use Rattle.text_callers.specs.Worked.{decimal}

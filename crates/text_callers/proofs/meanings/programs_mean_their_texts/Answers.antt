@@ -1,5 +1,4 @@
-use Rattle.std.proofs.Common.{◌∙◌, ap, subst, ◌++◌, ap₂}
-use Rattle.scop_syntax.specs.View.{trees_of}
+use Rattle.scop_syntax.proofs.Common.{◌∙◌, ap, subst, ◌++◌, ap₂, trees_of}
 use Rattle.scop_units.specs.Judging.{body_scope, items_at, first_scope, others_at}
 use Rattle.scop_units.specs.Scopes.{no_scope}
 use Rattle.scop_units.specs.Words.{words_of}

@@ -1,5 +1,4 @@
-use Rattle.std.proofs.Common.{◌≡◌, refl, sym, subst, arith, false, ◌∷◌, []}
-use Rattle.std.proofs.lemmas.List.Elements.{All-nil, All-cons}
+use Rattle.scop_syntax.proofs.Common.{◌≡◌, refl, sym, subst, arith, false, ◌∷◌, [], All-nil, All-cons}
 use Rattle.scop_roles.specs.declared.formula.Meaning.TheVariants as meaning
 use Rattle.scop_roles.specs.Faults.{rank}
 use Rattle.scop_roles.specs.Formula.{constant, index, name, meaning_of, subscripts}

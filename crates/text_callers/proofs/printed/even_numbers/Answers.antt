@@ -1,5 +1,4 @@
-use Rattle.std.proofs.Common.{arith, pos}
-use Rattle.std.proofs.lemmas.Int.{ints}
+use Rattle.scop_syntax.proofs.Common.{arith, pos, ints}
 use Rattle.text_callers.proofs.printed.even_numbers.Goals as goal
 
 pub returns-clause-multiple : goal.returns-clause-multiple

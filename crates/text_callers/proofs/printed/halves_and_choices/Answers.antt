@@ -1,5 +1,4 @@
-use Rattle.std.proofs.Common.{arith, pos}
-use Rattle.std.proofs.lemmas.Int.{ints}
+use Rattle.scop_syntax.proofs.Common.{arith, pos, ints}
 use Rattle.text_callers.proofs.printed.halves_and_choices.Goals as goal
 
 pub returns-clause-floor : goal.returns-clause-floor

@@ -1,4 +1,4 @@
-use Rattle.std.proofs.Common.{[], ap, length, sym}
+use Rattle.scop_syntax.proofs.Common.{[], ap, length, sym}
 use Rattle.text_callers.proofs.printed.iterators_without_loops.Goals as goal
 
 pub returns-clause-iterator : goal.returns-clause-iterator

@@ -1,6 +1,4 @@
-use Rattle.std.proofs.Common.{◌≡◌, subst}
-use Rattle.std.proofs.lemmas.Result.{IfOk-weaker}
-use Rattle.scop_syntax.specs.View.{program_of}
+use Rattle.scop_syntax.proofs.Common.{◌≡◌, subst, IfOk-weaker, program_of}
 use Rattle.c_printer.specs.Nodes.{text_of}
 use Rattle.text_callers.proofs.printed.text_of_a_tree.Goals as goal
 

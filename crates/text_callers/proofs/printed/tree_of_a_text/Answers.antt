@@ -1,5 +1,4 @@
-use Rattle.std.proofs.Common.{◌∙◌}
-use Rattle.std.proofs.lemmas.Result.{IfOk-weaker}
+use Rattle.scop_syntax.proofs.Common.{◌∙◌, IfOk-weaker}
 use Rattle.loop_tree.specs.Tree.{none as no_trees}
 use Rattle.text_callers.proofs.printed.tree_of_a_text.Goals as goal
 

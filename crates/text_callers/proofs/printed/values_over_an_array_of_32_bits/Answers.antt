@@ -1,4 +1,4 @@
-use Rattle.std.proofs.Common.{[], ◌∷◌, true}
+use Rattle.scop_syntax.proofs.Common.{[], ◌∷◌, true}
 use Rattle.text_callers.proofs.printed.values_over_an_array_of_32_bits.Goals as goal
 
 pub returns-clause-value : goal.returns-clause-value

@@ -1,4 +1,4 @@
-use Rattle.std.proofs.Common.{[], arith}
+use Rattle.scop_syntax.proofs.Common.{[], arith}
 use Rattle.quast_text.specs.Reading.{AreOuter}
 use Rattle.text_callers.proofs.quasts.texts_over_no_names.Goals as goal
 

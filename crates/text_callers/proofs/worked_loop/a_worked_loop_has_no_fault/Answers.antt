@@ -1,6 +1,4 @@
-use Rattle.std.proofs.Common.{[], ◌∷◌, ◌≤◌, ℕ, refl, arith}
-use Rattle.std.specs.Prelude.{All}
-use Rattle.std.proofs.lemmas.List.Elements.{All-nil, All-cons}
+use Rattle.scop_syntax.proofs.Common.{[], ◌∷◌, ◌≤◌, ℕ, refl, arith, All, All-nil, All-cons}
 use Rattle.scop_units.specs.Scopes.{no_scope}
 use Rattle.text_callers.specs.Worked.{below_seven, head, odd, odd_cell, product, sum}
 use Rattle.text_callers.proofs.Product.{in_scope, no_comma}

@@ -1,4 +1,4 @@
-use Rattle.std.proofs.Common.{[], ◌∷◌, refl}
+use Rattle.scop_syntax.proofs.Common.{[], ◌∷◌, refl}
 use Rattle.text_callers.specs.Worked.{below_seven, odd, odd_cell}
 use Rattle.text_callers.proofs.worked_loop.parts_of_a_worked_loop.Goals as goal
 

@@ -1,4 +1,4 @@
-use Rattle.std.proofs.Common.{[], refl}
+use Rattle.scop_syntax.proofs.Common.{[], refl}
 use Rattle.scop_units.specs.Scopes.{no_scope}
 use Rattle.text_callers.specs.Worked.{head}
 use Rattle.text_callers.proofs.worked_loop.turns_of_a_worked_loop.Goals as goal

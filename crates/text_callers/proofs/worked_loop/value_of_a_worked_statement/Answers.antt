@@ -1,4 +1,4 @@
-use Rattle.std.proofs.Common.{[], ◌∷◌, refl}
+use Rattle.scop_syntax.proofs.Common.{[], ◌∷◌, refl}
 use Rattle.text_callers.specs.Worked.{product}
 use Rattle.text_callers.proofs.Product.{in_scope, no_comma, hold_types}
 use Rattle.text_callers.proofs.worked_loop.value_of_a_worked_statement.Goals as goal

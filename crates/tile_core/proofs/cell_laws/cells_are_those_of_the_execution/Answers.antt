@@ -1,10 +1,9 @@
-use Rattle.std.proofs.Common.{arith, ◌∙◌, ◌+◌, ◌%◌, ◌^◌, ◌<◌, Bool, ℕ, [], ap, length, subst, sym}
+use Rattle.scop_syntax.proofs.Common.{arith, ◌∙◌, ◌+◌, ◌%◌, ◌^◌, ◌<◌, Bool, ℕ, [], ap, length, subst, sym, before_place}
+use Rattle.scop_syntax.proofs.Common.{cell_number, held, added_by, is_marked}
 use Rattle.tile_events.specs.Flat.{flat, value_by}
 use Rattle.tile_events.specs.Plan.{Plan}
 use Rattle.tile_events.specs.Sound.{Sound, is_done}
 use Rattle.tile_events.specs.Sums.{sum_of}
-use Rattle.scop_syntax.specs.Execution.{before_place, cell_number, held}
-use Rattle.scop_syntax.specs.Reductions.{added_by, is_marked}
 use Rattle.tile_core.specs.Marks.{values_loaded_by}
 use Rattle.tile_core.specs.Plans.{extents_in, plain_plan, plain_shape, shape_of, walk_in, walk_plan, walk_shape}
 use Rattle.tile_core.proofs.GatedPlans.{SameLaws}

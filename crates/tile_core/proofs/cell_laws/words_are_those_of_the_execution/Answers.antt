@@ -1,5 +1,4 @@
-use Rattle.std.proofs.Common.{◌∙◌, ◌+◌, map, subst}
-use Rattle.scop_syntax.specs.Execution.{cell_number}
+use Rattle.scop_syntax.proofs.Common.{◌∙◌, ◌+◌, map, subst, cell_number}
 use Rattle.tile_events.specs.Flat.{flat}
 use Rattle.tile_events.specs.Plan.{Plan}
 use Rattle.tile_events.specs.Rule.{core}

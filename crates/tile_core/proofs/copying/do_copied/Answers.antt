@@ -1,6 +1,5 @@
-use Rattle.std.proofs.Common.{◌≡◌, ◌∙◌, ◌+◌, ◌<◌, Bool, ℕ, List, ap, ap₂, arith, get_or, inl, inr, length, refl}
-use Rattle.std.proofs.Common.{set, suc, take}
-use Rattle.std.proofs.lemmas.List.{length-map, length-take, take_all}
+use Rattle.scop_syntax.proofs.Common.{◌≡◌, ◌∙◌, ◌+◌, ◌<◌, Bool, ℕ, List, ap, ap₂, arith, get_or, inl, inr, length, refl}
+use Rattle.scop_syntax.proofs.Common.{set, suc, take, length-map, length-take, take_all}
 use Rattle.tile_events.specs.Plan.{updated}
 use Rattle.tile_core.specs.Plans.{place_of, walk_shape}
 use Rattle.tile_core.specs.declared.worker.Stage.TheVariants.{Working}

@@ -1,4 +1,4 @@
-use Rattle.std.proofs.Common.{◌≡◌, take}
+use Rattle.scop_syntax.proofs.Common.{◌≡◌, take}
 use Rattle.tile_core.specs.Plans.{place_of, walk_shape}
 use Rattle.tile_core.specs.Workers.{IsWorker}
 use Rattle.tile_core.specs.steps.Acts.{values_at}

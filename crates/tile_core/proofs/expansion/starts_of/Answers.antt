@@ -1,6 +1,6 @@
-use Rattle.std.proofs.Common.{◌≡◌, ◌∙◌, ◌+◌, ◌∷◌, ℕ, List, [], ap, arith, length, refl, suc, sym}
+use Rattle.scop_syntax.proofs.Common.{◌≡◌, ◌∙◌, ◌+◌, ◌∷◌, ℕ, List, [], ap, arith, length, refl, suc, sym}
+use Rattle.scop_syntax.proofs.Common.{slice_get_read}
 use Rattle.std.proofs.lemmas.List.{length-append}
-use Rattle.std.proofs.lemmas.Option.{slice_get_read}
 use Rattle.tile_core.specs.Ranks.{sizes_of, start_at}
 use Rattle.tile_core.proofs.Tiles.{start_step, starts_more}
 use Rattle.tile_core.proofs.expansion.starts_of.Goals as goal

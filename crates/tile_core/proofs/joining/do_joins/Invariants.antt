@@ -1,5 +1,4 @@
-use Rattle.std.proofs.Common.{◌≡◌, ℕ, ℤ, List}
-use Rattle.scop_syntax.specs.Walk.{Instance}
+use Rattle.scop_syntax.proofs.Common.{◌≡◌, ℕ, ℤ, List, Instance}
 use Rattle.tile_table.specs.Joins.{IsJoinAt}
 use Rattle.tile_table.specs.declared.table.Row.{Row}
 use Rattle.tile_core.specs.Plans.{plain_shape}

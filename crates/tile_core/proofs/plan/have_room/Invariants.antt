@@ -1,5 +1,4 @@
-use Rattle.std.proofs.Common.{◌≡◌, ◌+◌, ◌<◌, ℕ, Some, length}
-use Rattle.std.specs.Prelude.{slice_get}
+use Rattle.scop_syntax.proofs.Common.{◌≡◌, ◌+◌, ◌<◌, ℕ, Some, length, slice_get}
 use Rattle.tile_list.specs.declared.list.Tile.{Tile}
 use Rattle.tile_core.proofs.plan.have_room.Given as goal
 

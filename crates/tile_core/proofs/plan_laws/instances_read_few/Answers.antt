@@ -1,4 +1,4 @@
-use Rattle.std.proofs.Common.{[], ap, arith, length}
+use Rattle.scop_syntax.proofs.Common.{[], ap, arith, length}
 use Rattle.tile_events.specs.Plan as events
 use Rattle.tile_core.specs.Plans.{extents_in, plain_shape, sources_in}
 use Rattle.tile_core.proofs.Copies.{few_copies}

@@ -1,6 +1,4 @@
-use Rattle.std.proofs.Common.{arith, ◌∙◌, ◌+◌, ◌<◌, ap, length, refl, sym, true}
-use Rattle.std.proofs.lemmas.Option.{slice_get_within}
-use Rattle.scop_syntax.specs.Execution.{cell_number}
+use Rattle.scop_syntax.proofs.Common.{arith, ◌∙◌, ◌+◌, ◌<◌, ap, length, refl, sym, true, slice_get_within, cell_number}
 use Rattle.tile_events.specs.Flat.{flat}
 use Rattle.tile_events.specs.Plan as events
 use Rattle.tile_events.specs.Plan.{before}

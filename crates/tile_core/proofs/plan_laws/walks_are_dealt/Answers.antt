@@ -1,5 +1,5 @@
+use Rattle.scop_syntax.proofs.Common.{[]}
 use Rattle.tile_core.proofs.HeldTiles.{tile_held}
-use Rattle.std.proofs.Common.{[]}
 use Rattle.tile_core.proofs.Plans.{NumberLaws, PlanLaws, copied_is, copies_are, count_is, dealt_is, good_is, plain_is}
 use Rattle.tile_core.proofs.Plans.{scan_is}
 use Rattle.tile_core.proofs.plan_laws.walks_are_dealt.Goals as goal

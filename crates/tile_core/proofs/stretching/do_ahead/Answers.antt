@@ -1,5 +1,5 @@
-use Rattle.std.proofs.Common.{rules, ◌≡◌, ◌≤◌, ◌∙◌, ◌+◌, ℕ, ℤ, List, ap, arith, length, subst, suc, take}
-use Rattle.scop_syntax.specs.View.{instance_of}
+use Rattle.scop_syntax.proofs.Common.{rules, ◌≡◌, ◌≤◌, ◌∙◌, ◌+◌, ℕ, ℤ, List, ap, arith, length, subst, suc, take}
+use Rattle.scop_syntax.proofs.Common.{instance_of}
 use Rattle.tile_table.specs.Desks.{IsLaid}
 use Rattle.tile_table.proofs.Desks.{room_stays, same_room_chain}
 use Rattle.tile_table.specs.Joins.{IsJoinAt}

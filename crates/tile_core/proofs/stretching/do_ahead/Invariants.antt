@@ -1,5 +1,4 @@
-use Rattle.std.proofs.Common.{◌≡◌, ℕ, Some, take}
-use Rattle.scop_syntax.specs.View.{instance_of}
+use Rattle.scop_syntax.proofs.Common.{◌≡◌, ℕ, Some, take, instance_of}
 use Rattle.scop_syntax.specs.declared.instance.Instance.{Instance}
 use Rattle.tile_table.specs.Desks.{HasSameRoom, IsLaid}
 use Rattle.tile_core.specs.Plans.{plain_shape}

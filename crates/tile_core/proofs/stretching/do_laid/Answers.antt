@@ -1,4 +1,4 @@
-use Rattle.std.proofs.Common.{rules, ◌∙◌, ◌<◌, Bool, ℕ, ap, ap₂, arith, get_or, length, set}
+use Rattle.scop_syntax.proofs.Common.{rules, ◌∙◌, ◌<◌, Bool, ℕ, ap, ap₂, arith, get_or, length, set}
 use Rattle.tile_events.specs.Plan.{updated}
 use Rattle.tile_core.specs.Plans.{places_in, plain_shape}
 use Rattle.tile_core.specs.Ranks.{place_in}

@@ -1,5 +1,6 @@
-use Rattle.std.proofs.Common.{rules, ◌≡◌, ◌∙◌, ◌+◌, ◌<◌, ℕ, List, ap, arith, get_or, length, sym, take}
-use Rattle.std.proofs.lemmas.List.{take_all, take_more_set}
+use Rattle.scop_syntax.proofs.Common.{rules, ◌≡◌, ◌∙◌, ◌+◌, ◌<◌, ℕ, List, ap, arith, get_or, length, sym, take}
+use Rattle.scop_syntax.proofs.Common.{take_all}
+use Rattle.std.proofs.lemmas.List.{take_more_set}
 use Rattle.tile_core.specs.Plans.{places_in, plain_shape}
 use Rattle.tile_core.specs.Ranks.{place_in}
 use Rattle.tile_core.specs.steps.Acts.{values_at}

@@ -1,5 +1,5 @@
-use Rattle.std.proofs.Common.{rules, ◌≡◌, ◌≤◌, ◌∙◌, ◌+◌, ◌<◌, ℕ, List, ap, arith, get_or, length, suc, take}
-use Rattle.std.specs.Vec.{with_item}
+use Rattle.scop_syntax.proofs.Common.{rules, ◌≡◌, ◌≤◌, ◌∙◌, ◌+◌, ◌<◌, ℕ, List, ap, arith, get_or, length, suc, take}
+use Rattle.scop_syntax.proofs.Common.{with_item}
 use Rattle.tile_table.proofs.Desks.{room_stays_for_all}
 use Rattle.tile_core.specs.Plans.{plain_shape}
 use Rattle.tile_core.specs.Stretches.{in_round}

@@ -1,4 +1,4 @@
-use Rattle.std.proofs.Common.{◌≡◌, ℕ, suc}
+use Rattle.scop_syntax.proofs.Common.{◌≡◌, ℕ, suc}
 use Rattle.tile_core.specs.Plans.{plain_shape}
 use Rattle.tile_core.specs.Strands.{AreLaid, IsRound}
 use Rattle.tile_core.specs.Workers.{IsWorker}

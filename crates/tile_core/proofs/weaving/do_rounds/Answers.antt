@@ -1,4 +1,4 @@
-use Rattle.std.proofs.Common.{arith, ◌≡◌, ◌∙◌, ◌+◌, ◌*◌, ℕ, List, ap, suc, subst, sym}
+use Rattle.scop_syntax.proofs.Common.{arith, ◌≡◌, ◌∙◌, ◌+◌, ◌*◌, ℕ, List, ap, suc, subst, sym}
 use Rattle.tile_core.specs.Plans.{plain_shape}
 use Rattle.tile_core.specs.Strands.{AreLaid, IsRound, StandsInRound}
 use Rattle.tile_core.specs.declared.worker.Worker.{Worker}

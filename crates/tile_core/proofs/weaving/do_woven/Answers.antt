@@ -1,4 +1,4 @@
-use Rattle.std.proofs.Common.{arith, ◌≡◌, ◌∙◌, ◌+◌, ◌*◌, ℕ, List, ap, suc}
+use Rattle.scop_syntax.proofs.Common.{arith, ◌≡◌, ◌∙◌, ◌+◌, ◌*◌, ℕ, List, ap, suc}
 use Rattle.tile_core.specs.Plans.{plain_shape}
 use Rattle.tile_core.specs.declared.worker.Stage.TheVariants.{Working}
 use Rattle.tile_core.specs.declared.worker.Worker.{Worker}

@@ -1,5 +1,4 @@
-use Rattle.std.proofs.Common.{◌≡◌, length}
-use Rattle.std.specs.Prelude.{All}
+use Rattle.scop_syntax.proofs.Common.{◌≡◌, length, All}
 use Rattle.tile_table.specs.Desks.{HasRoomForAll}
 use Rattle.tile_core.proofs.worker.desks_of.Given as goal
 

@@ -1,5 +1,4 @@
-use Rattle.std.proofs.Common.{◌≡◌, map}
-use Rattle.std.specs.Prelude.{All, replicate}
+use Rattle.scop_syntax.proofs.Common.{◌≡◌, map, All, replicate}
 use Rattle.tile_events.specs.Core.{idle}
 use Rattle.tile_core.specs.Workers.{IsWorker, worker_of}
 use Rattle.tile_core.proofs.worker.idle_workers.Given as goal

@@ -1,4 +1,4 @@
-use Rattle.std.proofs.Common.{rules, ◌≡◌, get_or, length, refl}
+use Rattle.scop_syntax.proofs.Common.{rules, ◌≡◌, get_or, length, refl}
 use Rattle.loop_tree.specs.declared.stretch.Stretch.{Stretch}
 use Rattle.tile_core.proofs.Rounds.{behind_rounds, spot_passed}
 use Rattle.tile_core.proofs.worker.leave_braid.Goals as goal

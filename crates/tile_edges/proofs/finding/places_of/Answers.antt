@@ -1,5 +1,4 @@
-use Rattle.std.proofs.Common.{ap, arith, length}
-use Rattle.std.proofs.lemmas.List.{length_push}
+use Rattle.scop_syntax.proofs.Common.{ap, arith, length, length_push}
 use Rattle.loop_tree.specs.TilingView.{tiling_of}
 use Rattle.tile_edges.proofs.FindingTiles.{got_at, places_more}
 use Rattle.tile_edges.proofs.finding.places_of.Goals as goal

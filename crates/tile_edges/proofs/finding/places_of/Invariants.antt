@@ -1,6 +1,4 @@
-use Rattle.std.proofs.Common.{◌≡◌, ℕ, Some, length}
-use Rattle.std.specs.Prelude.{slice_get}
-use Rattle.scop_syntax.specs.View.{instance_of}
+use Rattle.scop_syntax.proofs.Common.{◌≡◌, ℕ, Some, length, slice_get, instance_of}
 use Rattle.loop_tree.specs.TilingView.{tiling_of}
 use Rattle.tile_list.specs.declared.list.Tile.{Tile}
 use Rattle.tile_edges.specs.steps.Finding.{IsPlaceOf}

@@ -1,4 +1,4 @@
-use Rattle.std.proofs.Common.{◌≡◌, ◌++◌, drop, pos}
+use Rattle.scop_syntax.proofs.Common.{◌≡◌, ◌++◌, drop, pos}
 use Rattle.loop_tree.specs.Tiling.{coordinates}
 use Rattle.tile_edges.proofs.finding.push_coordinates.Given as goal
 

@@ -1,4 +1,4 @@
-use Rattle.std.proofs.Common.{◌≡◌, ◌++◌, drop, map, pos}
+use Rattle.scop_syntax.proofs.Common.{◌≡◌, ◌++◌, drop, map, pos}
 use Rattle.tile_edges.proofs.finding.push_numbers.Given as goal
 
 abbrev pub invariant-loop-number : goal.invariant-loop-number

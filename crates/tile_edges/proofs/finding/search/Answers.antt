@@ -1,4 +1,4 @@
-use Rattle.std.proofs.Common.{◌∙◌, ◌<◌, ◌+◌, ◌-◌, ◌/◌, arith, length, sym}
+use Rattle.scop_syntax.proofs.Common.{◌∙◌, ◌<◌, ◌+◌, ◌-◌, ◌/◌, arith, length, sym}
 use Rattle.tile_edges.proofs.FindingTiles.{got_at, halved_down, halved_up}
 use Rattle.tile_edges.proofs.finding.search.Goals as goal
 

@@ -1,4 +1,4 @@
-use Rattle.std.proofs.Common.{◌<◌, ◌≤◌, ◌-◌, ℕ, length}
+use Rattle.scop_syntax.proofs.Common.{◌<◌, ◌≤◌, ◌-◌, ℕ, length}
 use Rattle.tile_edges.specs.steps.Finding.{Stands}
 use Rattle.tile_edges.proofs.finding.search.Given as goal
 

@@ -1,5 +1,4 @@
-use Rattle.std.proofs.Common.{◌≡◌, ◌*◌, ◌^◌, ◌≤◌, drop, pos}
-use Rattle.std.specs.Prelude.{◌+ℤ◌, unsigned_abs}
+use Rattle.scop_syntax.proofs.Common.{◌≡◌, ◌*◌, ◌^◌, ◌≤◌, drop, pos, ◌+ℤ◌, unsigned_abs}
 use Rattle.loop_tree.specs.Tiling.{wave_sum}
 use Rattle.tile_edges.proofs.finding.shares.Given as goal
 

@@ -1,6 +1,4 @@
-use Rattle.std.proofs.Common.{◌∙◌, ◌+◌, arith, get_or, length, ap}
-use Rattle.std.proofs.lemmas.List.{length-set}
-use Rattle.scop_syntax.proofs.Members.{in_at}
+use Rattle.scop_syntax.proofs.Common.{◌∙◌, ◌+◌, arith, get_or, length, ap, length-set, in_at}
 use Rattle.tile_edges.proofs.RowLists.{counted_more}
 use Rattle.tile_edges.proofs.rows.needs_of.Goals as goal
 

@@ -1,4 +1,4 @@
-use Rattle.std.proofs.Common.{◌≡◌, ◌<◌, ℕ, get_or, length, nat_eq}
+use Rattle.scop_syntax.proofs.Common.{◌≡◌, ◌<◌, ℕ, get_or, length, nat_eq}
 use Rattle.tile_events.specs.Plan.{count_of}
 use Rattle.tile_edges.proofs.rows.needs_of.Given as goal
 

@@ -1,4 +1,4 @@
-use Rattle.std.proofs.Common.{◌≡◌, ◌++◌}
+use Rattle.scop_syntax.proofs.Common.{◌≡◌, ◌++◌}
 use Rattle.tile_edges.proofs.rows.put_row.Given as goal
 
 abbrev pub invariant-loop-key : goal.invariant-loop-key

@@ -1,7 +1,5 @@
-use Rattle.std.proofs.Common.{◌≡◌, ◌∙◌, ◌+◌, arith, get_or, length, rules, drop, subst, nat_eq}
+use Rattle.scop_syntax.proofs.Common.{◌≡◌, ◌∙◌, ◌+◌, arith, get_or, length, rules, drop, subst, nat_eq, length-map, In}
 use Rattle.tile_events.specs.Plan.{count_of}
-use Rattle.std.proofs.lemmas.List.{length-map}
-use Rattle.scop_syntax.specs.Members.{In}
 use Rattle.tile_edges.specs.steps.Rows.{joined, rows_in, starts_from}
 use Rattle.tile_edges.proofs.RowLists.{drop_seen, nothing_left, starts_end, starts_more, targets_end, targets_more}
 use Rattle.tile_edges.proofs.rows.rows_of.Goals as goal

@@ -1,4 +1,4 @@
-use Rattle.std.proofs.Common.{◌≡◌, ◌++◌, drop, length}
+use Rattle.scop_syntax.proofs.Common.{◌≡◌, ◌++◌, drop, length}
 use Rattle.tile_edges.specs.steps.Rows.{joined, rows_in, starts_from}
 use Rattle.tile_edges.proofs.rows.rows_of.Given as goal
 

@@ -1,10 +1,6 @@
-use Rattle.std.proofs.Common.{rules, ◌≡◌, ◌∙◌, ◌∷◌, [], List, ℤ, length, pos, get_or, take, to_z, of_z, ap, subst, sym}
-use Rattle.std.proofs.Common.{arith}
-use Rattle.std.specs.Prelude.{◌+ℤ◌, All, FitsSigned}
-use Rattle.std.specs.Int.{w64}
-use Rattle.std.proofs.lemmas.Int.{to_z-of_z}
-use Rattle.whole_numbers.specs.Lists.{multiples, sums}
-use Rattle.whole_numbers.proofs.Dot.{length-multiples}
+use Rattle.scop_syntax.proofs.Common.{rules, ◌≡◌, ◌∙◌, ◌∷◌, [], List, ℤ, length, pos, get_or, take, to_z, of_z, ap}
+use Rattle.scop_syntax.proofs.Common.{subst, sym, arith, ◌+ℤ◌, All, FitsSigned, w64, to_z-of_z, multiples, sums}
+use Rattle.scop_syntax.proofs.Common.{length-multiples}
 use Rattle.loop_tree.proofs.Stretches.{each_of_five, sums_front}
 use Rattle.tile_list.proofs.Stretches.{take-multiples}
 use Rattle.tile_edges.proofs.stretching.after.Goals as goal

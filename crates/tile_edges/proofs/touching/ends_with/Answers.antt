@@ -1,7 +1,4 @@
-use Rattle.std.proofs.Common.{sym, subst, length, ◌-◌}
-use Rattle.std.proofs.lemmas.Bool.{eqb-true}
-use Rattle.scop_syntax.specs.Members.{In}
-use Rattle.scop_syntax.proofs.Members.{in_from_place}
+use Rattle.scop_syntax.proofs.Common.{sym, subst, length, ◌-◌, eqb-true, In, in_from_place}
 use Rattle.tile_edges.proofs.touching.ends_with.Goals as goal
 
 pub returns-in-Some : goal.returns-in-Some

@@ -1,4 +1,4 @@
-use Rattle.std.proofs.Common.{◌≤◌, length, rules}
+use Rattle.scop_syntax.proofs.Common.{◌≤◌, length, rules}
 use Rattle.tile_edges.proofs.waiting.edges.Goals as goal
 
 pub returns-else-len-gt-MOST-clause-edges : goal.returns-else-len-gt-MOST-clause-edges

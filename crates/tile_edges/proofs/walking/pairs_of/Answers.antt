@@ -1,6 +1,4 @@
-use Rattle.std.proofs.Common.{◌∙◌, arith}
-use Rattle.scop_syntax.specs.Limits.{has_parameters}
-use Rattle.scop_syntax.specs.View.{program_of}
+use Rattle.scop_syntax.proofs.Common.{◌∙◌, arith, has_parameters, program_of}
 use Rattle.loop_tree.specs.TilingView.{tiling_of}
 use Rattle.tile_edges.proofs.PassedPlaces.{none_passed}
 use Rattle.tile_edges.proofs.walking.pairs_of.Goals as goal

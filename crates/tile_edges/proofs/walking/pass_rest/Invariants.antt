@@ -1,5 +1,4 @@
-use Rattle.std.proofs.Common.{length}
-use Rattle.scop_syntax.specs.View.{program_of}
+use Rattle.scop_syntax.proofs.Common.{length, program_of}
 use Rattle.loop_tree.specs.SpotView.{to_come}
 use Rattle.loop_tree.specs.TilingView.{tiling_of}
 use Rattle.loop_tree.specs.View.{trees_in}

@@ -1,6 +1,4 @@
-use Rattle.std.proofs.Common.{◌≡◌, map, take}
-use Rattle.whole_numbers.specs.Affine.{value_of}
-use Rattle.scop_syntax.specs.Values.{wrapped}
+use Rattle.scop_syntax.proofs.Common.{◌≡◌, map, take, value_of, wrapped}
 use Rattle.tile_edges.proofs.walking.put_cells.Given as goal
 
 abbrev pub invariant-loop-access : goal.invariant-loop-access

@@ -1,7 +1,4 @@
-use Rattle.std.proofs.Common.{◌∙◌, ap, arith, map}
-use Rattle.std.proofs.lemmas.List.{take_all}
-use Rattle.whole_numbers.specs.Affine.{value_of}
-use Rattle.scop_syntax.specs.Values.{wrapped}
+use Rattle.scop_syntax.proofs.Common.{◌∙◌, ap, arith, map, take_all, value_of, wrapped}
 use Rattle.tile_edges.proofs.Taken.{map_told}
 use Rattle.tile_edges.proofs.walking.put_laid.Goals as goal
 

@@ -1,6 +1,4 @@
-use Rattle.std.proofs.Common.{◌≡◌, ℤ, List, map, take}
-use Rattle.whole_numbers.specs.Affine.{value_of}
-use Rattle.scop_syntax.specs.Values.{wrapped}
+use Rattle.scop_syntax.proofs.Common.{◌≡◌, ℤ, List, map, take, value_of, wrapped}
 use Rattle.tile_table.specs.Desks.{IsLaid}
 use Rattle.tile_edges.proofs.walking.put_laid.Given as goal
 

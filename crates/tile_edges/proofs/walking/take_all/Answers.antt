@@ -1,4 +1,4 @@
-use Rattle.std.proofs.lemmas.List.{nil_from_length}
+use Rattle.scop_syntax.proofs.Common.{nil_from_length}
 use Rattle.tile_edges.proofs.KeptTraces.{has_taken, none_taken}
 use Rattle.tile_edges.proofs.walking.take_all.Goals as goal
 

@@ -1,5 +1,4 @@
-use Rattle.std.proofs.Common.{rules, ◌≡◌, ◌++◌, List, ap₂, arith, length, get_or}
-use Rattle.scop_syntax.specs.Walk.{Instance}
+use Rattle.scop_syntax.proofs.Common.{rules, ◌≡◌, ◌++◌, List, ap₂, arith, length, get_or, Instance}
 use Rattle.loop_tree.proofs.Braids.{braid_none}
 use Rattle.loop_tree.proofs.Stretches.{nothing_left}
 use Rattle.tile_list.proofs.cutting.has_left.Goals as goal

@@ -1,5 +1,4 @@
-use Rattle.std.proofs.Common.{◌≡◌, arith, get_or, take}
-use Rattle.whole_numbers.proofs.Entries.{all_next, all_taken}
+use Rattle.scop_syntax.proofs.Common.{◌≡◌, arith, get_or, take, all_next, all_taken}
 use Rattle.tile_list.proofs.cutting.rounds_left.Goals as goal
 
 pub loop-strand-preserved : goal.loop-strand-preserved

@@ -1,4 +1,4 @@
-use Rattle.std.proofs.Common.{◌≡◌, All, take}
+use Rattle.scop_syntax.proofs.Common.{◌≡◌, All, take}
 use Rattle.tile_list.proofs.cutting.rounds_left.Given as goal
 
 abbrev pub invariant-loop-strand : goal.invariant-loop-strand

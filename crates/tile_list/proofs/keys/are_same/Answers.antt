@@ -1,5 +1,4 @@
-use Rattle.std.proofs.lemmas.Bool.Decides.{Decides-eqb}
-use Rattle.std.proofs.lemmas.Slice.Eq.{slice_eq-Decides}
+use Rattle.scop_syntax.proofs.Common.{Decides-eqb, slice_eq-Decides}
 use Rattle.tile_list.proofs.keys.are_same.Goals as goal
 
 pub returns : goal.returns

@@ -1,4 +1,4 @@
-use Rattle.std.proofs.Common.{◌≡◌, take, pos}
+use Rattle.scop_syntax.proofs.Common.{◌≡◌, take, pos}
 use Rattle.loop_tree.specs.Tiling.{coordinates}
 use Rattle.tile_list.proofs.keys.are_within.Given as goal
 

@@ -1,5 +1,4 @@
-use Rattle.std.proofs.Common.{◌≡◌, ◌*◌, ◌^◌, ◌≤◌, drop}
-use Rattle.std.specs.Prelude.{◌+ℤ◌, unsigned_abs}
+use Rattle.scop_syntax.proofs.Common.{◌≡◌, ◌*◌, ◌^◌, ◌≤◌, drop, ◌+ℤ◌, unsigned_abs}
 use Rattle.tile_list.specs.steps.Keys.{carried}
 use Rattle.tile_list.proofs.keys.carried_sum.Given as goal
 

@@ -1,7 +1,4 @@
-use Rattle.std.proofs.Common.{rules, arith}
-use Rattle.std.specs.Prelude.{FitsSigned}
-use Rattle.std.specs.Int.{w64}
-use Rattle.std.proofs.lemmas.Int.{ints, to_z-of_z}
+use Rattle.scop_syntax.proofs.Common.{rules, arith, FitsSigned, w64, ints, to_z-of_z}
 use Rattle.tile_list.proofs.TellingKeys.{in_interval, within}
 use Rattle.tile_list.proofs.keys.is_within.Goals as goal
 

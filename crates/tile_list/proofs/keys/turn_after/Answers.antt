@@ -1,8 +1,5 @@
-use Rattle.std.proofs.Common.{◌∙◌, ◌<◌, ◌^◌, ℤ, pos, ap, subst, get_or, sym, rules}
-use Rattle.std.specs.Prelude.{◌+ℤ◌, FitsSigned}
-use Rattle.std.specs.Int.{w64}
-use Rattle.std.proofs.lemmas.Int.{to_z-of_z}
-use Rattle.whole_numbers.proofs.Dot.{get_or-multiples}
+use Rattle.scop_syntax.proofs.Common.{◌∙◌, ◌<◌, ◌^◌, ℤ, pos, ap, subst, get_or, sym, rules, ◌+ℤ◌, FitsSigned, w64}
+use Rattle.scop_syntax.proofs.Common.{to_z-of_z, get_or-multiples}
 use Rattle.tile_list.proofs.Stretches.{turn_on}
 use Rattle.tile_list.proofs.keys.turn_after.Goals as goal
 

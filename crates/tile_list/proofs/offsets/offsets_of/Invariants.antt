@@ -1,4 +1,4 @@
-use Rattle.std.proofs.Common.{◌≡◌, ◌++◌, drop, length}
+use Rattle.scop_syntax.proofs.Common.{◌≡◌, ◌++◌, drop, length}
 use Rattle.tile_list.specs.TilesView.{waves_of}
 use Rattle.tile_list.specs.steps.Offsets.{offsets_from}
 use Rattle.tile_list.proofs.offsets.offsets_of.Given as goal

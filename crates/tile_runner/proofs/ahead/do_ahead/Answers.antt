@@ -1,4 +1,4 @@
-use Rattle.std.proofs.Common.{arith}
+use Rattle.scop_syntax.proofs.Common.{arith}
 use Rattle.tile_runner.proofs.ahead.do_ahead.Goals as goal
 
 pub returns-clause-within : goal.returns-clause-within

@@ -1,4 +1,4 @@
-use Rattle.std.proofs.Common.{subst, sym}
+use Rattle.scop_syntax.proofs.Common.{subst, sym}
 use Rattle.tile_core.specs.Stretches.{CanPass}
 use Rattle.tile_core.specs.declared.worker.Worker.{Worker}
 use Rattle.tile_runner.proofs.ahead.do_stretch.Goals as goal

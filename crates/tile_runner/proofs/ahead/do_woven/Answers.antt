@@ -1,4 +1,4 @@
-use Rattle.std.proofs.Common.{arith, ◌≡◌, ◌+◌, ℕ, [], subst, suc, sym}
+use Rattle.scop_syntax.proofs.Common.{arith, ◌≡◌, ◌+◌, ℕ, [], subst, suc, sym}
 use Rattle.array_words.specs.Seats.{IsSeat}
 use Rattle.tile_core.specs.Stretches.{IsWoven}
 use Rattle.tile_core.specs.Views.{done_at, tile_at}

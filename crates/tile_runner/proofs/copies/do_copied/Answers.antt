@@ -1,4 +1,4 @@
-use Rattle.std.proofs.Common.{◌≡◌, ◌∙◌, ◌+◌, suc, ap, ap₂, arith, length, subst, sym}
+use Rattle.scop_syntax.proofs.Common.{◌≡◌, ◌∙◌, ◌+◌, suc, ap, ap₂, arith, length, subst, sym}
 use Rattle.tile_core.specs.Passes.{walk_in}
 use Rattle.tile_core.specs.Plans.{place_of}
 use Rattle.tile_core.specs.Views.{done_at, tile_at}

@@ -1,4 +1,4 @@
-use Rattle.std.proofs.Common.{arith, subst, sym}
+use Rattle.scop_syntax.proofs.Common.{arith, subst, sym}
 use Rattle.array_words.specs.Loads.{IsNextRead}
 use Rattle.tile_core.specs.Passes.{walk_in}
 use Rattle.tile_core.specs.declared.worker.Stage.{Stage}

@@ -1,4 +1,4 @@
-use Rattle.std.proofs.Common.{◌≡◌, length}
+use Rattle.scop_syntax.proofs.Common.{◌≡◌, length}
 use Rattle.tile_core.specs.Passes.{IsPass}
 use Rattle.tile_runner.proofs.copies.load_all.Given as goal
 

@@ -1,4 +1,4 @@
-use Rattle.std.proofs.Common.{[], ◌∷◌, arith, refl, subst, suc, sym}
+use Rattle.scop_syntax.proofs.Common.{[], ◌∷◌, arith, refl, subst, suc, sym}
 use Rattle.array_words.specs.Seats.{IsSeat}
 use Rattle.array_words.specs.Stores.{IsNextStore}
 use Rattle.tile_core.specs.Passes.{walk_in}

@@ -1,4 +1,4 @@
-use Rattle.std.proofs.Common.{ℤ, List, [], subst}
+use Rattle.scop_syntax.proofs.Common.{ℤ, List, [], subst}
 use Rattle.array_words.specs.Seats.{IsSeat}
 use Rattle.tile_table.specs.Joins.{IsJoinAt}
 use Rattle.tile_core.specs.Views.{done_at, tile_at}

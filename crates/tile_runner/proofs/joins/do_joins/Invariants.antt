@@ -1,4 +1,4 @@
-use Rattle.std.proofs.Common.{◌+◌, ◌-◌, []}
+use Rattle.scop_syntax.proofs.Common.{◌+◌, ◌-◌, []}
 use Rattle.array_words.specs.Seats.{IsSeat}
 use Rattle.tile_core.specs.Views.{done_at, tile_at}
 use Rattle.tile_core.specs.declared.worker.Stage.TheVariants.{Working}

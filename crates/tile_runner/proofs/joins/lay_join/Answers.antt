@@ -1,5 +1,4 @@
-use Rattle.std.proofs.Common.{ℤ, List, arith, subst, take}
-use Rattle.std.proofs.lemmas.Option.{IfSome_then}
+use Rattle.scop_syntax.proofs.Common.{ℤ, List, arith, subst, take, IfSome_then}
 use Rattle.tile_table.specs.Joins.{IsJoinAt}
 use Rattle.tile_core.proofs.Ahead.{walked_ahead}
 use Rattle.tile_runner.proofs.Laid.{ahead_laid}

@@ -1,5 +1,5 @@
-use Rattle.std.proofs.Common.{rules, ◌≡◌, ◌∙◌, ◌+◌, ◌<◌, ℕ, [], ap, ap₂, arith, get_or, length, refl, subst, suc}
-use Rattle.std.specs.Vec.{with_item}
+use Rattle.scop_syntax.proofs.Common.{rules, ◌≡◌, ◌∙◌, ◌+◌, ◌<◌, ℕ, [], ap, ap₂, arith, get_or, length, refl, subst}
+use Rattle.scop_syntax.proofs.Common.{suc, with_item}
 use Rattle.array_words.specs.Seats.{IsSeat}
 use Rattle.tile_table.proofs.Desks.{room_stays_for_all}
 use Rattle.tile_core.specs.Stretches.{in_round}

@@ -1,4 +1,4 @@
-use Rattle.std.proofs.Common.{◌≡◌, ◌+◌, [], ℕ, suc}
+use Rattle.scop_syntax.proofs.Common.{◌≡◌, ◌+◌, [], ℕ, suc}
 use Rattle.array_words.specs.Seats.{IsSeat}
 use Rattle.tile_core.specs.Strands.{AreLaid}
 use Rattle.tile_core.specs.Views.{done_at, tile_at}

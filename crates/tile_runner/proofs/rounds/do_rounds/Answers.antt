@@ -1,4 +1,4 @@
-use Rattle.std.proofs.Common.{arith, ◌≡◌, ◌∙◌, ◌+◌, ◌*◌, ℕ, [], ap, subst, suc, sym}
+use Rattle.scop_syntax.proofs.Common.{arith, ◌≡◌, ◌∙◌, ◌+◌, ◌*◌, ℕ, [], ap, subst, suc, sym}
 use Rattle.array_words.specs.Seats.{IsSeat}
 use Rattle.tile_core.specs.Strands.{AreLaid}
 use Rattle.tile_core.specs.Views.{done_at, tile_at}

@@ -1,5 +1,5 @@
-use Rattle.std.proofs.Common.{rules, arith, ◌≡◌, ◌∙◌, ◌++◌, ap, drop, length, subst, sym, take, List, ℕ}
-use Rattle.std.proofs.Math.Seq.{take-append_seam}
+use Rattle.scop_syntax.proofs.Common.{rules, arith, ◌≡◌, ◌∙◌, ◌++◌, ap, drop, length, subst, sym, take, List, ℕ}
+use Rattle.scop_syntax.proofs.Common.{take-append_seam}
 use Rattle.tile_core.specs.declared.plan.Plan.{Plan}
 use Rattle.tile_core.specs.Plans.{plan_of}
 use Rattle.array_words.specs.Closing.{IsClosed}

@@ -1,5 +1,5 @@
 -- The cells at the end are those of a sound state where all tiles are done, which plans speak of.
-use Rattle.std.proofs.lemmas.Result.{IfOk-weaker}
+use Rattle.scop_syntax.proofs.Common.{IfOk-weaker}
 use Rattle.tile_core.specs.Plans.{plan_of}
 use Rattle.tile_events.specs.Flat.{flat}
 use Rattle.tile_runner.proofs.Ends.{end_of, quiet_end, sound_end}

@@ -1,4 +1,4 @@
-use Rattle.std.proofs.Common.{◌≡◌, ◌∙◌, ℕ, ap, arith, subst, sym, take}
+use Rattle.scop_syntax.proofs.Common.{◌≡◌, ◌∙◌, ℕ, ap, arith, subst, sym, take}
 use Rattle.array_words.specs.Loads.{IsNextRead}
 use Rattle.array_words.specs.Stores.{IsNextLast}
 use Rattle.tile_table.specs.Codes.{value_by}

@@ -1,4 +1,4 @@
-use Rattle.std.proofs.Common.{◌≡◌, ℤ, List, length, take}
+use Rattle.scop_syntax.proofs.Common.{◌≡◌, ℤ, List, length, take}
 use Rattle.array_words.specs.Seats.{IsSeat}
 use Rattle.tile_table.specs.Desks.{HasSameRoom, IsLaid}
 use Rattle.tile_runner.proofs.stretches.do_laid.Given as goal

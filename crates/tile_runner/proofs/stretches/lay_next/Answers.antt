@@ -1,4 +1,4 @@
-use Rattle.std.proofs.Common.{List, ℤ, subst, take}
+use Rattle.scop_syntax.proofs.Common.{List, ℤ, subst, take}
 use Rattle.tile_table.specs.Desks.{IsLaid}
 use Rattle.tile_table.proofs.Desks.{room_stays}
 use Rattle.tile_runner.specs.Laid.{IsOnDesk}

@@ -1,4 +1,4 @@
-use Rattle.std.proofs.Common.{◌≡◌, ◌∙◌, ◌+◌, ap, arith, sym}
+use Rattle.scop_syntax.proofs.Common.{◌≡◌, ◌∙◌, ◌+◌, ap, arith, sym}
 use Rattle.tile_core.specs.Views.{done_at}
 use Rattle.tile_core.specs.declared.worker.Stage.TheVariants.{Working}
 use Rattle.tile_core.specs.Passes.{walk_in}

@@ -1,4 +1,4 @@
-use Rattle.std.proofs.Common.{◌≡◌}
+use Rattle.scop_syntax.proofs.Common.{◌≡◌}
 use Rattle.tile_core.specs.declared.worker.Stage.TheVariants.{Holding}
 use Rattle.tile_core.specs.Passes.{IsPass}
 use Rattle.tile_runner.proofs.working.open_held.Given as goal

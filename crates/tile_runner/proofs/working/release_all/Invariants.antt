@@ -1,4 +1,4 @@
-use Rattle.std.proofs.Common.{◌≡◌, ◌+◌}
+use Rattle.scop_syntax.proofs.Common.{◌≡◌, ◌+◌}
 use Rattle.tile_core.specs.Passes.{IsPass, walk_in}
 use Rattle.tile_core.specs.declared.worker.Stage.TheVariants.{Working}
 use Rattle.tile_runner.proofs.working.release_all.Given as goal

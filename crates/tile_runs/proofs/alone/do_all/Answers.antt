@@ -1,4 +1,4 @@
-use Rattle.std.proofs.Common.{◌≡◌, suc, ◌+◌, arith, subst}
+use Rattle.scop_syntax.proofs.Common.{◌≡◌, suc, ◌+◌, arith, subst}
 use Rattle.tile_core.specs.Cores.{state_in}
 use Rattle.tile_events.specs.Core.{idle}
 use Rattle.tile_runs.specs.steps.Alone.{IsAlone}

@@ -1,4 +1,4 @@
-use Rattle.std.proofs.Common.{◌<◌, arith, subst}
+use Rattle.scop_syntax.proofs.Common.{◌<◌, arith, subst}
 use Rattle.tile_core.specs.Acts.{DoesStretch}
 use Rattle.tile_core.specs.Cores.{plan_in, state_in}
 use Rattle.tile_core.specs.Plans.{walk_shape}

@@ -1,4 +1,4 @@
-use Rattle.std.proofs.Common.{subst, sym, ◌<◌}
+use Rattle.scop_syntax.proofs.Common.{subst, sym, ◌<◌}
 use Rattle.tile_core.specs.Boards.{seen_of}
 use Rattle.tile_core.specs.Cores.{plan_in, state_in}
 use Rattle.tile_core.specs.Plans.{shape_of}

@@ -1,4 +1,4 @@
-use Rattle.std.proofs.Common.{◌≡◌, ◌+◌, ◌<◌, ◌≤◌, suc, [], arith, subst}
+use Rattle.scop_syntax.proofs.Common.{◌≡◌, ◌+◌, ◌<◌, ◌≤◌, suc, [], arith, subst}
 use Rattle.tile_core.specs.Boards.{seen_of}
 use Rattle.tile_core.specs.Cores.{plan_in, state_in}
 use Rattle.tile_core.specs.Plans.{walk_shape}

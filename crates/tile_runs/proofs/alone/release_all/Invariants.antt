@@ -1,4 +1,4 @@
-use Rattle.std.proofs.Common.{◌+◌, suc, []}
+use Rattle.scop_syntax.proofs.Common.{◌+◌, suc, []}
 use Rattle.tile_core.specs.Cores.{state_in}
 use Rattle.tile_events.specs.Core.{working}
 use Rattle.tile_runs.specs.steps.Alone.{IsAlone, IsLater}

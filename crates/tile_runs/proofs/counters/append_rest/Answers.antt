@@ -1,4 +1,4 @@
-use Rattle.std.proofs.Common.{◌+◌}
+use Rattle.scop_syntax.proofs.Common.{◌+◌}
 use Rattle.tile_runs.proofs.CounterRows.{zeros_then}
 use Rattle.tile_runs.proofs.counters.append_rest.Goals as goal
 

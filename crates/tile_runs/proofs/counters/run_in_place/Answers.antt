@@ -1,5 +1,4 @@
-use Rattle.std.proofs.Common.{◌≡◌, ◌∙◌, ap, length, rules, subst, take}
-use Rattle.scop_syntax.specs.Execution.{total_cells}
+use Rattle.scop_syntax.proofs.Common.{◌≡◌, ◌∙◌, ap, length, rules, subst, take, total_cells}
 use Rattle.tile_core.specs.Plans.{extents_in}
 use Rattle.tile_runs.specs.Running.{LeavesCells}
 use Rattle.tile_runs.proofs.CounterRows.{has_rest, holds_contents}

@@ -1,6 +1,4 @@
-use Rattle.std.proofs.Common.{◌≡◌, ◌∙◌, ap, arith, length, rules, subst, take}
-use Rattle.scop_syntax.specs.Execution.{total_cells}
-use Rattle.scop_syntax.specs.Limits.{has_parameters}
+use Rattle.scop_syntax.proofs.Common.{◌≡◌, ◌∙◌, ap, arith, length, rules, subst, take, total_cells, has_parameters}
 use Rattle.tile_core.specs.Plans.{extents_in}
 use Rattle.tile_runs.specs.Running.{HasCopies, LeavesCells}
 use Rattle.tile_runs.proofs.CountedCells.{arrays_of}

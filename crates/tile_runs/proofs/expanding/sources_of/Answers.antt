@@ -1,6 +1,4 @@
-use Rattle.std.proofs.Common.{List, ℤ, subst, sym}
-use Rattle.scop_syntax.specs.Execution.{IsInside}
-use Rattle.scop_syntax.specs.View.{program_of}
+use Rattle.scop_syntax.proofs.Common.{List, ℤ, subst, sym, IsInside, program_of}
 use Rattle.tile_runs.proofs.expanding.sources_of.Goals as goal
 
 pub source_places-requires-clause-inside : goal.source_places-requires-clause-inside

@@ -1,11 +1,5 @@
-use Rattle.std.proofs.Common.{rules, ◌≡◌, List, ℤ, [], length, subst, sym, true}
-use Rattle.std.specs.Option.{option_map}
-use Rattle.std.specs.Prelude.{⊤, MatchOption, Option}
-use Rattle.std.proofs.lemmas.Result.{IfOk-weaker}
-use Rattle.scop_syntax.specs.Execution.{IsInside}
-use Rattle.scop_syntax.specs.Limits.{WithinLimits, has_parameters}
-use Rattle.scop_syntax.specs.View.{program_of}
-use Rattle.scop_syntax.specs.Walk.{walk_of}
+use Rattle.scop_syntax.proofs.Common.{rules, ◌≡◌, List, ℤ, [], length, subst, sym, true, option_map, ⊤, MatchOption}
+use Rattle.scop_syntax.proofs.Common.{Option, IfOk-weaker, IsInside, WithinLimits, has_parameters, program_of, walk_of}
 use Rattle.loop_tree.specs.Conditions.{CanWalk}
 use Rattle.loop_tree.specs.Plans.{AreInOrder}
 use Rattle.loop_tree.specs.TilingView.{tiling_of}

@@ -1,4 +1,4 @@
-use Rattle.std.proofs.Common.{◌≡◌, ◌++◌, List, ℕ, drop}
+use Rattle.scop_syntax.proofs.Common.{◌≡◌, ◌++◌, List, ℕ, drop}
 use Rattle.tile_events.specs.Flat.{flat}
 use Rattle.tile_runs.proofs.rows.append_all.Given as goal
 

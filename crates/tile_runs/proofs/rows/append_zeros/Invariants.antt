@@ -1,4 +1,4 @@
-use Rattle.std.proofs.Common.{◌≡◌, ◌++◌, replicate}
+use Rattle.scop_syntax.proofs.Common.{◌≡◌, ◌++◌, replicate}
 use Rattle.tile_runs.proofs.rows.append_zeros.Given as goal
 
 abbrev pub invariant-loop : goal.invariant-loop

@@ -1,4 +1,4 @@
-use Rattle.std.proofs.Common.{length, ◌<◌, rules}
+use Rattle.scop_syntax.proofs.Common.{length, ◌<◌, rules}
 use Rattle.tile_runs.proofs.CountedCells.{one_counted}
 use Rattle.tile_runs.proofs.rows.cells_in.Goals as goal
 

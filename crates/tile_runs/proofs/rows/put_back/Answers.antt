@@ -1,4 +1,4 @@
-use Rattle.std.proofs.Common.{◌≡◌, ◌+◌, ◌-◌, ◌<◌, ◌≤◌, ap, arith, drop, length, rules, subst, sym, take}
+use Rattle.scop_syntax.proofs.Common.{◌≡◌, ◌+◌, ◌-◌, ◌<◌, ◌≤◌, ap, arith, drop, length, rules, subst, sym, take}
 use Rattle.tile_runs.proofs.Cells.{IsBack, all_back, back_next}
 use Rattle.tile_runs.proofs.rows.put_back.Goals as goal
 

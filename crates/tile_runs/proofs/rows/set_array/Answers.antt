@@ -1,7 +1,5 @@
-use Rattle.std.proofs.Common.{◌≡◌, ◌∙◌, ◌<◌, ap, ap₂, arith, get_or, length}
-use Rattle.std.proofs.Common.{map, set, subst, sym, List, ℕ, [], Vec, Global}
-use Rattle.std.proofs.lemmas.List.{get_or-map, length-map, map-set, with_items_is}
-use Rattle.std.specs.Vec.{with_items}
+use Rattle.scop_syntax.proofs.Common.{◌≡◌, ◌∙◌, ◌<◌, ap, ap₂, arith, get_or, length, map, set, subst, sym, List, ℕ, []}
+use Rattle.scop_syntax.proofs.Common.{Vec, Global, get_or-map, length-map, map-set, with_items_is, with_items}
 use Rattle.tile_runs.proofs.rows.set_array.Goals as goal
 
 -- a row whose cells are others, as many as before

@@ -1,8 +1,5 @@
-use Rattle.std.proofs.Common.{◌≡◌, ℕ, ℤ, Bool, List, [], length, subst, true}
-use Rattle.std.specs.Option.{option_map}
-use Rattle.std.specs.Prelude.{⊤, MatchOption}
-use Rattle.scop_syntax.specs.View.{program_of}
-use Rattle.scop_syntax.specs.Walk.{walk_of}
+use Rattle.scop_syntax.proofs.Common.{◌≡◌, ℕ, ℤ, Bool, List, [], length, subst, true, option_map, ⊤, MatchOption}
+use Rattle.scop_syntax.proofs.Common.{program_of, walk_of}
 use Rattle.loop_tree.specs.TilingView.{tiling_of}
 use Rattle.loop_tree.specs.View.{trees_in}
 use Rattle.tile_table.specs.Tables.{IsTableBy}

@@ -1,10 +1,5 @@
-use Rattle.std.proofs.Common.{subst, sym, ℤ, List, []}
-use Rattle.std.specs.Prelude.{⊤, MatchOption, is_some}
-use Rattle.scop_syntax.specs.Execution.{IsInside}
-use Rattle.scop_syntax.specs.Limits.{WithinLimits, has_parameters}
-use Rattle.scop_syntax.specs.Reductions.{AreMarked}
-use Rattle.scop_syntax.specs.View.{program_of}
-use Rattle.scop_syntax.specs.Walk.{walk_of}
+use Rattle.scop_syntax.proofs.Common.{subst, sym, ℤ, List, [], ⊤, MatchOption, is_some, IsInside, WithinLimits}
+use Rattle.scop_syntax.proofs.Common.{has_parameters, AreMarked, program_of, walk_of}
 use Rattle.loop_tree.specs.Conditions.{CanWalk}
 use Rattle.loop_tree.specs.Plans.{AreInOrder}
 use Rattle.loop_tree.specs.Tiling.{IsFlowPlan, IsGoodFor}

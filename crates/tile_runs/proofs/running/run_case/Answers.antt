@@ -1,6 +1,5 @@
-use Rattle.std.proofs.Common.{rules, ◌≡◌, ◌∙◌, ap, length, map, set, List, ℕ, [], subst, sym}
-use Rattle.scop_syntax.specs.Execution.{IsShaped, exec, layout}
-use Rattle.scop_syntax.specs.View.{program_of}
+use Rattle.scop_syntax.proofs.Common.{rules, ◌≡◌, ◌∙◌, ap, length, map, set, List, ℕ, [], subst, sym, IsShaped, exec}
+use Rattle.scop_syntax.proofs.Common.{layout, program_of}
 use Rattle.tile_runs.proofs.Cells.{flat_long, shape_executed}
 use Rattle.tile_runs.proofs.FirstArray.{all_given, behind, front_within, long_behind, shape_behind, whole}
 use Rattle.tile_runs.proofs.running.run_case.Goals as goal

@@ -1,9 +1,5 @@
-use Rattle.std.proofs.Common.{◌≡◌, ◌∙◌, ℤ, Bool, List, [], ap, arith, subst, sym}
-use Rattle.std.specs.Prelude.{⊤, MatchOption, is_some}
-use Rattle.scop_syntax.specs.Execution.{total_cells}
-use Rattle.scop_syntax.specs.Limits.{has_parameters}
-use Rattle.scop_syntax.specs.View.{program_of}
-use Rattle.scop_syntax.specs.Walk.{walk_of}
+use Rattle.scop_syntax.proofs.Common.{◌≡◌, ◌∙◌, ℤ, Bool, List, [], ap, arith, subst, sym, ⊤, MatchOption, is_some}
+use Rattle.scop_syntax.proofs.Common.{total_cells, has_parameters, program_of, walk_of}
 use Rattle.loop_tree.specs.Plans.{walked}
 use Rattle.loop_tree.specs.Tiling.{tile_of, wave_of}
 use Rattle.loop_tree.specs.TilingView.{tiling_of}

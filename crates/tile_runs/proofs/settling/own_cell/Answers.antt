@@ -1,6 +1,4 @@
-use Rattle.std.proofs.Common.{◌∙◌, ap, arith, ℤ, List}
-use Rattle.whole_numbers.specs.Affine.{value_of}
-use Rattle.scop_syntax.specs.Values.{wrapped}
+use Rattle.scop_syntax.proofs.Common.{◌∙◌, ap, arith, ℤ, List, value_of, wrapped}
 use Rattle.tile_runs.proofs.settling.own_cell.Goals as goal
 
 pub cell_at-requires : goal.cell_at-requires

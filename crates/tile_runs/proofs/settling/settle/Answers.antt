@@ -1,12 +1,6 @@
-use Rattle.std.proofs.Common.{◌≡◌, ◌∙◌, ◌+◌, List, ℕ, [], suc, ap, add-one, arith, drop, get_or, rules}
-use Rattle.std.proofs.Common.{set, subst, sym}
-use Rattle.std.proofs.lemmas.List.{length-map}
-use Rattle.std.proofs.lemmas.Option.{slice_get_within}
-use Rattle.scop_syntax.specs.Cells.{written}
-use Rattle.scop_syntax.specs.Execution.{cell_number}
-use Rattle.scop_syntax.specs.View.{instance_of}
-use Rattle.scop_syntax.specs.Walk.{instance}
-use Rattle.scop_syntax.proofs.Members.{in_from_place}
+use Rattle.scop_syntax.proofs.Common.{◌≡◌, ◌∙◌, ◌+◌, List, ℕ, [], suc, ap, add-one, arith, drop, get_or, rules, set}
+use Rattle.scop_syntax.proofs.Common.{subst, sym, length-map, slice_get_within, written, cell_number, instance_of}
+use Rattle.scop_syntax.proofs.Common.{instance, in_from_place}
 use Rattle.loop_tree.specs.SpotView.{to_come}
 use Rattle.loop_tree.specs.View.{trees_in}
 use Rattle.expansions.proofs.Firsts.{next_left, none_left}

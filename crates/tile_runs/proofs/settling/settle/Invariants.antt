@@ -1,4 +1,4 @@
-use Rattle.std.proofs.Common.{◌≡◌, ◌≤◌, drop, length}
+use Rattle.scop_syntax.proofs.Common.{◌≡◌, ◌≤◌, drop, length}
 use Rattle.loop_tree.specs.SpotView.{IsSpotOf, to_come}
 use Rattle.loop_tree.specs.View.{trees_in}
 use Rattle.tile_core.specs.Plans.{extents_in, places_in, walk_in}

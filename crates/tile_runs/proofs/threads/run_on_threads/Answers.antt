@@ -1,4 +1,4 @@
-use Rattle.std.proofs.Common.{◌≤◌, arith, length}
+use Rattle.scop_syntax.proofs.Common.{◌≤◌, arith, length}
 use Rattle.tile_core.specs.Plans.{shape_of}
 use Rattle.tile_runs.proofs.FinalCells.{cells_left}
 use Rattle.tile_runs.proofs.threads.run_on_threads.Goals as goal

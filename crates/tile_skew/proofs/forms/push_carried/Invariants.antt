@@ -1,4 +1,4 @@
-use Rattle.std.proofs.Common.{◌≡◌, ◌++◌, drop}
+use Rattle.scop_syntax.proofs.Common.{◌≡◌, ◌++◌, drop}
 use Rattle.tile_skew.specs.ScanSets.{carried}
 use Rattle.tile_skew.proofs.forms.push_carried.Given as goal
 

@@ -1,7 +1,5 @@
-use Rattle.std.proofs.Common.{◌≡◌, ◌++◌, ◌∷◌, [], ◌∙◌, List, ap, ap₂, subst, pos}
-use Rattle.std.specs.Prelude.{OnOk}
+use Rattle.scop_syntax.proofs.Common.{◌≡◌, ◌++◌, ◌∷◌, [], ◌∙◌, List, ap, ap₂, subst, pos, OnOk, Affine}
 use Rattle.std.proofs.lemmas.List.{append_assoc}
-use Rattle.whole_numbers.specs.Affine.{Affine}
 use Rattle.tile_skew.specs.ScanSets.{tile_begins, tile_ends}
 use Rattle.tile_skew.proofs.Widths.{tile_held, tile_between}
 use Rattle.tile_skew.proofs.forms.push_coordinate.Goals as goal

@@ -1,6 +1,6 @@
-use Rattle.std.proofs.Common.{rules, ◌++◌, ◌∷◌, [], ◌∙◌, ap, ap₂, sym, FitsSigned, get_or, pos, ℤ}
-use Rattle.std.specs.Int.{w64}
-use Rattle.std.proofs.lemmas.List.{append_assoc, take_all, take_more}
+use Rattle.scop_syntax.proofs.Common.{rules, ◌++◌, ◌∷◌, [], ◌∙◌, ap, ap₂, sym, FitsSigned, get_or, pos, ℤ, w64}
+use Rattle.scop_syntax.proofs.Common.{take_all, take_more}
+use Rattle.std.proofs.lemmas.List.{append_assoc}
 use Rattle.tile_skew.proofs.Widths.{narrow_held}
 use Rattle.tile_skew.proofs.forms.push_numbers.Goals as goal
 

@@ -1,4 +1,4 @@
-use Rattle.std.proofs.Common.{◌≡◌, ◌++◌, take}
+use Rattle.scop_syntax.proofs.Common.{◌≡◌, ◌++◌, take}
 use Rattle.tile_skew.proofs.forms.push_numbers.Given as goal
 
 abbrev pub invariant-loop-number : goal.invariant-loop-number

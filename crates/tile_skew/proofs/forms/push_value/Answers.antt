@@ -1,5 +1,4 @@
-use Rattle.std.proofs.Common.{◌≤◌, subst, sym, ap, ◌∙◌, arith}
-use Rattle.whole_numbers.specs.Affine.{Affine}
+use Rattle.scop_syntax.proofs.Common.{◌≤◌, subst, sym, ap, ◌∙◌, arith, Affine}
 use Rattle.affine_forms.specs.Parts.{variables_of}
 use Rattle.iteration_domains.specs.Sizes.{form_size}
 use Rattle.iteration_domains.proofs.Surroundings.{length-variable}

@@ -1,9 +1,6 @@
-use Rattle.std.proofs.Common.{rules, ◌≡◌, ◌++◌, ◌∙◌, ◌+◌, ap, ap₂, subst, FitsSigned}
-use Rattle.std.specs.Prelude.{IfOk}
-use Rattle.std.specs.Int.{w64}
+use Rattle.scop_syntax.proofs.Common.{rules, ◌≡◌, ◌++◌, ◌∙◌, ◌+◌, ap, ap₂, subst, FitsSigned, IfOk, w64, Affine}
+use Rattle.scop_syntax.proofs.Common.{form_of, zeros}
 use Rattle.std.proofs.lemmas.List.{append_assoc}
-use Rattle.whole_numbers.specs.Affine.{Affine, form_of}
-use Rattle.whole_numbers.specs.Lists.{zeros}
 use Rattle.tile_skew.proofs.Widths.{narrow_held}
 use Rattle.tile_skew.proofs.forms.row_form.Goals as goal
 

@@ -1,7 +1,5 @@
-use Rattle.std.proofs.Common.{◌≡◌, ◌+◌, ◌*◌, ◌≤◌, ◌^◌, ℤ, pos, neg_ℤ, ◌-ℤ◌, subst, sym, ap, ap₂, ◌∙◌, arith}
-use Rattle.std.specs.Prelude.{unsigned_abs, IfOk}
-use Rattle.std.proofs.lemmas.Int.{ints}
-use Rattle.whole_numbers.specs.Affine.{Affine, sum_of_forms, multiple_of_form}
+use Rattle.scop_syntax.proofs.Common.{◌≡◌, ◌+◌, ◌*◌, ◌≤◌, ◌^◌, ℤ, pos, neg_ℤ, ◌-ℤ◌, subst, sym, ap, ap₂, ◌∙◌, arith}
+use Rattle.scop_syntax.proofs.Common.{unsigned_abs, IfOk, ints, Affine, sum_of_forms, multiple_of_form}
 use Rattle.affine_forms.specs.Parts.{variables_of}
 use Rattle.iteration_domains.specs.Rows.{variable}
 use Rattle.iteration_domains.specs.Sizes.{form_size}

@@ -1,7 +1,5 @@
-use Rattle.std.proofs.Common.{◌≡◌, ◌+◌, ◌*◌, ◌≤◌, ◌^◌, ℤ, pos, subst, sym, ap, ap₂, ◌∙◌, arith, to_z, of_z}
-use Rattle.std.specs.Prelude.{unsigned_abs, ◌-ℤ◌, IfOk}
-use Rattle.std.specs.Int.{w128}
-use Rattle.whole_numbers.specs.Affine.{Affine, sum_of_forms, multiple_of_form}
+use Rattle.scop_syntax.proofs.Common.{◌≡◌, ◌+◌, ◌*◌, ◌≤◌, ◌^◌, ℤ, pos, subst, sym, ap, ap₂, ◌∙◌, arith, to_z, of_z}
+use Rattle.scop_syntax.proofs.Common.{unsigned_abs, ◌-ℤ◌, IfOk, w128, Affine, sum_of_forms, multiple_of_form}
 use Rattle.affine_forms.specs.Parts.{variables_of}
 use Rattle.iteration_domains.specs.Rows.{variable}
 use Rattle.iteration_domains.specs.Sizes.{form_size}

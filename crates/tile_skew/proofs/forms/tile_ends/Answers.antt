@@ -1,6 +1,5 @@
-use Rattle.std.proofs.Common.{◌≡◌, ◌≤◌, negsuc, subst, sym, ap, ◌∙◌, arith}
-use Rattle.std.specs.Prelude.{IfOk}
-use Rattle.whole_numbers.specs.Affine.{Affine, sum_of_forms, multiple_of_form}
+use Rattle.scop_syntax.proofs.Common.{◌≡◌, ◌≤◌, negsuc, subst, sym, ap, ◌∙◌, arith, IfOk, Affine, sum_of_forms}
+use Rattle.scop_syntax.proofs.Common.{multiple_of_form}
 use Rattle.affine_forms.specs.Parts.{variables_of}
 use Rattle.iteration_domains.specs.Sizes.{form_size}
 use Rattle.tile_skew.proofs.Widths.{tile_size, as_held, end_form, length-end, size-end}

@@ -1,5 +1,4 @@
-use Rattle.std.proofs.Common.{◌≡◌, ◌∙◌, ◌<◌, sym, subst, ap, arith, length, get_or}
-use Rattle.std.proofs.lemmas.List.{length-map, get_or-map}
+use Rattle.scop_syntax.proofs.Common.{◌≡◌, ◌∙◌, ◌<◌, sym, subst, ap, arith, length, get_or, length-map, get_or-map}
 use Rattle.schedule_rows.specs.Schedule.{item_of}
 use Rattle.tile_skew.specs.steps.Listed.{HasStatement}
 use Rattle.tile_skew.proofs.ItemSteps.{rows_step}

@@ -1,4 +1,4 @@
-use Rattle.std.proofs.Common.{◌≡◌, ◌-◌, ◌++◌, drop, take}
+use Rattle.scop_syntax.proofs.Common.{◌≡◌, ◌-◌, ◌++◌, drop, take}
 use Rattle.tile_skew.specs.steps.Listed.{rows_in}
 use Rattle.tile_skew.proofs.items.first_band.Given as goal
 

@@ -1,5 +1,4 @@
-use Rattle.std.proofs.Common.{◌≡◌, ◌∙◌, ◌++◌, ◌∷◌, [], ap, sym, subst, map, drop_of_length-le}
-use Rattle.std.proofs.lemmas.List.{get_or_default}
+use Rattle.scop_syntax.proofs.Common.{◌≡◌, ◌∙◌, ◌++◌, ◌∷◌, [], ap, sym, subst, map, drop_of_length-le, get_or_default}
 use Rattle.stmt_graph.specs.Graph.{number_in}
 use Rattle.schedule_rows.specs.Schedule.{item_of, scalar}
 use Rattle.tile_skew.specs.steps.Listed.{leading_in, HasStatement}

@@ -1,4 +1,4 @@
-use Rattle.std.proofs.Common.{◌≡◌, ◌++◌, map, drop}
+use Rattle.scop_syntax.proofs.Common.{◌≡◌, ◌++◌, map, drop}
 use Rattle.schedule_rows.specs.Schedule.{item_of}
 use Rattle.tile_skew.specs.steps.Listed.{leading_in}
 use Rattle.tile_skew.proofs.items.leading.Given as goal

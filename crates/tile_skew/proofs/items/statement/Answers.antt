@@ -1,7 +1,5 @@
-use Rattle.std.proofs.Common.{◌≡◌, ◌∙◌, ◌+◌, ◌<◌, sym, subst, ap, arith, length, map, drop}
-use Rattle.std.specs.Prelude.{All}
-use Rattle.std.proofs.lemmas.List.{length-map}
-use Rattle.whole_numbers.proofs.Entries.{all_unmapped}
+use Rattle.scop_syntax.proofs.Common.{◌≡◌, ◌∙◌, ◌+◌, ◌<◌, sym, subst, ap, arith, length, map, drop, All, length-map}
+use Rattle.scop_syntax.proofs.Common.{all_unmapped}
 use Rattle.iteration_domains.specs.Model.{Modelled}
 use Rattle.loop_tree.specs.Tiling.{Items, TileRow}
 use Rattle.loop_tree.specs.TilingView.{item_of as tile_item_of}

@@ -1,5 +1,5 @@
-use Rattle.std.proofs.Common.{◌≡◌, ◌∙◌, ◌++◌, ◌∷◌, [], ◌<◌, sym, ap, arith, length, map}
-use Rattle.std.proofs.lemmas.List.{length-map, get_or-map, map-append}
+use Rattle.scop_syntax.proofs.Common.{◌≡◌, ◌∙◌, ◌++◌, ◌∷◌, [], ◌<◌, sym, ap, arith, length, map, length-map, get_or-map}
+use Rattle.scop_syntax.proofs.Common.{map-append}
 use Rattle.loop_tree.specs.TilingView.{item_of as tile_item_of}
 use Rattle.schedule_rows.specs.Schedule.{item_of}
 use Rattle.tile_skew.specs.steps.Listed.{item_at}

@@ -1,5 +1,4 @@
-use Rattle.std.proofs.Common.{◌≡◌, ◌∙◌, ◌++◌, ◌∷◌, [], ap, map}
-use Rattle.std.proofs.lemmas.List.{map-append}
+use Rattle.scop_syntax.proofs.Common.{◌≡◌, ◌∙◌, ◌++◌, ◌∷◌, [], ap, map, map-append}
 use Rattle.loop_tree.specs.TilingView.{items_of}
 use Rattle.tile_skew.specs.Tilings.{statement_items}
 use Rattle.tile_skew.proofs.ItemSteps.{statements_step}

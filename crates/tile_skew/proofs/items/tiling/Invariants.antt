@@ -1,4 +1,4 @@
-use Rattle.std.proofs.Common.{◌≡◌, ◌-◌, ◌++◌, map}
+use Rattle.scop_syntax.proofs.Common.{◌≡◌, ◌-◌, ◌++◌, map}
 use Rattle.loop_tree.specs.TilingView.{items_of}
 use Rattle.schedule_rows.specs.Schedule.{IsScheduled}
 use Rattle.tile_skew.specs.Tilings.{statements_from}

@@ -1,8 +1,4 @@
-use Rattle.std.proofs.Common.{◌≤◌, List, arith, length}
-use Rattle.std.proofs.lemmas.List.{length-map}
-use Rattle.scop_syntax.specs.Kernel.{IsKernel}
-use Rattle.scop_syntax.specs.Members.{In}
-use Rattle.scop_syntax.specs.Tree.{Program}
+use Rattle.scop_syntax.proofs.Common.{◌≤◌, List, arith, length, length-map, IsKernel, In, Program}
 use Rattle.iteration_domains.specs.Dependence.{Dependence}
 use Rattle.iteration_domains.specs.Model.{Modelled, model_of}
 use Rattle.iteration_domains.specs.Sizes.{IsKernelModel}

@@ -1,7 +1,4 @@
-use Rattle.std.proofs.Common.{◌-◌, pos, refl, sym, ◌∙◌, ap, subst, arith, length}
-use Rattle.std.specs.Prelude.{◌<ℤ◌}
-use Rattle.std.proofs.lemmas.Int.{ints}
-use Rattle.whole_numbers.proofs.Lists.{not_negative_all}
+use Rattle.scop_syntax.proofs.Common.{◌-◌, pos, refl, sym, ◌∙◌, ap, subst, arith, length, ◌<ℤ◌, ints, not_negative_all}
 use Rattle.iteration_domains.specs.Model.{model_of}
 use Rattle.iteration_domains.proofs.TreeStatements.{one_model}
 use Rattle.tile_skew.proofs.WalkedInstances.{turns_from_0}

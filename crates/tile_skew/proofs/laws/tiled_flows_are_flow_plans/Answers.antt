@@ -1,9 +1,5 @@
-use Rattle.std.proofs.Common.{suc, pos, arith, length}
-use Rattle.std.specs.Prelude.{◌<ℤ◌}
-use Rattle.std.proofs.lemmas.Int.{ints}
-use Rattle.scop_syntax.specs.Walk.{instance, walk_of}
+use Rattle.scop_syntax.proofs.Common.{suc, pos, arith, length, ◌<ℤ◌, ints, instance, walk_of, in_from_place}
 use Rattle.scop_syntax.proofs.Conflicts.{last_conflicts}
-use Rattle.scop_syntax.proofs.Members.{in_from_place}
 use Rattle.iteration_domains.specs.Model.{model_of}
 use Rattle.schedule_rows.specs.Schedule.{loops_in}
 use Rattle.schedule_rows.proofs.WalkOrder.{WalkFacts, turns_rise}

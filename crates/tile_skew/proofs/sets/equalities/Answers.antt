@@ -1,6 +1,4 @@
-use Rattle.std.proofs.Common.{◌≡◌, ◌+◌, ◌∙◌, ◌++◌, ap, sym, subst, arith, map}
-use Rattle.std.specs.Prelude.{All}
-use Rattle.std.proofs.lemmas.List.Elements.{All-append}
+use Rattle.scop_syntax.proofs.Common.{◌≡◌, ◌+◌, ◌∙◌, ◌++◌, ap, sym, subst, arith, map, All, All-append}
 use Rattle.integer_sets.specs.Constraints.{Constraints, variables_in}
 use Rattle.loop_tree.specs.TilingView.{items_of}
 use Rattle.tile_skew.specs.ScanSets.{domain_form, dimension_equalities, wave_equalities, item_equalities}

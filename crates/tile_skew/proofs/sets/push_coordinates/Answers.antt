@@ -1,4 +1,4 @@
-use Rattle.std.proofs.Common.{◌<◌, ◌+◌, ◌∙◌, drop_of_length-le, pos, ap, sym, subst, arith, length}
+use Rattle.scop_syntax.proofs.Common.{◌<◌, ◌+◌, ◌∙◌, drop_of_length-le, pos, ap, sym, subst, arith, length}
 use Rattle.tile_skew.specs.ScanSets.{are_coordinates, row_form}
 use Rattle.tile_skew.specs.steps.Sizes.{FitsTurns}
 use Rattle.tile_skew.proofs.Widths.{row_small}

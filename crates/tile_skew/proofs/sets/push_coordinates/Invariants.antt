@@ -1,4 +1,4 @@
-use Rattle.std.proofs.Common.{◌≡◌, ◌+◌, ◌++◌, drop, pos}
+use Rattle.scop_syntax.proofs.Common.{◌≡◌, ◌+◌, ◌++◌, drop, pos}
 use Rattle.tile_skew.specs.ScanSets.{are_coordinates}
 use Rattle.tile_skew.proofs.sets.push_coordinates.Given as goal
 

@@ -1,4 +1,4 @@
-use Rattle.std.proofs.Common.{◌≡◌, ◌++◌, map, drop}
+use Rattle.scop_syntax.proofs.Common.{◌≡◌, ◌++◌, map, drop}
 use Rattle.tile_skew.specs.ScanSets.{domain_form}
 use Rattle.tile_skew.proofs.sets.push_domain.Given as goal
 

@@ -1,4 +1,4 @@
-use Rattle.std.proofs.Common.{rules, subst}
+use Rattle.scop_syntax.proofs.Common.{rules, subst}
 use Rattle.loop_tree.specs.TilingView.{item_of}
 use Rattle.tile_skew.specs.steps.Sizes.{FitsTurns, FitsItem}
 use Rattle.tile_skew.proofs.Widths.{row_small, number_small}

@@ -1,6 +1,5 @@
-use Rattle.std.proofs.Common.{◌≡◌, ◌+◌, ◌∙◌, rules, ap, sym, subst, arith, length, map, pos, ◌++◌}
-use Rattle.std.specs.Prelude.{All}
-use Rattle.std.proofs.lemmas.List.{length-map}
+use Rattle.scop_syntax.proofs.Common.{◌≡◌, ◌+◌, ◌∙◌, rules, ap, sym, subst, arith, length, map, pos, ◌++◌, All}
+use Rattle.scop_syntax.proofs.Common.{length-map}
 use Rattle.loop_tree.specs.TilingView.{item_of}
 use Rattle.tile_skew.specs.ScanSets.{have_values, number_form, row_form, item_form}
 use Rattle.tile_skew.specs.steps.Sizes.{FitsTurns, FitsItem}

@@ -1,5 +1,5 @@
-use Rattle.std.proofs.Common.{◌<◌, ◌+◌, ◌∷◌, ◌∙◌, map, drop, drop_of_length-le, ap, sym, subst, arith, length}
-use Rattle.std.proofs.lemmas.List.{drop_more}
+use Rattle.scop_syntax.proofs.Common.{◌<◌, ◌+◌, ◌∷◌, ◌∙◌, map, drop, drop_of_length-le, ap, sym, subst, arith, length}
+use Rattle.scop_syntax.proofs.Common.{drop_more}
 use Rattle.loop_tree.specs.TilingView.{item_of}
 use Rattle.tile_skew.specs.ScanSets.{have_values, item_form}
 use Rattle.tile_skew.specs.steps.Sizes.{FitsItem}

@@ -1,4 +1,4 @@
-use Rattle.std.proofs.Common.{◌≡◌, ◌+◌, ◌++◌, map, drop}
+use Rattle.scop_syntax.proofs.Common.{◌≡◌, ◌+◌, ◌++◌, map, drop}
 use Rattle.loop_tree.specs.TilingView.{item_of}
 use Rattle.tile_skew.specs.ScanSets.{have_values, item_form}
 use Rattle.tile_skew.proofs.sets.push_items.Given as goal

@@ -1,8 +1,6 @@
-use Rattle.std.proofs.Common.{rules, ◌<◌, ◌+◌, ◌^◌, ◌∷◌, ◌∙◌, map, drop, drop_of_length-le, ap, sym, arith, length, pos}
-use Rattle.std.proofs.Common.{get_or}
-use Rattle.std.specs.Int.{w128}
+use Rattle.scop_syntax.proofs.Common.{rules, ◌<◌, ◌+◌, ◌^◌, ◌∷◌, ◌∙◌, map, drop, drop_of_length-le, ap, sym, arith}
+use Rattle.scop_syntax.proofs.Common.{length, pos, get_or, w128, drop_more}
 use Rattle.std.proofs.lemmas.Int.{to_z_pos}
-use Rattle.std.proofs.lemmas.List.{drop_more}
 use Rattle.tile_skew.specs.ScanSets.{have_values, number_form}
 use Rattle.tile_skew.proofs.Widths.{number_small}
 use Rattle.tile_skew.proofs.ItemSteps.{values_step, nothing_left}

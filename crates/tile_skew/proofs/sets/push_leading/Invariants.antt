@@ -1,4 +1,4 @@
-use Rattle.std.proofs.Common.{◌≡◌, ◌+◌, ◌++◌, map, drop, pos}
+use Rattle.scop_syntax.proofs.Common.{◌≡◌, ◌+◌, ◌++◌, map, drop, pos}
 use Rattle.tile_skew.specs.ScanSets.{have_values, number_form}
 use Rattle.tile_skew.proofs.sets.push_leading.Given as goal
 

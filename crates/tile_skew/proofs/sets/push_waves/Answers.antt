@@ -1,4 +1,4 @@
-use Rattle.std.proofs.Common.{◌≡◌, ◌+◌, ◌∙◌, rules, ap, arith, length, pos, map, ◌++◌}
+use Rattle.scop_syntax.proofs.Common.{◌≡◌, ◌+◌, ◌∙◌, rules, ap, arith, length, pos, map, ◌++◌}
 use Rattle.loop_tree.specs.TilingView.{items_of}
 use Rattle.tile_skew.specs.ScanSets.{carried_form, have_values, number_form}
 use Rattle.tile_skew.proofs.Widths.{carried_small}

@@ -1,5 +1,4 @@
-use Rattle.std.proofs.Common.{◌≡◌, ◌+◌, ◌∙◌, ap, sym, subst, arith, map, pos, refl}
-use Rattle.std.specs.Prelude.{All}
+use Rattle.scop_syntax.proofs.Common.{◌≡◌, ◌+◌, ◌∙◌, ap, sym, subst, arith, map, pos, refl, All}
 use Rattle.affine_forms.specs.Parts.{variables_of}
 use Rattle.integer_sets.specs.Constraints.{variables_in}
 use Rattle.iteration_domains.proofs.Surroundings.{length-variable}

@@ -1,5 +1,4 @@
-use Rattle.std.proofs.Common.{◌≡◌, drop}
-use Rattle.std.specs.Prelude.{max}
+use Rattle.scop_syntax.proofs.Common.{◌≡◌, drop, max}
 use Rattle.tile_skew.specs.ScanSets.{most_iterators}
 use Rattle.tile_skew.proofs.statement_sets.most_iterators.Given as goal
 

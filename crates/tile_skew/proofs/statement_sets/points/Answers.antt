@@ -1,4 +1,4 @@
-use Rattle.std.proofs.Common.{◌≡◌, ◌+◌, refl, arith}
+use Rattle.scop_syntax.proofs.Common.{◌≡◌, ◌+◌, refl, arith}
 use Rattle.tile_skew.specs.ScanSets.{width}
 use Rattle.tile_skew.proofs.ConstraintVariables.{resized}
 use Rattle.tile_skew.proofs.statement_sets.points.Goals as goal

@@ -1,5 +1,4 @@
-use Rattle.std.proofs.Common.{◌∙◌, refl, ap, ap₂, subst, sym, pos}
-use Rattle.std.specs.Prelude.{All}
+use Rattle.scop_syntax.proofs.Common.{◌∙◌, refl, ap, ap₂, subst, sym, pos, All}
 use Rattle.integer_sets.specs.Constraints.{Constraints}
 use Rattle.integer_sets.specs.Scanned.{scanned}
 use Rattle.loop_tree.specs.Tiling.{TileRow}

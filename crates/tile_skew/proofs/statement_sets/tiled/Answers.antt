@@ -1,6 +1,5 @@
-use Rattle.std.proofs.Common.{◌≡◌, ◌<◌, ◌≤◌, ◌∙◌, ◌++◌, ◌∷◌, [], ap, ap₂, sym, subst, arith, length, map, pos, get_or}
-use Rattle.std.proofs.Common.{drop_of_length-le}
-use Rattle.std.specs.Prelude.{All}
+use Rattle.scop_syntax.proofs.Common.{◌≡◌, ◌<◌, ◌≤◌, ◌∙◌, ◌++◌, ◌∷◌, [], ap, ap₂, sym, subst, arith, length, map, pos}
+use Rattle.scop_syntax.proofs.Common.{get_or, drop_of_length-le, All}
 use Rattle.integer_sets.specs.Scanned.{Scanned}
 use Rattle.iteration_domains.specs.Model.{Modelled, KernelModel}
 use Rattle.loop_tree.specs.Tiling.{TileRow}

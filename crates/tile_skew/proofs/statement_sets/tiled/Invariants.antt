@@ -1,4 +1,4 @@
-use Rattle.std.proofs.Common.{◌≡◌, ◌++◌, map, drop, pos}
+use Rattle.scop_syntax.proofs.Common.{◌≡◌, ◌++◌, map, drop, pos}
 use Rattle.schedule_rows.specs.Schedule.{IsScheduled}
 use Rattle.tile_skew.specs.ScanSets.{scan_set, scan_sets, most_iterators}
 use Rattle.tile_skew.specs.Tilings.{statement_items}

@@ -1,7 +1,5 @@
-use Rattle.std.proofs.Common.{ℕ, List, map, subst, sym}
-use Rattle.std.proofs.lemmas.Result.{IfOk-weaker}
+use Rattle.scop_syntax.proofs.Common.{ℕ, List, map, subst, sym, IfOk-weaker, Access, Head}
 use Rattle.scop_meaning.specs.Instances.{AreLayout}
-use Rattle.scop_syntax.specs.Tree.{Access, Head}
 use Rattle.tile_table.specs.Tables.{Tells}
 use Rattle.tile_table.specs.steps.AffineParts.{IsFormOver, cell_of_row}
 use Rattle.tile_table.proofs.Tellings.{form_in_row, row_layout}

@@ -1,7 +1,7 @@
-use Rattle.std.proofs.Common.{◌∙◌, ap, refl, ℕ, ◌-◌, ◌*◌, ◌/◌, ◌%◌, ◌^◌, List, [], map}
-use Rattle.std.proofs.lemmas.Result.{IfOk-weaker}
-use Rattle.scop_syntax.specs.Tree.{Head, negated, complemented, shifted_left, shifted_right, narrowed}
-use Rattle.scop_syntax.specs.View.{expression_of, narrowing_of, operator_of}
+use Rattle.scop_syntax.proofs.Common.{◌∙◌, ap, refl, ℕ, ◌-◌, ◌*◌, ◌/◌, ◌%◌, ◌^◌, List, [], map, IfOk-weaker, Head}
+use Rattle.scop_syntax.proofs.Common.{negated, complemented, shifted_left, shifted_right, narrowed, expression_of}
+use Rattle.scop_syntax.proofs.Common.{operator_of}
+use Rattle.scop_syntax.specs.View.{narrowing_of}
 use Rattle.scop_meaning.proofs.Chains.{chained, chained_end, expression_constant, expression_read}
 use Rattle.scop_meaning.proofs.Nodes.{negation, complement, left_shift, right_shift, narrowing}
 use Rattle.tile_table.specs.declared.code.Step.TheVariants.{Negated, Complemented, Binary, ShiftedLeft, ShiftedRight}

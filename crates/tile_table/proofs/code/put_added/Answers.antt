@@ -1,9 +1,5 @@
-use Rattle.std.proofs.Common.{◌≡◌, ◌∙◌, ap, ℤ, List, [], drop, length, map, arith}
-use Rattle.scop_syntax.specs.Cells.{reads_of, reads_with}
-use Rattle.scop_syntax.specs.Reductions.{added_by}
-use Rattle.scop_syntax.specs.Tree.{Access, Head}
-use Rattle.scop_syntax.specs.Values.{value_on}
-use Rattle.scop_syntax.specs.View.{expression_of, right_of}
+use Rattle.scop_syntax.proofs.Common.{◌≡◌, ◌∙◌, ap, ℤ, List, [], drop, length, map, arith, reads_of, reads_with}
+use Rattle.scop_syntax.proofs.Common.{added_by, Access, Head, value_on, expression_of, right_of}
 use Rattle.scop_syntax.specs.declared.tree.Right.{Right}
 use Rattle.tile_table.specs.Points.{point_in}
 use Rattle.tile_table.proofs.Compiling.{goes_nowhere, means_so, zero_made}

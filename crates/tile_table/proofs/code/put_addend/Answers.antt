@@ -1,6 +1,5 @@
-use Rattle.std.proofs.Common.{ap, refl, ℕ, ◌-◌, ◌%◌, ◌^◌}
+use Rattle.scop_syntax.proofs.Common.{ap, refl, ℕ, ◌-◌, ◌%◌, ◌^◌, operator_of}
 use Rattle.scop_syntax.specs.Reductions.{addend}
-use Rattle.scop_syntax.specs.View.{operator_of}
 use Rattle.scop_syntax.specs.declared.tree.Operator.{Operator}
 use Rattle.tile_table.specs.declared.code.Step.TheVariants.{Negated}
 use Rattle.tile_table.proofs.Compiling.{step_made, zero_made}

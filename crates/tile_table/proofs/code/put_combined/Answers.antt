@@ -1,6 +1,4 @@
-use Rattle.std.proofs.Common.{List, map, refl}
-use Rattle.scop_syntax.specs.Tree.{Head, combined}
-use Rattle.scop_syntax.specs.View.{expression_of, operator_of}
+use Rattle.scop_syntax.proofs.Common.{List, map, refl, Head, combined, expression_of, operator_of}
 use Rattle.tile_table.proofs.Compiling.{combined_made}
 use Rattle.tile_table.proofs.code.put_combined.Goals as goal
 

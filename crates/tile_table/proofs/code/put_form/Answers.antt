@@ -1,5 +1,4 @@
-use Rattle.std.proofs.Common.{List, map}
-use Rattle.scop_syntax.specs.Tree.{Head}
+use Rattle.scop_syntax.proofs.Common.{List, map, Head}
 use Rattle.tile_table.proofs.Compiling.{form_made}
 use Rattle.tile_table.proofs.code.put_form.Goals as goal
 

@@ -1,8 +1,6 @@
-use Rattle.std.proofs.Common.{◌≡◌, ◌∙◌, ap, refl, ℕ, ◌*◌, ◌/◌, ◌%◌, ◌^◌, ℤ, List, [], length, map, arith, Ok}
-use Rattle.scop_syntax.specs.Cells.{reads_of, reads_with}
-use Rattle.scop_syntax.specs.Tree.{Access, Head, moved_left, moved_right}
-use Rattle.scop_syntax.specs.Values.{stored_by}
-use Rattle.scop_syntax.specs.View.{expression_of, right_of}
+use Rattle.scop_syntax.proofs.Common.{◌≡◌, ◌∙◌, ap, refl, ℕ, ◌*◌, ◌/◌, ◌%◌, ◌^◌, ℤ, List, [], length, map, arith, Ok}
+use Rattle.scop_syntax.proofs.Common.{reads_of, reads_with, Access, Head, moved_left, moved_right, stored_by}
+use Rattle.scop_syntax.proofs.Common.{expression_of, right_of}
 use Rattle.scop_syntax.specs.declared.tree.Right.{Right}
 use Rattle.tile_table.specs.declared.code.Step.TheVariants.{ShiftedLeft, ShiftedRight, Narrowed}
 use Rattle.tile_table.specs.steps.Codes.{MakesStored}

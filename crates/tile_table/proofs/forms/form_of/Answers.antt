@@ -1,9 +1,6 @@
-use Rattle.std.proofs.Common.{◌≡◌, ◌∙◌, ap, List, [], ◌∷◌, ◌++◌, length, map, arith, rules}
-use Rattle.std.specs.Prelude.{ℤ, FitsSigned}
-use Rattle.std.specs.Int.{int_wrap, w64}
-use Rattle.std.proofs.lemmas.Int.{to_z-of_z}
-use Rattle.std.proofs.lemmas.List.{length-map, length_push}
-use Rattle.scop_syntax.specs.Tree.{Head}
+use Rattle.scop_syntax.proofs.Common.{◌≡◌, ◌∙◌, ap, List, [], ◌∷◌, ◌++◌, length, map, arith, rules, ℤ, FitsSigned, w64}
+use Rattle.scop_syntax.proofs.Common.{to_z-of_z, length-map, length_push, Head}
+use Rattle.std.specs.Int.{int_wrap}
 use Rattle.tile_table.specs.steps.Forms.{number_form}
 use Rattle.tile_table.proofs.Congruences.{same_wrapped}
 use Rattle.tile_table.proofs.Tellings.{coefficients_more, form_tells}

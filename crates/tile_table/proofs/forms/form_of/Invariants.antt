@@ -1,5 +1,4 @@
-use Rattle.std.proofs.Common.{◌≡◌, ◌<◌, ℕ, get_or, length, map}
-use Rattle.std.specs.Prelude.{pos}
+use Rattle.scop_syntax.proofs.Common.{◌≡◌, ◌<◌, ℕ, get_or, length, map, pos}
 use Rattle.scop_syntax.specs.declared.instance.TheConstants.{MAX_LOOPS}
 use Rattle.tile_table.specs.steps.Forms.{number_form}
 use Rattle.tile_table.specs.steps.Same.{IsSame}

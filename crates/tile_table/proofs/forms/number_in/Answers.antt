@@ -1,8 +1,5 @@
-use Rattle.std.proofs.Common.{◌∙◌, ap, List, map, rules}
-use Rattle.std.specs.Prelude.{ℤ, FitsSigned}
-use Rattle.std.specs.Int.{int_wrap, w64}
-use Rattle.std.proofs.lemmas.Int.{to_z-of_z}
-use Rattle.scop_syntax.specs.Tree.{Head}
+use Rattle.scop_syntax.proofs.Common.{◌∙◌, ap, List, map, rules, ℤ, FitsSigned, w64, to_z-of_z, Head}
+use Rattle.std.specs.Int.{int_wrap}
 use Rattle.tile_table.specs.Numbers.{number_at}
 use Rattle.tile_table.specs.Points.{point_in}
 use Rattle.tile_table.proofs.Offsets.{number_same}

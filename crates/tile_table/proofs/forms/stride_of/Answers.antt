@@ -1,9 +1,5 @@
-use Rattle.std.proofs.Common.{List, map, arith, rules}
-use Rattle.std.specs.Prelude.{FitsSigned}
-use Rattle.std.specs.Int.{w64}
+use Rattle.scop_syntax.proofs.Common.{List, map, arith, rules, FitsSigned, w64, length-map, Head}
 use Rattle.std.proofs.lemmas.Int.{wrapping_sub_is}
-use Rattle.std.proofs.lemmas.List.{length-map}
-use Rattle.scop_syntax.specs.Tree.{Head}
 use Rattle.tile_table.proofs.Tellings.{stride_is}
 use Rattle.tile_table.proofs.forms.stride_of.Goals as goal
 

@@ -1,5 +1,4 @@
-use Rattle.std.proofs.Common.{◌<◌, arith, length}
-use Rattle.std.proofs.lemmas.Option.{slice_get-get_or, slice_get_within}
+use Rattle.scop_syntax.proofs.Common.{◌<◌, arith, length, slice_get-get_or, slice_get_within}
 use Rattle.tile_table.proofs.Lanes.{lane_on}
 use Rattle.tile_table.proofs.lane.go_on_all.Goals as goal
 

@@ -1,6 +1,4 @@
-use Rattle.std.proofs.Common.{List}
-use Rattle.std.specs.Prelude.{ℤ}
-use Rattle.whole_numbers.specs.Affine.{Affine}
+use Rattle.scop_syntax.proofs.Common.{List, ℤ, Affine}
 use Rattle.tile_table.specs.Lanes.{AreLanes}
 use Rattle.tile_table.proofs.Lanes.{AreOn}
 use Rattle.tile_table.proofs.lane.go_on_all.Given as goal

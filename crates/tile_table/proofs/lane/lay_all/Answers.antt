@@ -1,7 +1,5 @@
-use Rattle.std.proofs.Common.{◌≡◌, ◌∙◌, sym, subst, arith, refl, length, Some}
-use Rattle.std.specs.Prelude.{slice_get}
-use Rattle.std.proofs.lemmas.Option.{slice_get_read, slice_get_within}
-use Rattle.whole_numbers.specs.Affine.{Affine}
+use Rattle.scop_syntax.proofs.Common.{◌≡◌, ◌∙◌, sym, subst, arith, refl, length, Some, slice_get, slice_get_read}
+use Rattle.scop_syntax.proofs.Common.{slice_get_within, Affine}
 use Rattle.tile_table.specs.Lanes.{IsLane}
 use Rattle.tile_table.proofs.Lanes.{lane_more}
 use Rattle.tile_table.proofs.lane.lay_all.Goals as goal

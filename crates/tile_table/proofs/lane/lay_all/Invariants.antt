@@ -1,6 +1,4 @@
-use Rattle.std.proofs.Common.{◌≡◌, ◌<◌, ℕ, Some}
-use Rattle.std.specs.Prelude.{slice_get}
-use Rattle.whole_numbers.specs.Affine.{Affine}
+use Rattle.scop_syntax.proofs.Common.{◌≡◌, ◌<◌, ℕ, Some, slice_get, Affine}
 use Rattle.tile_table.specs.Lanes.{IsLane}
 use Rattle.tile_table.specs.declared.lane.Lane.{Lane}
 use Rattle.tile_table.proofs.lane.lay_all.Given as goal

@@ -1,12 +1,8 @@
-use Rattle.std.proofs.Common.{◌≡◌, ◌∙◌, ap, ap₂, subst, sym, ℕ, ◌<◌, ◌≤◌, ◌^◌, ℤ, List, [], All, get_or, take, to_z}
-use Rattle.std.proofs.Common.{arith, rules}
-use Rattle.std.specs.Prelude.{pos, ◌+ℤ◌, FitsSigned}
-use Rattle.std.specs.Int.{int_wrap, w64}
-use Rattle.std.proofs.lemmas.Int.{int_wrap-add_right, ints, wrapping_add_onto}
-use Rattle.whole_numbers.specs.Affine.{Affine}
-use Rattle.scop_syntax.specs.Cells.{values}
-use Rattle.scop_syntax.specs.Execution.{total_cells}
-use Rattle.scop_syntax.specs.Tree.{Access}
+use Rattle.scop_syntax.proofs.Common.{◌≡◌, ◌∙◌, ap, ap₂, subst, sym, ℕ, ◌<◌, ◌≤◌, ◌^◌, ℤ, List, [], All, get_or, take}
+use Rattle.scop_syntax.proofs.Common.{to_z, arith, rules, pos, ◌+ℤ◌, FitsSigned, w64, int_wrap-add_right, ints, Affine}
+use Rattle.scop_syntax.proofs.Common.{values, total_cells, Access}
+use Rattle.std.specs.Int.{int_wrap}
+use Rattle.std.proofs.lemmas.Int.{wrapping_add_onto}
 use Rattle.tile_table.specs.Numbers.{row_major}
 use Rattle.tile_table.proofs.numbers.number_at.Goals as goal
 

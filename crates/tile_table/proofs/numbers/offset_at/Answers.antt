@@ -1,10 +1,7 @@
-use Rattle.std.proofs.Common.{◌≡◌, ◌∙◌, ap, ap₂, sym, refl, ◌<◌, ◌≤◌, ℤ, length, min, get_or, of_z, to_z, arith, rules}
-use Rattle.std.specs.Prelude.{pos, ◌+ℤ◌, ◌*ℤ◌, FitsSigned}
-use Rattle.std.specs.Int.{int_wrap, w64}
-use Rattle.std.proofs.lemmas.Int.{int_wrap_fits, ints, to_z-of_z}
-use Rattle.std.proofs.lemmas.List.{drop_more, get_or-map, length-map}
-use Rattle.whole_numbers.specs.Affine.{Affine, value_of}
-use Rattle.scop_syntax.specs.Cells.{values}
+use Rattle.scop_syntax.proofs.Common.{◌≡◌, ◌∙◌, ap, ap₂, sym, refl, ◌<◌, ◌≤◌, ℤ, length, min, get_or, of_z, to_z, arith}
+use Rattle.scop_syntax.proofs.Common.{rules, pos, ◌+ℤ◌, ◌*ℤ◌, FitsSigned, w64, int_wrap_fits, ints, to_z-of_z}
+use Rattle.scop_syntax.proofs.Common.{drop_more, get_or-map, length-map, Affine, value_of, values}
+use Rattle.std.specs.Int.{int_wrap}
 use Rattle.tile_table.specs.Numbers.{row_major}
 use Rattle.tile_table.specs.steps.Same.{IsSame}
 use Rattle.tile_table.proofs.Offsets.{offset_more, offset_whole}

@@ -1,6 +1,4 @@
-use Rattle.std.proofs.Common.{drop}
-use Rattle.std.specs.Prelude.{pos}
-use Rattle.scop_syntax.specs.Cells.{values}
+use Rattle.scop_syntax.proofs.Common.{drop, pos, values}
 use Rattle.tile_table.specs.Numbers.{row_major}
 use Rattle.tile_table.specs.steps.Same.{IsSame}
 use Rattle.tile_table.proofs.numbers.offset_at.Given as goal

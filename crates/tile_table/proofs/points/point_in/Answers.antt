@@ -1,12 +1,7 @@
-use Rattle.std.proofs.Common.{◌≡◌, ap, refl, subst, sym, ◌+◌, ◌<◌, List, [], ◌∷◌, ◌++◌, length, map, drop, get_or}
-use Rattle.std.proofs.Common.{rules}
-use Rattle.std.proofs.Common.{◌∙◌, arith, length-append}
-use Rattle.std.specs.Prelude.{ℤ, pos, ◌+ℤ◌, ◌*ℤ◌, FitsSigned}
-use Rattle.std.specs.Int.{int_wrap, w64}
-use Rattle.std.proofs.lemmas.Int.{to_z-of_z}
-use Rattle.std.proofs.lemmas.List.{drop_more, get_or-map, length-map}
-use Rattle.whole_numbers.specs.Affine.{value_of}
-use Rattle.scop_syntax.specs.Tree.{Head}
+use Rattle.scop_syntax.proofs.Common.{◌≡◌, ap, refl, subst, sym, ◌+◌, ◌<◌, List, [], ◌∷◌, ◌++◌, length, map, drop}
+use Rattle.scop_syntax.proofs.Common.{get_or, rules, ◌∙◌, arith, length-append, ℤ, pos, ◌+ℤ◌, ◌*ℤ◌, FitsSigned, w64}
+use Rattle.scop_syntax.proofs.Common.{to_z-of_z, drop_more, get_or-map, length-map, value_of, Head}
+use Rattle.std.specs.Int.{int_wrap}
 use Rattle.tile_table.specs.Points.{point_in}
 use Rattle.tile_table.specs.steps.Same.{AreSame}
 use Rattle.tile_table.proofs.LoopPoints.{point_more}

@@ -1,4 +1,4 @@
-use Rattle.std.proofs.Common.{◌≡◌, ◌+◌, drop, length, map}
+use Rattle.scop_syntax.proofs.Common.{◌≡◌, ◌+◌, drop, length, map}
 use Rattle.tile_table.specs.Points.{point_in}
 use Rattle.tile_table.specs.steps.Same.{AreSame}
 use Rattle.tile_table.proofs.points.point_in.Given as goal

@@ -1,8 +1,5 @@
-use Rattle.std.proofs.Common.{◌≡◌, ◌∙◌, ap, subst, sym, List, [], ◌∷◌, ◌++◌, length, map, arith}
-use Rattle.std.specs.Prelude.{slice_get}
-use Rattle.std.proofs.lemmas.List.{length_push}
-use Rattle.whole_numbers.specs.Affine.{Affine}
-use Rattle.scop_syntax.specs.StandingView.{standing_of}
+use Rattle.scop_syntax.proofs.Common.{◌≡◌, ◌∙◌, ap, subst, sym, List, [], ◌∷◌, ◌++◌, length, map, arith, slice_get}
+use Rattle.scop_syntax.proofs.Common.{length_push, Affine, standing_of}
 use Rattle.tile_table.specs.Tables.{Tells, touched}
 use Rattle.tile_table.proofs.Accesses.{touched_access}
 use Rattle.tile_table.proofs.Pairs.{ArePaired, paired_more}

@@ -1,5 +1,4 @@
-use Rattle.std.proofs.Common.{◌≡◌, length}
-use Rattle.scop_syntax.specs.StandingView.{standing_of}
+use Rattle.scop_syntax.proofs.Common.{◌≡◌, length, standing_of}
 use Rattle.tile_table.specs.Tables.{Tells, touched}
 use Rattle.tile_table.proofs.Pairs.{ArePaired}
 use Rattle.tile_table.proofs.table.forms_of.Given as goal

@@ -1,5 +1,4 @@
-use Rattle.std.proofs.Common.{◌≡◌, suc, ◌+◌, ◌-◌, ap, arith}
-use Rattle.std.specs.Prelude.{Ok, Err}
+use Rattle.whole_numbers.proofs.Common.{◌≡◌, suc, ◌+◌, ◌-◌, ap, arith, Ok, Err}
 use Rattle.traced_projections.specs.Tracing.{Tracing}
 use Rattle.traced_projections.proofs.Runs.{goes_more, goes_none, goes_stop}
 use Rattle.traced_projections.proofs.alone.all_gone.Goals as goal

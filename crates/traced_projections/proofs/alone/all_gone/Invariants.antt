@@ -1,5 +1,4 @@
-use Rattle.std.proofs.Common.{◌≡◌, ◌+◌, ◌-◌}
-use Rattle.std.specs.Prelude.{Result}
+use Rattle.whole_numbers.proofs.Common.{◌≡◌, ◌+◌, ◌-◌, Result}
 use Rattle.fm_projection.specs.declared.stop.FmStop.{FmStop}
 use Rattle.traced_projections.specs.Tracing.{Tracing}
 use Rattle.traced_projections.specs.Projections.{GoesTraced}

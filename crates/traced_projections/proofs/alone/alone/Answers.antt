@@ -1,4 +1,4 @@
-use Rattle.std.proofs.Common.{rules, ◌≡◌, ◌+◌, ◌-◌, ap, refl, subst, sym, arith}
+use Rattle.whole_numbers.proofs.Common.{rules, ◌≡◌, ◌+◌, ◌-◌, ap, refl, subst, sym, arith}
 use Rattle.traced_projections.specs.Tracing.{IsTraced, Tracing, constraints_of}
 use Rattle.traced_projections.specs.Projections.{LastFollows, all_traced, alone_traced, ranged_traced}
 use Rattle.traced_projections.proofs.Runs.{alone_follows, traced_dimensions}

@@ -1,5 +1,5 @@
-use Rattle.std.proofs.Common.{rules, ◌≡◌, ◌∙◌, ◌+◌, ◌-◌, ◌++◌, ◌∷◌, [], subst, sym, List, append_assoc, arith}
-use Rattle.whole_numbers.specs.Affine.{Affine}
+use Rattle.whole_numbers.proofs.Common.{rules, ◌≡◌, ◌∙◌, ◌+◌, ◌-◌, ◌++◌, ◌∷◌, [], subst, sym, List, append_assoc, arith}
+use Rattle.whole_numbers.proofs.Common.{Affine}
 use Rattle.fm_projection.specs.Alone.{range_rows}
 use Rattle.fm_projection.proofs.RangeRows.{least_row, most_row, range_more}
 use Rattle.traced_projections.proofs.alone.range.Goals as goal

@@ -1,4 +1,4 @@
-use Rattle.std.proofs.Common.{◌≡◌, ◌-◌, ◌++◌}
+use Rattle.whole_numbers.proofs.Common.{◌≡◌, ◌-◌, ◌++◌}
 use Rattle.fm_projection.specs.Alone.{range_rows}
 use Rattle.traced_projections.proofs.alone.range.Given as goal
 

@@ -1,6 +1,4 @@
-use Rattle.std.proofs.Common.{rules, ◌≡◌, ◌+◌, ◌-◌, ◌++◌, subst, sym, ℕ, All, arith}
-use Rattle.std.proofs.lemmas.List.Elements.{All-append}
-use Rattle.whole_numbers.specs.Affine.{Affine}
+use Rattle.whole_numbers.proofs.Common.{rules, ◌≡◌, ◌+◌, ◌-◌, ◌++◌, subst, sym, ℕ, All, arith, All-append, Affine}
 use Rattle.affine_forms.specs.Parts.{variables_of}
 use Rattle.fm_projection.specs.Alone.{range_rows}
 use Rattle.fm_projection.proofs.RangeRows.{range_sized}

@@ -1,6 +1,4 @@
-use Rattle.std.proofs.Common.{rules, [], refl, subst, sym}
-use Rattle.std.specs.Prelude.{map, Ok, Err, Option, Some, None}
-use Rattle.whole_numbers.specs.Affine.{Affine}
+use Rattle.whole_numbers.proofs.Common.{rules, [], refl, subst, sym, map, Ok, Err, Option, Some, None, Affine}
 use Rattle.traced_projections.specs.declared.rows.Sign.TheVariants.{Zero}
 use Rattle.traced_projections.specs.Tracing.{signed}
 use Rattle.traced_projections.specs.Eliminating.{Adds, single, sources_by, sources_with}

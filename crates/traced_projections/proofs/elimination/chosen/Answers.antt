@@ -1,6 +1,4 @@
-use Rattle.std.proofs.Common.{rules, ◌≡◌, ◌+◌, subst, sym}
-use Rattle.std.proofs.lemmas.Result.{IfOk-weaker}
-use Rattle.whole_numbers.specs.Affine.{Affine}
+use Rattle.whole_numbers.proofs.Common.{rules, ◌≡◌, ◌+◌, subst, sym, IfOk-weaker, Affine}
 use Rattle.affine_forms.specs.Parts.{variables_of}
 use Rattle.traced_projections.specs.Tracing.{IsTraced, signed}
 use Rattle.traced_projections.proofs.Overs.{AllForms, signed_all}

@@ -1,4 +1,4 @@
-use Rattle.std.proofs.Common.{◌≡◌, drop}
+use Rattle.whole_numbers.proofs.Common.{◌≡◌, drop}
 use Rattle.traced_projections.specs.Eliminating.{first_equality}
 use Rattle.traced_projections.proofs.elimination.first_equality.Given as goal
 

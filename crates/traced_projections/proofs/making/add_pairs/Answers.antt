@@ -1,5 +1,4 @@
-use Rattle.std.proofs.Common.{◌+◌, ap, drop, List}
-use Rattle.std.specs.Prelude.{Ok, Err}
+use Rattle.whole_numbers.proofs.Common.{◌+◌, ap, drop, List, Ok, Err}
 use Rattle.traced_projections.specs.Tracing.{Row}
 use Rattle.traced_projections.specs.Eliminating.{Source, pairs, pairs_with}
 use Rattle.traced_projections.proofs.Additions.{adds_more, adds_none, adds_stop, ahead, ended}

@@ -1,5 +1,4 @@
-use Rattle.std.proofs.Common.{◌∙◌, ◌+◌, ap, [], ◌∷◌, drop}
-use Rattle.std.specs.Prelude.{Ok, Err}
+use Rattle.whole_numbers.proofs.Common.{◌∙◌, ◌+◌, ap, [], ◌∷◌, drop, Ok, Err}
 use Rattle.traced_projections.specs.Eliminating.{pair, pairs_with}
 use Rattle.traced_projections.proofs.Additions.{adds_more, adds_none, adds_stop, ahead, ended, few_first}
 use Rattle.traced_projections.proofs.making.add_pairs_with.Goals as goal

@@ -1,5 +1,4 @@
-use Rattle.std.proofs.Common.{rules, ◌+◌, ap, [], ◌∷◌, drop}
-use Rattle.std.specs.Prelude.{map, Ok, Err}
+use Rattle.whole_numbers.proofs.Common.{rules, ◌+◌, ap, [], ◌∷◌, drop, map, Ok, Err}
 use Rattle.traced_projections.specs.Eliminating.{Adds, single}
 use Rattle.traced_projections.proofs.Additions.{adds_more, adds_none, adds_stop, ahead, ended}
 use Rattle.traced_projections.proofs.making.add_singles.Goals as goal

@@ -1,5 +1,4 @@
-use Rattle.std.proofs.Common.{List, drop}
-use Rattle.std.specs.Prelude.{map, Result}
+use Rattle.whole_numbers.proofs.Common.{List, drop, map, Result}
 use Rattle.fm_projection.specs.declared.stop.FmStop.{FmStop}
 use Rattle.traced_projections.specs.Tracing.{Row}
 use Rattle.traced_projections.specs.Eliminating.{Adds, single}

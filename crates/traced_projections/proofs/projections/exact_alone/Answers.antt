@@ -1,4 +1,4 @@
-use Rattle.std.proofs.Common.{rules}
+use Rattle.whole_numbers.proofs.Common.{rules}
 use Rattle.integer_sets.specs.Constraints.{IsSized, variables_in}
 use Rattle.fm_projection.specs.Alone.{LeavesAlone}
 use Rattle.traced_projections.proofs.Runs.{exact_follows}

@@ -1,4 +1,4 @@
-use Rattle.std.proofs.Common.{◌≡◌, ◌++◌, drop}
+use Rattle.whole_numbers.proofs.Common.{◌≡◌, ◌++◌, drop}
 use Rattle.traced_projections.specs.Tracing.{forms_of}
 use Rattle.traced_projections.proofs.rows.forms_of.Given as goal
 

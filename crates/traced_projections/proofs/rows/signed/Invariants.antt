@@ -1,4 +1,4 @@
-use Rattle.std.proofs.Common.{◌≡◌, ◌++◌, drop}
+use Rattle.whole_numbers.proofs.Common.{◌≡◌, ◌++◌, drop}
 use Rattle.traced_projections.specs.Tracing.{signed}
 use Rattle.traced_projections.proofs.rows.signed.Given as goal
 

@@ -1,5 +1,4 @@
-use Rattle.std.proofs.Common.{drop}
-use Rattle.whole_numbers.specs.Lists.{NotNegative}
+use Rattle.scop_syntax.proofs.Common.{drop, NotNegative}
 use Rattle.tree_simplification.proofs.asking.are_natural.Given as goal
 
 abbrev pub invariant-loop-number : goal.invariant-loop-number

@@ -1,7 +1,4 @@
-use Rattle.std.proofs.Common.{ap, subst, arith}
-use Rattle.std.specs.Prelude.{true, not}
-use Rattle.std.proofs.lemmas.Result.{IfOk-weaker}
-use Rattle.whole_numbers.specs.Affine.{Affine}
+use Rattle.scop_syntax.proofs.Common.{ap, subst, arith, true, not, IfOk-weaker, Affine}
 use Rattle.affine_forms.specs.Parts.{variables_of}
 use Rattle.tree_simplification.specs.steps.Context.{Context, NeverHolds, part_row}
 use Rattle.tree_simplification.specs.steps.ContextView.{context_of}

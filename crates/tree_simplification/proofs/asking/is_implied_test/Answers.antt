@@ -1,6 +1,4 @@
-use Rattle.std.proofs.Common.{◌≡◌, subst, sym, List, ℤ, ◌++◌, map}
-use Rattle.std.specs.Prelude.{true}
-use Rattle.std.proofs.lemmas.Result.{IfOk-weaker}
+use Rattle.scop_syntax.proofs.Common.{◌≡◌, subst, sym, List, ℤ, ◌++◌, map, true, IfOk-weaker}
 use Rattle.loop_tree.specs.View.{test_of}
 use Rattle.loop_tree.specs.Walk.{holds}
 use Rattle.loop_tree.specs.declared.tree.Test.{Test as CodeTest}

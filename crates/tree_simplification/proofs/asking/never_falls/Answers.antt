@@ -1,4 +1,4 @@
-use Rattle.std.proofs.lemmas.Result.{IfOk-weaker}
+use Rattle.scop_syntax.proofs.Common.{IfOk-weaker}
 use Rattle.tree_simplification.specs.steps.ContextView.{context_of}
 use Rattle.tree_simplification.proofs.Contexts.{natural_asked, natural_value}
 use Rattle.tree_simplification.proofs.asking.never_falls.Goals as goal

@@ -1,5 +1,4 @@
-use Rattle.std.proofs.Common.{ℕ, ◌+◌, ap, ap₂, sym, ◌∙◌}
-use Rattle.std.specs.Prelude.{true}
+use Rattle.scop_syntax.proofs.Common.{ℕ, ◌+◌, ap, ap₂, sym, ◌∙◌, true}
 use Rattle.affine_forms.specs.Parts.{variables_of}
 use Rattle.tree_simplification.specs.steps.Context.{Context}
 use Rattle.tree_simplification.proofs.Contexts.{sized_form}

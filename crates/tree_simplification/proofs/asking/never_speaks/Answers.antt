@@ -1,6 +1,4 @@
-use Rattle.std.proofs.Common.{◌≡◌, ap₂, ◌∙◌, subst, List, [], ℤ}
-use Rattle.std.proofs.lemmas.Result.{IfOk-weaker}
-use Rattle.whole_numbers.specs.Affine.{Affine}
+use Rattle.scop_syntax.proofs.Common.{◌≡◌, ap₂, ◌∙◌, subst, List, [], ℤ, IfOk-weaker, Affine}
 use Rattle.integer_sets.specs.Constraints.{Constraints, system_of}
 use Rattle.pip_solver.specs.Emptiness.{IsBoundedPoint}
 use Rattle.tree_simplification.specs.steps.ContextView.{context_of}

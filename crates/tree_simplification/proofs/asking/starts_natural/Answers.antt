@@ -1,6 +1,4 @@
-use Rattle.std.proofs.Common.{◌≡◌, subst, List, ℤ, pos, ◌++◌, ap}
-use Rattle.std.specs.Prelude.{IfOk, true, ◌≤ℤ◌}
-use Rattle.whole_numbers.specs.Affine.{Affine, value_of}
+use Rattle.scop_syntax.proofs.Common.{◌≡◌, subst, List, ℤ, pos, ◌++◌, ap, IfOk, true, ◌≤ℤ◌, Affine, value_of}
 use Rattle.loop_tree.specs.Tree.{Bound}
 use Rattle.tree_simplification.specs.steps.Context.{Meets}
 use Rattle.tree_simplification.specs.steps.ContextView.{context_of}

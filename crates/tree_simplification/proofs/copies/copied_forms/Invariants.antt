@@ -1,4 +1,4 @@
-use Rattle.std.proofs.Common.{◌≡◌, ◌++◌, drop}
+use Rattle.scop_syntax.proofs.Common.{◌≡◌, ◌++◌, drop}
 use Rattle.tree_simplification.proofs.copies.copied_forms.Given as goal
 
 abbrev pub invariant-loop-form : goal.invariant-loop-form

@@ -1,4 +1,4 @@
-use Rattle.std.proofs.Common.{◌≡◌, ◌++◌, drop, map}
+use Rattle.scop_syntax.proofs.Common.{◌≡◌, ◌++◌, drop, map}
 use Rattle.loop_tree.specs.View.{test_of}
 use Rattle.tree_simplification.proofs.copies.copied_tests.Given as goal
 

@@ -1,7 +1,6 @@
-use Rattle.std.proofs.Common.{◌≡◌, ap, ◌∙◌, sym, subst, map, ◌++◌, List, All, ◌+◌, suc, ℕ, arith}
-use Rattle.std.specs.Prelude.{not, false}
+use Rattle.scop_syntax.proofs.Common.{◌≡◌, ap, ◌∙◌, sym, subst, map, ◌++◌, List, All, ◌+◌, suc, ℕ, arith, not, false}
+use Rattle.scop_syntax.proofs.Common.{Affine, widened}
 use Rattle.std.proofs.lemmas.List.{append_assoc}
-use Rattle.whole_numbers.specs.Affine.{Affine, widened}
 use Rattle.affine_forms.specs.Parts.{variables_of}
 use Rattle.tree_simplification.specs.steps.Context.{part_row}
 use Rattle.tree_simplification.specs.steps.ContextView.{context_of}

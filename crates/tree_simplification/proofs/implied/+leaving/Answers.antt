@@ -1,6 +1,5 @@
-use Rattle.std.proofs.Common.{◌≡◌, ◌+◌, ◌<◌, [], length, map, drop, drop_of_length-le, ap, ◌∙◌, rules, arith}
-use Rattle.std.specs.Prelude.{Bool}
-use Rattle.std.proofs.lemmas.Result.{IfOk-weaker}
+use Rattle.scop_syntax.proofs.Common.{◌≡◌, ◌+◌, ◌<◌, [], length, map, drop, drop_of_length-le, ap, ◌∙◌, rules, arith}
+use Rattle.scop_syntax.proofs.Common.{Bool, IfOk-weaker}
 use Rattle.loop_tree.specs.Tree.{loop, more, none}
 use Rattle.loop_tree.specs.View.{bounds_in, nodes_of, test_of, tree_of}
 use Rattle.loop_tree.proofs.Weights.{node_weight, weight, weight_all}

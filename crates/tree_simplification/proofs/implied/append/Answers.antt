@@ -1,5 +1,4 @@
-use Rattle.std.proofs.Common.{◌++◌, ap, ◌∙◌}
-use Rattle.std.proofs.lemmas.Result.{on_ok_weaker}
+use Rattle.scop_syntax.proofs.Common.{◌++◌, ap, ◌∙◌, on_ok_weaker}
 use Rattle.loop_tree.specs.View.{nodes_of}
 use Rattle.tree_simplification.proofs.JoinedTrees.{nodes_joined}
 use Rattle.tree_simplification.proofs.Trees.{left_at_ok}

@@ -1,4 +1,4 @@
-use Rattle.std.proofs.Common.{◌+◌, subst, sym, ◌∙◌}
+use Rattle.scop_syntax.proofs.Common.{◌+◌, subst, sym, ◌∙◌}
 use Rattle.loop_tree.specs.View.{bounds_in}
 use Rattle.tree_simplification.specs.steps.Context.{ArePartsOver}
 use Rattle.tree_simplification.proofs.Walks.{parts_over}

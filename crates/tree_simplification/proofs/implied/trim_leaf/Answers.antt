@@ -1,5 +1,4 @@
-use Rattle.std.proofs.Common.{ap, inl, inr}
-use Rattle.std.proofs.lemmas.Result.{IfOk-weaker}
+use Rattle.scop_syntax.proofs.Common.{ap, inl, inr, IfOk-weaker}
 use Rattle.loop_tree.specs.View.{nodes_of}
 use Rattle.tree_simplification.proofs.implied.trim_leaf.Goals as goal
 

@@ -1,5 +1,4 @@
-use Rattle.std.proofs.Common.{◌+◌, ◌<◌, List, length, subst, sym, ◌∙◌}
-use Rattle.std.specs.Prelude.{true, false}
+use Rattle.scop_syntax.proofs.Common.{◌+◌, ◌<◌, List, length, subst, sym, ◌∙◌, true, false}
 use Rattle.loop_tree.specs.Tree.{Bound}
 use Rattle.loop_tree.specs.View.{bounds_in}
 use Rattle.tree_simplification.specs.steps.Context.{ArePartsOver, TrimsSide, parts}

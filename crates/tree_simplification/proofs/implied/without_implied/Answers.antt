@@ -1,4 +1,4 @@
-use Rattle.std.proofs.Common.{rules}
+use Rattle.scop_syntax.proofs.Common.{rules}
 use Rattle.loop_tree.specs.View.{nodes_of, trees_in}
 use Rattle.tree_simplification.specs.steps.Context.{outside}
 use Rattle.tree_simplification.specs.steps.Trimmed.{TrimsAll}

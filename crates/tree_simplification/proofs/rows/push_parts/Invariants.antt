@@ -1,4 +1,4 @@
-use Rattle.std.proofs.Common.{◌≡◌, ◌++◌, drop, map, false}
+use Rattle.scop_syntax.proofs.Common.{◌≡◌, ◌++◌, drop, map, false}
 use Rattle.tree_simplification.specs.steps.Context.{part_row}
 use Rattle.tree_simplification.proofs.rows.push_parts.Given as goal
 

@@ -1,5 +1,4 @@
-use Rattle.std.proofs.Common.{◌≡◌, ◌++◌, drop}
-use Rattle.whole_numbers.specs.Lists.{multiples}
+use Rattle.scop_syntax.proofs.Common.{◌≡◌, ◌++◌, drop, multiples}
 use Rattle.tree_simplification.specs.steps.Context.{sign_of}
 use Rattle.tree_simplification.proofs.rows.signed_all.Given as goal
 

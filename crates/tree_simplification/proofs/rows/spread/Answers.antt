@@ -1,5 +1,4 @@
-use Rattle.std.proofs.Common.{ap, ◌∙◌, subst, sym, length, ◌≤◌, List, ℤ}
-use Rattle.whole_numbers.proofs.Dot.{length-multiples}
+use Rattle.scop_syntax.proofs.Common.{ap, ◌∙◌, subst, sym, length, ◌≤◌, List, ℤ, length-multiples}
 use Rattle.tree_simplification.specs.steps.Context.{sign_of}
 use Rattle.tree_simplification.proofs.rows.spread.Goals as goal
 

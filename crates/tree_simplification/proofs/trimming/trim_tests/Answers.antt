@@ -1,4 +1,4 @@
-use Rattle.std.proofs.Common.{◌≡◌, ◌+◌, map, arith}
+use Rattle.scop_syntax.proofs.Common.{◌≡◌, ◌+◌, map, arith}
 use Rattle.affine_forms.specs.Parts.{variables_of}
 use Rattle.loop_tree.specs.Fits.{form_in}
 use Rattle.loop_tree.specs.View.{test_of}

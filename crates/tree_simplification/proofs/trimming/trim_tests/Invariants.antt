@@ -1,4 +1,4 @@
-use Rattle.std.proofs.Common.{◌+◌, ◌≤◌, length, map}
+use Rattle.scop_syntax.proofs.Common.{◌+◌, ◌≤◌, length, map}
 use Rattle.loop_tree.specs.View.{test_of}
 use Rattle.tree_simplification.specs.steps.Trimmed.{TrimsTests}
 use Rattle.tree_simplification.specs.steps.ContextView.{context_of}

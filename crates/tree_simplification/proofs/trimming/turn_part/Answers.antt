@@ -1,5 +1,4 @@
-use Rattle.std.proofs.Common.{List, [], ◌∷◌, ◌++◌, drop, ap, subst, sym, ◌∙◌}
-use Rattle.std.proofs.lemmas.Result.{on_ok_weaker}
+use Rattle.scop_syntax.proofs.Common.{List, [], ◌∷◌, ◌++◌, drop, ap, subst, sym, ◌∙◌, on_ok_weaker}
 use Rattle.loop_tree.specs.Tree.{Bound}
 use Rattle.tree_simplification.specs.steps.Context.{TrimsSide}
 use Rattle.tree_simplification.specs.steps.ContextView.{context_of}

@@ -1,6 +1,4 @@
-use Rattle.std.proofs.Common.{List, [], ◌∷◌, ◌++◌, drop, map, ap, subst, sym, ◌∙◌}
-use Rattle.std.proofs.lemmas.List.{map-append}
-use Rattle.std.proofs.lemmas.Result.{on_ok_weaker}
+use Rattle.scop_syntax.proofs.Common.{List, [], ◌∷◌, ◌++◌, drop, map, ap, subst, sym, ◌∙◌, map-append, on_ok_weaker}
 use Rattle.loop_tree.specs.Tree.{Test}
 use Rattle.loop_tree.specs.View.{test_of}
 use Rattle.loop_tree.specs.declared.tree.Test.{Test as CodeTest}

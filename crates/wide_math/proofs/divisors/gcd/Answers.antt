@@ -1,5 +1,5 @@
+use Rattle.whole_numbers.proofs.Common.{pos}
 use Rattle.wide_math.specs.declared.Op.TheVariants.{Gcd}
-use Rattle.std.proofs.Common.{pos}
 use Rattle.wide_math.proofs.CommonDivisor.{gcd_of_read_sizes, checked_read, checked_read_wide}
 use Rattle.wide_math.proofs.divisors.gcd.Goals as goal
 

@@ -1,4 +1,4 @@
-use Rattle.std.proofs.Common.{arith, rules, ◌≡◌}
+use Rattle.whole_numbers.proofs.Common.{arith, rules, ◌≡◌}
 use Rattle.std.proofs.lemmas.Nat.Gcd.{IsGcd-from_zero, IsGcd-from_mod}
 use Rattle.wide_math.proofs.divisors.gcd_of_sizes.Goals as goal
 

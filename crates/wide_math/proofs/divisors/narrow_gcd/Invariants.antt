@@ -1,5 +1,4 @@
-use Rattle.std.proofs.Common.{ℕ}
-use Rattle.std.specs.Int.{IsGcd}
+use Rattle.whole_numbers.proofs.Common.{ℕ, IsGcd}
 use Rattle.wide_math.proofs.divisors.narrow_gcd.Given as goal
 
 abbrev pub invariant-loop-y : goal.invariant-loop-y

@@ -1,6 +1,5 @@
-use Rattle.std.proofs.Common.{FitsSigned, to_z-of_z, int_div, arith, ◌+ℤ◌, ◌-ℤ◌, pos}
-use Rattle.std.proofs.lemmas.Int.{ints}
-use Rattle.std.specs.Int.{w128}
+use Rattle.whole_numbers.proofs.Common.{FitsSigned, int_div, arith, ◌+ℤ◌, ◌-ℤ◌, pos, ints, w128}
+use Rattle.std.proofs.Common.{to_z-of_z}
 use Rattle.wide_math.proofs.Rounding.{int_div-floor, ceiling_from_floor_below}
 use Rattle.wide_math.proofs.quotients.ceil_div.Goals as goal
 

@@ -1,6 +1,6 @@
-use Rattle.std.proofs.Common.{FitsSigned, to_z-of_z, arith, ◌+ℤ◌, int_rem}
-use Rattle.std.proofs.lemmas.Int.{ints, rem_below}
-use Rattle.std.specs.Int.{w128}
+use Rattle.whole_numbers.proofs.Common.{FitsSigned, arith, ◌+ℤ◌, int_rem, ints, w128}
+use Rattle.std.proofs.Common.{to_z-of_z}
+use Rattle.std.proofs.lemmas.Int.{rem_below}
 use Rattle.wide_math.proofs.Rounding.{rem_not_negative, rem_negative}
 use Rattle.wide_math.proofs.quotients.remainder.Goals as goal
 

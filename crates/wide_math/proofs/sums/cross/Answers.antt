@@ -1,5 +1,4 @@
-use Rattle.std.proofs.Common.{rules, FitsSigned, ◌≡◌, ◌-ℤ◌, ◌*ℤ◌}
-use Rattle.std.specs.Int.{w64}
+use Rattle.whole_numbers.proofs.Common.{rules, FitsSigned, ◌≡◌, ◌-ℤ◌, ◌*ℤ◌, w64}
 use Rattle.wide_math.proofs.Narrow.{cross_of_narrow}
 use Rattle.wide_math.proofs.sums.cross.Goals as goal
 

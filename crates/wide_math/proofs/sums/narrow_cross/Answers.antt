@@ -1,4 +1,4 @@
-use Rattle.std.proofs.Common.{rules}
+use Rattle.whole_numbers.proofs.Common.{rules}
 use Rattle.wide_math.proofs.Narrow.{cross_fits, product_fits}
 use Rattle.wide_math.proofs.sums.narrow_cross.Goals as goal
 

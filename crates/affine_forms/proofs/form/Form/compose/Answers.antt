@@ -1,5 +1,5 @@
-use Rattle.wide_math.specs.Affine.{form_of}
 use Rattle.std.proofs.Common.{rules, ◌≡◌, ◌∙◌, sym, ap, FitsSigned}
+use Rattle.wide_math.specs.Affine.{form_of}
 use Rattle.std.specs.Int.{w128}
 use Rattle.std.proofs.lemmas.Int.{to_z-of_z}
 use Rattle.wide_math.specs.Lists.{zeros}

@@ -1,7 +1,6 @@
-use Rattle.std.proofs.Common.{rules, ◌≡◌, ◌∙◌, sym, ap, ap₂, arith, ℕ, ℤ, pos, List, FitsSigned, unsigned_abs}
+use Rattle.std.proofs.Common.{rules, ◌≡◌, ◌∙◌, sym, ap, ap₂, arith, ℕ, ℤ, pos, List, FitsSigned, unsigned_abs, length}
 use Rattle.std.specs.Int.{w128}
 use Rattle.std.proofs.lemmas.Int.{to_z-of_z}
-use Rattle.std.specs.Prelude.{length}
 use Rattle.wide_math.specs.Affine.{form_of}
 use Rattle.wide_math.specs.Floor.{floor, floors}
 use Rattle.wide_math.specs.Content.{content_from, content_of_form, lowest_of_form}

@@ -1,12 +1,10 @@
-use Rattle.std.proofs.Common.{rules, length, ◌≡◌, ◌<◌, ℤ, pos, ◌<ℤ◌, take, ◌∙◌, subst, sym, List}
-use Rattle.std.specs.Prelude.{None}
+use Rattle.whole_numbers.proofs.Common.{rules, length, ◌≡◌, ◌<◌, ℤ, pos, ◌<ℤ◌, take, ◌∙◌, subst, sym, List, None, ◌*◌}
+use Rattle.whole_numbers.proofs.Common.{ℕ, ap, arith, length-take-le}
 use Rattle.tableau_rows.specs.Rows.{Row, entry}
 use Rattle.tableau_rows.specs.Moves.{rows_in, row_at, column_run}
 use Rattle.checked_tableau.specs.Table.{Table, stride_of}
 use Rattle.tableau_rows.proofs.Lines.{entry_at}
 use Rattle.checked_tableau.proofs.Tables.{length-rows_in, lines_within, take_rows_in}
-use Rattle.std.proofs.Common.{◌*◌, ℕ, ap, arith}
-use Rattle.std.proofs.lemmas.List.{length-take-le}
 use Rattle.checked_tableau.proofs.table.Rows.column.Goals as goal
 
 pub line_at-pivot-requires-clause-size : goal.line_at-pivot-requires-clause-size

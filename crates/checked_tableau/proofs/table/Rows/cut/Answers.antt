@@ -1,5 +1,5 @@
-use Rattle.std.proofs.Common.{rules, ◌≡◌, ◌++◌, ◌+◌, ◌<◌, ◌∷◌, [], List, ℤ, length, ap, ap₂, refl, sym, subst, ◌∙◌, arith}
-use Rattle.std.specs.Prelude.{None, Ok, Err, Option}
+use Rattle.whole_numbers.proofs.Common.{rules, ◌≡◌, ◌++◌, ◌+◌, ◌<◌, ◌∷◌, [], List, ℤ, length, ap, ap₂, refl, sym, subst}
+use Rattle.whole_numbers.proofs.Common.{◌∙◌, arith, None, Ok, Err, Option, ◌*◌, ℕ}
 use Rattle.checked_tableau.specs.declared.stop.TableauStop.{TableauStop}
 use Rattle.wide_math.specs.declared.Wide.{Wide}
 use Rattle.tableau_rows.specs.Rows.{Row, Sized}
@@ -10,7 +10,6 @@ use Rattle.checked_tableau.specs.Table.{Table, Appends, IsSound, stride_of, tabl
 use Rattle.checked_tableau.specs.Lines.{behind_columns}
 use Rattle.checked_tableau.proofs.Tables.{length-rows_in, placed-behind, sound_cut, sound_room, sound_stopped}
 use Rattle.checked_tableau.proofs.Tables.{stays_stopped, stops_by, written_whole}
-use Rattle.std.proofs.Common.{◌*◌, ℕ}
 use Rattle.checked_tableau.proofs.table.Rows.cut.Goals as goal
 
 pub append_cut-requires-clause-size : goal.append_cut-requires-clause-size

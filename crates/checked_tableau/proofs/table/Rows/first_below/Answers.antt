@@ -1,4 +1,4 @@
-use Rattle.std.proofs.Common.{◌<◌, length, subst, sym, ◌∙◌, arith}
+use Rattle.whole_numbers.proofs.Common.{◌<◌, length, subst, sym, ◌∙◌, arith}
 use Rattle.tableau_rows.specs.Run.{has_below}
 use Rattle.tableau_rows.specs.Moves.{rows_in}
 use Rattle.checked_tableau.specs.Table.{Table, stride_of}

@@ -1,5 +1,5 @@
-use Rattle.std.proofs.Common.{rules, arith, length, ◌≡◌, ◌+◌, ◌*◌, ◌<◌, ℕ, ℤ, List, take, ap, ◌∙◌, subst, sym}
-use Rattle.std.specs.Prelude.{None}
+use Rattle.whole_numbers.proofs.Common.{rules, arith, length, ◌≡◌, ◌+◌, ◌*◌, ◌<◌, ℕ, ℤ, List, take, ap, ◌∙◌, subst, sym}
+use Rattle.whole_numbers.proofs.Common.{None}
 use Rattle.tableau_rows.specs.Rows.{Row, Sized}
 use Rattle.tableau_rows.specs.Moves.{rows_in, HeadsPositive}
 use Rattle.tableau_rows.specs.Run.{first_row, has_fraction}

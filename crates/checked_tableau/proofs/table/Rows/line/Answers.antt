@@ -1,5 +1,4 @@
-use Rattle.std.proofs.Common.{rules, ◌≡◌, ◌+◌, ◌<◌, length, subst, sym, arith}
-use Rattle.std.specs.Prelude.{None}
+use Rattle.whole_numbers.proofs.Common.{rules, ◌≡◌, ◌+◌, ◌<◌, length, subst, sym, arith, None}
 use Rattle.tableau_rows.specs.Moves.{rows_in}
 use Rattle.checked_tableau.specs.Table.{Table, stride_of}
 use Rattle.checked_tableau.proofs.Tables.{head_sized, length-rows_in}

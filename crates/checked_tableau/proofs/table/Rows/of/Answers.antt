@@ -1,5 +1,5 @@
-use Rattle.std.proofs.Common.{sym, rules, ◌≡◌, ◌+◌, ◌++◌, ℤ, List, suc, length, subst, ap, ◌∙◌, arith}
-use Rattle.std.specs.Prelude.{None, ◌↔◌}
+use Rattle.whole_numbers.proofs.Common.{sym, rules, ◌≡◌, ◌+◌, ◌++◌, ℤ, List, suc, length, subst, ap, ◌∙◌, arith, None}
+use Rattle.whole_numbers.proofs.Common.{◌↔◌}
 use Rattle.tableau_rows.specs.Problem.{unit_rows, given_rows, first_rows, problem_of, IsPoint}
 use Rattle.tableau_rows.specs.Rows.{Row}
 use Rattle.tableau_rows.specs.Solutions.{IsSolution}

@@ -1,5 +1,5 @@
-use Rattle.std.proofs.Common.{◌++◌, take, drop, rules, arith, length, ◌≡◌, ◌+◌, ◌<◌, ℕ, ℤ, pos, ◌<ℤ◌, List, ap, ◌∙◌}
-use Rattle.std.proofs.Common.{subst, sym}
+use Rattle.whole_numbers.proofs.Common.{◌++◌, take, drop, rules, arith, length, ◌≡◌, ◌+◌, ◌<◌, ℕ, ℤ, pos, ◌<ℤ◌, List}
+use Rattle.whole_numbers.proofs.Common.{ap, ◌∙◌, subst, sym, ◌*◌, None}
 use Rattle.tableau_rows.specs.Rows.{entry}
 use Rattle.tableau_rows.specs.Solutions.{HaveSameSolutions}
 use Rattle.tableau_rows.proofs.KeptSolutions.{pivot_keeps_solutions}
@@ -7,8 +7,6 @@ use Rattle.tableau_rows.specs.Moves.{rows_in, row_at, rows_run, HeadsPositive}
 use Rattle.checked_tableau.specs.Table.{Table, table_in, stride_of}
 use Rattle.checked_tableau.proofs.Tables.{goes_by, heads_sized, length-rows_in, sound_pivot, sound_stopped}
 use Rattle.checked_tableau.proofs.Tables.{stays_stopped, stops_by, written_whole}
-use Rattle.std.proofs.Common.{◌*◌}
-use Rattle.std.specs.Prelude.{None}
 use Rattle.checked_tableau.proofs.table.Rows.pivot.Goals as goal
 
 pub pivot_lines-requires-clause-size : goal.pivot_lines-requires-clause-size

@@ -1,5 +1,4 @@
-use Rattle.std.proofs.Common.{rules, ◌≡◌, ◌∙◌, ap, sym, subst}
-use Rattle.std.specs.Prelude.{Some, None, Ok, Err, Option}
+use Rattle.whole_numbers.proofs.Common.{rules, ◌≡◌, ◌∙◌, ap, sym, subst, Some, None, Ok, Err, Option}
 use Rattle.tableau_rows.specs.Moves.{pivot_run}
 use Rattle.checked_tableau.specs.Table.{Table, table_of}
 use Rattle.wide_math.specs.declared.Wide.{Wide}

@@ -1,5 +1,4 @@
-use Rattle.std.proofs.Common.{rules, ◌≡◌, ◌+◌, length, map, ℕ, List, subst, sym, ap, ◌∙◌}
-use Rattle.std.specs.Prelude.{None}
+use Rattle.whole_numbers.proofs.Common.{rules, ◌≡◌, ◌+◌, length, map, ℕ, List, subst, sym, ap, ◌∙◌, None}
 use Rattle.tableau_rows.specs.Rows.{Row}
 use Rattle.tableau_rows.specs.Moves.{rows_in}
 use Rattle.lexmin_runs.specs.Nodes.{longer_row}

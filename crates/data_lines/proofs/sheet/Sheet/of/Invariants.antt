@@ -1,6 +1,5 @@
 -- Nothing is said of the arrays so far.
-use Rattle.std.proofs.Common.{◌≡◌, ◌≤◌, ◌-◌, length, map}
-use Rattle.std.specs.Prelude.{replicate}
+use Rattle.scop_syntax.proofs.Common.{◌≡◌, ◌≤◌, ◌-◌, length, map, replicate}
 use Rattle.data_lines.specs.Sheets.{given_of, nothing}
 use Rattle.data_lines.proofs.sheet.Sheet.of.Given as goal
 

@@ -1,5 +1,4 @@
-use Rattle.std.proofs.Common.{List, ap}
-use Rattle.std.proofs.lemmas.List.{map-set}
+use Rattle.scop_syntax.proofs.Common.{List, ap, map-set}
 use Rattle.data_lines.specs.Sheets.{Given, Sheet, given_of}
 use Rattle.data_lines.proofs.sheet.Sheet.set_row.Goals as goal
 

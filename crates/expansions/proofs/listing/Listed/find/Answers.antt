@@ -1,4 +1,4 @@
-use Rattle.std.proofs.Common.{◌≡◌, arith, length, rules}
+use Rattle.scop_syntax.proofs.Common.{◌≡◌, arith, length, rules}
 use Rattle.std.specs.Vec.{vec_len}
 use Rattle.expansions.proofs.ListedEntries.{index_within, place_in}
 use Rattle.expansions.proofs.listing.Listed.find.Goals as goal

@@ -1,4 +1,4 @@
-use Rattle.std.proofs.Common.{◌≤◌, ◌-◌, length}
+use Rattle.scop_syntax.proofs.Common.{◌≤◌, ◌-◌, length}
 use Rattle.expansions.proofs.listing.Listed.search.Given as goal
 
 abbrev pub invariant-loop-low : goal.invariant-loop-low

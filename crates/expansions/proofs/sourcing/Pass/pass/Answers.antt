@@ -1,4 +1,4 @@
-use Rattle.std.proofs.Common.{◌≡◌, ◌++◌, ℕ, List, arith, rules, subst}
+use Rattle.scop_syntax.proofs.Common.{◌≡◌, ◌++◌, ℕ, List, arith, rules, subst}
 use Rattle.expansions.specs.steps.Marks.{IsMarked, firsts, read_marks}
 use Rattle.expansions.proofs.sourcing.Pass.pass.Goals as goal
 

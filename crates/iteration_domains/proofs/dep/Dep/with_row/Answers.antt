@@ -1,4 +1,4 @@
-use Rattle.std.proofs.Common.{◌≡◌, ◌++◌, ◌∷◌, [], subst, ap, ◌∙◌}
+use Rattle.scop_syntax.proofs.Common.{◌≡◌, ◌++◌, ◌∷◌, [], subst, ap, ◌∙◌}
 use Rattle.integer_sets.specs.Constraints.{system_of}
 use Rattle.iteration_domains.specs.Dependence.{Dependence}
 use Rattle.iteration_domains.proofs.AddedConstraints.{row_points}

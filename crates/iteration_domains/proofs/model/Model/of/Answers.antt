@@ -1,6 +1,4 @@
-use Rattle.std.proofs.Common.{◌≡◌, length, ap, sym, ◌∙◌, rules}
-use Rattle.std.proofs.lemmas.List.{length-map}
-use Rattle.scop_syntax.specs.View.{items_of, program_of}
+use Rattle.scop_syntax.proofs.Common.{◌≡◌, length, ap, sym, ◌∙◌, rules, length-map, items_of, program_of}
 use Rattle.iteration_domains.specs.Path.{scopes_of}
 use Rattle.iteration_domains.proofs.TreeStatements.{model_is_one, root_can, root_models}
 use Rattle.iteration_domains.proofs.model.Model.of.Goals as goal

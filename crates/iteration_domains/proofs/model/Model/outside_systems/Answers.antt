@@ -1,8 +1,4 @@
-use Rattle.std.proofs.Common.{◌≡◌, ◌∙◌, List, ap, subst}
-use Rattle.scop_syntax.specs.Execution.{layout}
-use Rattle.scop_syntax.specs.Members.{In}
-use Rattle.scop_syntax.specs.View.{program_of}
-use Rattle.scop_syntax.proofs.Members.{member_at}
+use Rattle.scop_syntax.proofs.Common.{◌≡◌, ◌∙◌, List, ap, subst, layout, In, program_of, member_at}
 use Rattle.iteration_domains.specs.Model.{KernelModel, Modelled, model_of}
 use Rattle.iteration_domains.specs.Outside.{outside_statement}
 use Rattle.iteration_domains.proofs.Asking.{statement_can}

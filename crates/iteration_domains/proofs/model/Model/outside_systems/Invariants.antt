@@ -1,7 +1,4 @@
-use Rattle.std.proofs.Common.{◌≡◌, ◌++◌, drop}
-use Rattle.std.specs.List.{flat_map}
-use Rattle.scop_syntax.specs.Execution.{layout}
-use Rattle.scop_syntax.specs.View.{program_of}
+use Rattle.scop_syntax.proofs.Common.{◌≡◌, ◌++◌, drop, flat_map, layout, program_of}
 use Rattle.iteration_domains.specs.Outside.{outside_statement}
 use Rattle.iteration_domains.proofs.model.Model.outside_systems.Given as goal
 

@@ -1,7 +1,5 @@
-use Rattle.std.proofs.Common.{All, List, [], ◌∷◌, subst, sym, arith}
+use Rattle.scop_syntax.proofs.Common.{All, List, [], ◌∷◌, subst, sym, arith, test_form, test_of}
 use Rattle.scop_syntax.specs.declared.tree.Test.{Test}
-use Rattle.scop_syntax.specs.Kernel.{test_form}
-use Rattle.scop_syntax.specs.View.{test_of}
 use Rattle.iteration_domains.specs.Path.{scopes_of, shown}
 use Rattle.iteration_domains.specs.Sizes.{CanCompose}
 use Rattle.iteration_domains.specs.Standing.{CanEnter}

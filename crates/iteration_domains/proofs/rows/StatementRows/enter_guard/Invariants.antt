@@ -1,5 +1,4 @@
-use Rattle.std.proofs.Common.{◌≡◌, map, drop}
-use Rattle.scop_syntax.specs.View.{test_of}
+use Rattle.scop_syntax.proofs.Common.{◌≡◌, map, drop, test_of}
 use Rattle.iteration_domains.specs.Path.{shown}
 use Rattle.iteration_domains.specs.Rows.{composed_test}
 use Rattle.iteration_domains.specs.Standing.{with_tests}

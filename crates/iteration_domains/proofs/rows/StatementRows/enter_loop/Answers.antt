@@ -1,8 +1,5 @@
-use Rattle.std.proofs.Common.{◌≡◌, ◌+◌, ◌^◌, List, [], ◌∷◌, ◌++◌, ◌∙◌, append_assoc, length, length-append, rules}
-use Rattle.std.proofs.Common.{arith, ap, ap₂, subst, sym}
-use Rattle.whole_numbers.specs.Affine.{Affine, composed}
-use Rattle.scop_syntax.specs.Tree.{Head}
-use Rattle.scop_syntax.specs.Kernel.{IsCondition}
+use Rattle.scop_syntax.proofs.Common.{◌≡◌, ◌+◌, ◌^◌, List, [], ◌∷◌, ◌++◌, ◌∙◌, append_assoc, length, length-append}
+use Rattle.scop_syntax.proofs.Common.{rules, arith, ap, ap₂, subst, sym, Affine, composed, Head, IsCondition}
 use Rattle.iteration_domains.specs.Rows.{iterator, variable, within_loop}
 use Rattle.iteration_domains.specs.Sizes.{CanCompose}
 use Rattle.iteration_domains.specs.Standing.{standing}

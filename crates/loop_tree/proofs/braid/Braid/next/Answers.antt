@@ -1,5 +1,4 @@
-use Rattle.std.proofs.Common.{rules, ◌≡◌, ◌<◌, length, get_or, arith}
-use Rattle.scop_syntax.specs.View.{instance_of}
+use Rattle.scop_syntax.proofs.Common.{rules, ◌≡◌, ◌<◌, length, get_or, arith, instance_of}
 use Rattle.loop_tree.proofs.Braids.{braid_behind, braid_fits, braid_next, braid_none}
 use Rattle.loop_tree.proofs.braid.Braid.next.Goals as goal
 

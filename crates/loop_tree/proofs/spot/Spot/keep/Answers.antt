@@ -1,6 +1,5 @@
-use Rattle.std.proofs.Common.{◌≡◌, ◌∙◌, ◌++◌, List, [], ap, ap₂, map, sym}
+use Rattle.scop_syntax.proofs.Common.{◌≡◌, ◌∙◌, ◌++◌, List, [], ap, ap₂, map, sym, Instance}
 use Rattle.std.proofs.lemmas.Simd.{map-map}
-use Rattle.scop_syntax.specs.Walk.{Instance}
 use Rattle.loop_tree.specs.Bookmarks.{kept_in, without_last}
 use Rattle.loop_tree.specs.Spot.{rest_of}
 use Rattle.loop_tree.specs.SpotView.{mark_of, marks_in}

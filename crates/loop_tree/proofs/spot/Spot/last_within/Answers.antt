@@ -1,8 +1,4 @@
-use Rattle.std.proofs.Common.{List, [], subst}
-use Rattle.std.proofs.lemmas.Option.{IfSome_then}
-use Rattle.scop_syntax.specs.Members.{In}
-use Rattle.scop_syntax.specs.View.{instance_of}
-use Rattle.scop_syntax.proofs.Members.{in_back}
+use Rattle.scop_syntax.proofs.Common.{List, [], subst, IfSome_then, In, instance_of, in_back}
 use Rattle.loop_tree.specs.Braids.{left_of_braid}
 use Rattle.loop_tree.specs.Spot.{rest_of}
 use Rattle.loop_tree.specs.SpotView.{marks_of}

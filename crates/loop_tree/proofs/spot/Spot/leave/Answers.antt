@@ -1,9 +1,5 @@
-use Rattle.std.proofs.Common.{◌≡◌, ◌∙◌, ◌++◌, ℕ, ℤ, [], List, ap, append_assoc, sym, arith}
-use Rattle.std.specs.Vec.{with_items}
-use Rattle.std.proofs.lemmas.List.{with_items_is}
-use Rattle.std.proofs.lemmas.Option.{IfSome_then}
-use Rattle.scop_syntax.specs.Walk.{Instance}
-use Rattle.scop_syntax.specs.View.{instance_of}
+use Rattle.scop_syntax.proofs.Common.{◌≡◌, ◌∙◌, ◌++◌, ℕ, ℤ, [], List, ap, append_assoc, sym, arith, with_items}
+use Rattle.scop_syntax.proofs.Common.{with_items_is, IfSome_then, Instance, instance_of}
 use Rattle.loop_tree.specs.Braids.{left_of_braid}
 use Rattle.loop_tree.specs.Passed.{HasLeft}
 use Rattle.loop_tree.specs.Spot.{rest_of}

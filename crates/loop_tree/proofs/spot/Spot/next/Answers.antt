@@ -1,7 +1,4 @@
-use Rattle.std.proofs.Common.{List, All, subst}
-use Rattle.std.proofs.lemmas.List.Elements.{All-tail}
-use Rattle.scop_syntax.specs.Walk.{Instance}
-use Rattle.scop_syntax.specs.View.{instance_of}
+use Rattle.scop_syntax.proofs.Common.{List, All, subst, All-tail, Instance, instance_of}
 use Rattle.loop_tree.specs.Conditions.{IsHeld}
 use Rattle.loop_tree.specs.Stretches.{left_of}
 use Rattle.loop_tree.proofs.spot.Spot.next.Goals as goal

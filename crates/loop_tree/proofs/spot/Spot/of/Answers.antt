@@ -1,7 +1,5 @@
-use Rattle.std.proofs.Common.{◌≡◌, ◌∙◌, ◌++◌, List, [], All, length, rules, arith, ap, ap₂, sym, subst, replicate}
-use Rattle.std.proofs.lemmas.List.{length-replicate}
-use Rattle.std.proofs.lemmas.List.Elements.{All-nil}
-use Rattle.scop_syntax.specs.Walk.{Instance}
+use Rattle.scop_syntax.proofs.Common.{◌≡◌, ◌∙◌, ◌++◌, List, [], All, length, rules, arith, ap, ap₂, sym, subst}
+use Rattle.scop_syntax.proofs.Common.{replicate, length-replicate, All-nil, Instance}
 use Rattle.loop_tree.specs.Conditions.{IsHeld}
 use Rattle.loop_tree.specs.Spot.{IsAt, deep_all, rest_of}
 use Rattle.loop_tree.specs.SpotView.{marks_of}

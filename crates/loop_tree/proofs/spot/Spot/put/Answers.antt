@@ -1,7 +1,5 @@
-use Rattle.std.proofs.Common.{◌≡◌, ◌∙◌, ◌++◌, List, [], ap, ap₂, arith, map}
-use Rattle.std.specs.Vec.{with_items}
-use Rattle.std.proofs.lemmas.List.{with_items_is}
-use Rattle.scop_syntax.specs.Walk.{Instance}
+use Rattle.scop_syntax.proofs.Common.{◌≡◌, ◌∙◌, ◌++◌, List, [], ap, ap₂, arith, map, with_items, with_items_is}
+use Rattle.scop_syntax.proofs.Common.{Instance}
 use Rattle.loop_tree.specs.Bookmarks.{kept_in, without_last}
 use Rattle.loop_tree.specs.Spot.{Mark, rest_of}
 use Rattle.loop_tree.specs.SpotView.{marks_of}

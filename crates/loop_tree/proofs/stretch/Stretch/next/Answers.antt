@@ -1,5 +1,4 @@
-use Rattle.std.proofs.Common.{take}
-use Rattle.scop_syntax.specs.View.{instance_of}
+use Rattle.scop_syntax.proofs.Common.{take, instance_of}
 use Rattle.loop_tree.proofs.Stretches.{first_held}
 use Rattle.loop_tree.proofs.stretch.Stretch.next.Goals as goal
 

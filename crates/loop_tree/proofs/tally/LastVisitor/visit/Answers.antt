@@ -1,6 +1,4 @@
-use Rattle.std.proofs.Common.{◌∷◌, [], inl, refl}
-use Rattle.scop_syntax.specs.View.{instance_of}
-use Rattle.scop_syntax.proofs.Members.{in_back}
+use Rattle.scop_syntax.proofs.Common.{◌∷◌, [], inl, refl, instance_of, in_back}
 use Rattle.loop_tree.proofs.tally.LastVisitor.visit.Goals as goal
 
 pub returns : goal.returns

@@ -1,5 +1,4 @@
-use Rattle.std.proofs.Common.{◌^◌, [], length, ap, subst, sym, ◌∙◌}
-use Rattle.scop_syntax.specs.View.{program_of}
+use Rattle.scop_syntax.proofs.Common.{◌^◌, [], length, ap, subst, sym, ◌∙◌, program_of}
 use Rattle.loop_tree.specs.Conditions.{CanWalk}
 use Rattle.loop_tree.specs.Marks.{FlatAll}
 use Rattle.loop_tree.specs.Shape.{AreSerial, TreesAreOf, TreesAreOver, TreesAreUpTo}

@@ -1,4 +1,4 @@
-use Rattle.std.proofs.Common.{◌≡◌, ◌∙◌, ◌<◌, ℕ, sym, subst}
+use Rattle.whole_numbers.proofs.Common.{◌≡◌, ◌∙◌, ◌<◌, ℕ, sym, subst}
 use Rattle.checked_tableau.proofs.KeptSolutions.{place_within}
 use Rattle.pip_solver.proofs.node.Tableau.cut_going.Goals as goal
 

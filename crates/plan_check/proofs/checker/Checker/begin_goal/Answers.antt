@@ -1,4 +1,4 @@
-use Rattle.std.proofs.Common.{subst}
+use Rattle.scop_syntax.proofs.Common.{subst}
 use Rattle.plan_check.specs.steps.Taking.{Takes}
 use Rattle.plan_check.proofs.Progresses.{next_as}
 use Rattle.plan_check.proofs.checker.Checker.begin_goal.Goals as goal

@@ -1,4 +1,4 @@
-use Rattle.std.proofs.Common.{◌∙◌, sym, ap, subst}
+use Rattle.scop_syntax.proofs.Common.{◌∙◌, sym, ap, subst}
 use Rattle.plan_check.specs.Progress.{IsProgress, Progress}
 use Rattle.plan_check.specs.steps.Taking.{Takes}
 use Rattle.plan_check.proofs.Progresses.{none_has}

@@ -1,5 +1,4 @@
-use Rattle.std.proofs.Common.{◌≡◌, ℕ, List, All, Some, sym, subst}
-use Rattle.std.specs.Prelude.{◌≤◌, slice_get}
+use Rattle.scop_syntax.proofs.Common.{◌≡◌, ℕ, List, All, Some, sym, subst, ◌≤◌, slice_get}
 use Rattle.iteration_domains.specs.Dependence.{Dependence}
 use Rattle.iteration_domains.specs.Model.{Modelled}
 use Rattle.iteration_domains.specs.Sizes.{HaveOneCount, IsKernelModel}

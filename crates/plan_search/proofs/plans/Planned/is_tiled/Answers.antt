@@ -1,5 +1,5 @@
 -- Tiled, the trees of an expanded plan are those of a flow plan; else those of the kept order.
-use Rattle.std.proofs.Common.{ap}
+use Rattle.scop_syntax.proofs.Common.{ap}
 use Rattle.loop_tree.specs.TilingView.{tiling_of}
 use Rattle.loop_tree.specs.View.{trees_in}
 use Rattle.plan_search.specs.Planned.{is_tiled}

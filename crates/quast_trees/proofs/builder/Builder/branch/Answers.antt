@@ -1,5 +1,4 @@
-use Rattle.std.proofs.Common.{rules, ◌≡◌, ◌≤◌, ◌-◌, ◌++◌, [], ◌∷◌, ◌<◌, length, take, get_or, ap}
-use Rattle.std.proofs.Common.{◌∙◌, arith}
+use Rattle.whole_numbers.proofs.Common.{rules, ◌≡◌, ◌≤◌, ◌-◌, ◌++◌, [], ◌∷◌, ◌<◌, length, take, get_or, ap, ◌∙◌, arith}
 use Rattle.quast_trees.specs.Postfix.{standing}
 use Rattle.quast_trees.specs.declared.node.Node.TheVariants as node
 use Rattle.quast_trees.proofs.TreeStack.{length-starts, joins}

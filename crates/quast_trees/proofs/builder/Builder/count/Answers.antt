@@ -1,4 +1,4 @@
-use Rattle.std.proofs.Common.{rules, ◌≡◌, List, length, ap, ◌∙◌}
+use Rattle.whole_numbers.proofs.Common.{rules, ◌≡◌, List, length, ap, ◌∙◌}
 use Rattle.quast_trees.specs.Postfix.{standing}
 use Rattle.quast_trees.specs.declared.node.Node.{Node}
 use Rattle.quast_trees.proofs.TreeStack.{length-starts}

@@ -1,5 +1,5 @@
-use Rattle.std.proofs.Common.{rules, ◌≡◌, ◌++◌, ◌∷◌, [], List, ℕ, length, take, ap, sym, subst, ◌∙◌}
-use Rattle.std.proofs.Math.Seq.{take-append_seam}
+use Rattle.whole_numbers.proofs.Common.{rules, ◌≡◌, ◌++◌, ◌∷◌, [], List, ℕ, length, take, ap, sym, subst, ◌∙◌}
+use Rattle.whole_numbers.proofs.Common.{take-append_seam}
 use Rattle.quast_trees.specs.Postfix.{IsStack, built, standing}
 use Rattle.quast_trees.specs.declared.node.Node.{Node}
 use Rattle.quast_trees.proofs.TreeStack.{standing-more, started}

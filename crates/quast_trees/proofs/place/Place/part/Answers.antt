@@ -1,6 +1,5 @@
-use Rattle.std.proofs.Common.{rules, ◌<◌, Fits, w64, length, FitsSigned, ap, sym, ◌∙◌, arith}
-use Rattle.std.specs.Int.{w128}
-use Rattle.std.proofs.lemmas.Int.{to_z-of_z}
+use Rattle.whole_numbers.proofs.Common.{rules, ◌<◌, Fits, length, FitsSigned, ap, sym, ◌∙◌, arith, w128, to_z-of_z}
+use Rattle.std.proofs.Common.{w64}
 use Rattle.quast_trees.specs.Place.{subtree}
 use Rattle.quast_trees.proofs.Places.{within, root_at}
 use Rattle.quast_trees.proofs.PlaceNodes.{initial_at, forms_at, branch_at, bind_at}

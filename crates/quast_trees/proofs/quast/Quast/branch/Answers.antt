@@ -1,5 +1,4 @@
-use Rattle.std.proofs.Common.{◌≡◌, [], ◌∷◌, ◌++◌, length, rules, ap, ◌∙◌}
-use Rattle.std.proofs.lemmas.Result.{IfOk-weaker}
+use Rattle.whole_numbers.proofs.Common.{◌≡◌, [], ◌∷◌, ◌++◌, length, rules, ap, ◌∙◌, IfOk-weaker}
 use Rattle.quast_trees.specs.Tree.{branch, Speaks}
 use Rattle.quast_trees.specs.Postfix.{held, tree_of, read, Postfix}
 use Rattle.quast_trees.specs.declared.node.Node.TheVariants as node

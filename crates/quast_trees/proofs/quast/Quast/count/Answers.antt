@@ -1,4 +1,4 @@
-use Rattle.std.proofs.Common.{◌≡◌, ap, ◌∙◌, length, rules}
+use Rattle.whole_numbers.proofs.Common.{◌≡◌, ap, ◌∙◌, length, rules}
 use Rattle.quast_trees.specs.Tree.{count}
 use Rattle.quast_trees.specs.Postfix.{tree_of}
 use Rattle.quast_trees.proofs.WrittenNodes.{length-written}

@@ -1,5 +1,4 @@
-use Rattle.std.proofs.Common.{rules, ◌≡◌, [], ◌∷◌, drop, ap, sym, ◌∙◌, Some}
-use Rattle.std.specs.Prelude.{reverse}
+use Rattle.whole_numbers.proofs.Common.{rules, ◌≡◌, [], ◌∷◌, drop, ap, sym, ◌∙◌, Some, reverse}
 use Rattle.quast_trees.specs.Postfix.{tree_of}
 use Rattle.quast_trees.specs.steps.Ways.{Ways, ways_from_last, ways_of}
 use Rattle.quast_trees.proofs.FoundPaths.{found_from_root}

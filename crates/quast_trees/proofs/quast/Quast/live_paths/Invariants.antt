@@ -1,5 +1,4 @@
-use Rattle.std.proofs.Common.{◌≡◌, ◌≤◌, length, drop, [], ◌∷◌, Some}
-use Rattle.std.specs.Prelude.{reverse}
+use Rattle.whole_numbers.proofs.Common.{◌≡◌, ◌≤◌, length, drop, [], ◌∷◌, Some, reverse}
 use Rattle.quast_trees.specs.steps.Ways.{ways_from_last, ways_of}
 use Rattle.quast_trees.proofs.quast.Quast.live_paths.Given as goal
 

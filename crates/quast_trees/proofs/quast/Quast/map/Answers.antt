@@ -1,5 +1,4 @@
-use Rattle.std.proofs.Common.{length, subst, sym, rules, arith}
-use Rattle.std.proofs.lemmas.List.Elements.{All-get_or, All-same}
+use Rattle.whole_numbers.proofs.Common.{length, subst, sym, rules, arith, All-get_or, All-same}
 use Rattle.affine_forms.specs.Gives.{Fails}
 use Rattle.quast_trees.specs.Postfix.{tree_of}
 use Rattle.quast_trees.specs.Mapped.{SuitsNode, node_run}

@@ -1,5 +1,4 @@
-use Rattle.std.proofs.Common.{rules, ◌≡◌, map, length, ap, ◌∙◌}
-use Rattle.std.proofs.lemmas.List.{length-map}
+use Rattle.whole_numbers.proofs.Common.{rules, ◌≡◌, map, length, ap, ◌∙◌, length-map}
 use Rattle.quast_trees.specs.Source.{source_of}
 use Rattle.quast_trees.specs.Tree.{named, Speaks}
 use Rattle.quast_trees.specs.Postfix.{tree_of, named_node, written}

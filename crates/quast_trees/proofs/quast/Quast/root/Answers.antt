@@ -1,4 +1,4 @@
-use Rattle.std.proofs.Common.{◌≡◌, length, ap, ◌∙◌, arith}
+use Rattle.whole_numbers.proofs.Common.{◌≡◌, length, ap, ◌∙◌, arith}
 use Rattle.quast_trees.specs.Postfix.{tree_of}
 use Rattle.quast_trees.specs.Tree.{count}
 use Rattle.quast_trees.proofs.Places.{count_positive, at_end, subtree-is}

@@ -1,6 +1,4 @@
-use Rattle.std.proofs.Common.{◌≡◌, ◌<◌, Ok, length, FitsSigned, sym, ap, ◌∙◌, rules, arith}
-use Rattle.std.specs.Int.{w128}
-use Rattle.std.proofs.lemmas.Int.{ints}
+use Rattle.whole_numbers.proofs.Common.{◌≡◌, ◌<◌, Ok, length, FitsSigned, sym, ap, ◌∙◌, rules, arith, w128, ints}
 use Rattle.affine_forms.specs.Gives.{Fails}
 use Rattle.affine_forms.specs.Runs.{value_run as form_run}
 use Rattle.quast_trees.specs.Postfix.{tree_of}

@@ -1,6 +1,4 @@
-use Rattle.std.proofs.Common.{rules, ◌≡◌, ◌<◌, refl, ap, subst, arith, length, Some}
-use Rattle.std.specs.Prelude.{slice_get}
-use Rattle.std.proofs.lemmas.Option.{slice_get_read}
+use Rattle.scop_syntax.proofs.Common.{rules, ◌≡◌, ◌<◌, refl, ap, subst, arith, length, Some, slice_get, slice_get_read}
 use Rattle.schedule_rows.specs.Schedule.{Scheduled, IsScheduled}
 use Rattle.schedule_rows.proofs.BandStarts.{marked_at}
 use Rattle.schedule_rows.proofs.BlockItems.{as_many}

@@ -1,6 +1,6 @@
-use Rattle.std.proofs.Common.{◌≡◌, ◌++◌, ◌∷◌, [], ◌+◌, List, length, map, ap, subst, ◌∙◌, arith}
-use Rattle.std.proofs.lemmas.List.{length-map, length-append}
-use Rattle.std.specs.Prelude.{Bool}
+use Rattle.scop_syntax.proofs.Common.{◌≡◌, ◌++◌, ◌∷◌, [], ◌+◌, List, length, map, ap, subst, ◌∙◌, arith, length-map}
+use Rattle.scop_syntax.proofs.Common.{Bool}
+use Rattle.std.proofs.lemmas.List.{length-append}
 use Rattle.schedule_rows.specs.declared.item.Band.{Band}
 use Rattle.schedule_rows.specs.declared.item.Block.TheVariants as code
 use Rattle.schedule_rows.specs.Schedule.{Item, item_of, block_of, items_of, bands_from, marks_of}

@@ -1,4 +1,4 @@
-use Rattle.std.proofs.Common.{◌≡◌, ◌++◌, map, length}
+use Rattle.scop_syntax.proofs.Common.{◌≡◌, ◌++◌, map, length}
 use Rattle.schedule_rows.specs.Schedule.{item_of, block_of, items_of, bands_from, marks_of}
 use Rattle.schedule_rows.proofs.schedule.Schedule.of.Given as goal
 

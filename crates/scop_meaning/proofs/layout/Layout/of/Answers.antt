@@ -1,13 +1,6 @@
-use Rattle.std.proofs.Common.{ℕ, ◌<◌, ◌≤◌, ◌^◌, List, length, map, get_or, ap, sym, subst, ◌∙◌, arith}
-use Rattle.std.specs.Prelude.{ℤ, pos, negsuc, ◌<ℤ◌, All}
-use Rattle.std.proofs.lemmas.Int.{ints}
-use Rattle.std.proofs.lemmas.List.{get_or-map, length-map}
-use Rattle.std.proofs.lemmas.List.Elements.{All-get_or}
-use Rattle.whole_numbers.specs.Affine.{Affine, value_of}
-use Rattle.scop_syntax.specs.Tree.{Declaration}
-use Rattle.scop_syntax.specs.View.{program_of}
-use Rattle.scop_syntax.specs.Cells.{values}
-use Rattle.scop_syntax.specs.Execution.{size_of}
+use Rattle.scop_syntax.proofs.Common.{ℕ, ◌<◌, ◌≤◌, ◌^◌, List, length, map, get_or, ap, sym, subst, ◌∙◌, arith, ℤ, pos}
+use Rattle.scop_syntax.proofs.Common.{negsuc, ◌<ℤ◌, All, ints, get_or-map, length-map, All-get_or, Affine, value_of}
+use Rattle.scop_syntax.proofs.Common.{Declaration, program_of, values, size_of}
 use Rattle.scop_meaning.proofs.layout.Layout.of.Goals as goal
 
 abbrev Sizes : List ℕ → Type 0

@@ -1,5 +1,4 @@
-use Rattle.std.proofs.Common.{subst, sym, map, inr}
-use Rattle.std.proofs.lemmas.Result.{err_from_is_err_and}
+use Rattle.scop_syntax.proofs.Common.{subst, sym, map, inr, err_from_is_err_and}
 use Rattle.scop_grammar.specs.Kernel.{mark_at}
 use Rattle.scop_roles.specs.Formula.{formula_of}
 use Rattle.scop_pass.specs.Machine.{State, expects, idle_step}

@@ -1,7 +1,5 @@
-use Rattle.std.proofs.Common.{rules, ◌≡◌, ◌-◌, ◌++◌, ◌∷◌, length, map}
-use Rattle.std.proofs.lemmas.List.{length-map}
+use Rattle.scop_syntax.proofs.Common.{rules, ◌≡◌, ◌-◌, ◌++◌, ◌∷◌, length, map, length-map, test_of, tree_of}
 use Rattle.scop_syntax.specs.Tree as scop
-use Rattle.scop_syntax.specs.View.{test_of, tree_of}
 use Rattle.scop_pass.specs.Machine as machine
 use Rattle.scop_pass.specs.Passing.{frames_of, state_of}
 use Rattle.scop_units.specs.Programs.{wrapped}

@@ -1,4 +1,4 @@
-use Rattle.std.proofs.Common.{◌≡◌, length, refl, sym, ◌∙◌, arith}
+use Rattle.scop_syntax.proofs.Common.{◌≡◌, length, refl, sym, ◌∙◌, arith}
 use Rattle.scop_pass.specs.Passing.{state_of}
 use Rattle.scop_pass.proofs.CompletedHeads.{nothing_left}
 use Rattle.scop_pass.proofs.pass.Pass.close_all.Goals as goal

@@ -1,5 +1,5 @@
 -- What is left to complete is all that was.
-use Rattle.std.proofs.Common.{◌≡◌, ◌+◌, length}
+use Rattle.scop_syntax.proofs.Common.{◌≡◌, ◌+◌, length}
 use Rattle.scop_pass.specs.Machine.{complete}
 use Rattle.scop_pass.specs.Passing.{state_of}
 use Rattle.scop_pass.proofs.pass.Pass.close_all.Given as goal

@@ -1,4 +1,4 @@
-use Rattle.std.proofs.Common.{◌∙◌, List, ap, sym, subst}
+use Rattle.scop_syntax.proofs.Common.{◌∙◌, List, ap, sym, subst}
 use Rattle.scop_pass.specs.Machine.{State, Frame, closed, complete}
 use Rattle.scop_pass.specs.Passing.{Comes, state_of}
 use Rattle.scop_pass.proofs.pass.Pass.end.Goals as goal

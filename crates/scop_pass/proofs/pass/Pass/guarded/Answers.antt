@@ -1,4 +1,4 @@
-use Rattle.std.proofs.Common.{◌≡◌, [], subst}
+use Rattle.scop_syntax.proofs.Common.{◌≡◌, [], subst}
 use Rattle.scop_roles.specs.declared.formula.Role.TheVariants as role
 use Rattle.scop_roles.specs.Faults.{faults}
 use Rattle.scop_roles.specs.Formula.{formula_of}

@@ -1,4 +1,4 @@
-use Rattle.std.proofs.Common.{◌∙◌, ℕ, Option, ap, subst}
+use Rattle.scop_syntax.proofs.Common.{◌∙◌, ℕ, Option, ap, subst}
 use Rattle.scop_roles.specs.Formula.{Formula}
 use Rattle.scop_roles.specs.Resolving.{formula_of_nodes}
 use Rattle.scop_pass.specs.Machine.{expects, formula_step}

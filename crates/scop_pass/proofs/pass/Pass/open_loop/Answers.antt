@@ -1,4 +1,4 @@
-use Rattle.std.proofs.Common.{refl}
+use Rattle.scop_syntax.proofs.Common.{refl}
 use Rattle.scop_pass.proofs.pass.Pass.open_loop.Goals as goal
 
 pub returns : goal.returns

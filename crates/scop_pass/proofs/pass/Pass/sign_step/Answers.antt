@@ -1,4 +1,4 @@
-use Rattle.std.proofs.Common.{subst}
+use Rattle.scop_syntax.proofs.Common.{subst}
 use Rattle.scop_pass.specs.Machine.{State, idle_step}
 use Rattle.scop_pass.specs.Passing.{Comes, state_of}
 use Rattle.scop_units.specs.View.{words_in}

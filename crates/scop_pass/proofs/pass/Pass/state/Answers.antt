@@ -1,4 +1,4 @@
-use Rattle.std.proofs.Common.{◌≡◌, None, subst, sym}
+use Rattle.scop_syntax.proofs.Common.{◌≡◌, None, subst, sym}
 use Rattle.scop_roles.specs.Faults.{first}
 use Rattle.scop_units.specs.Scopes.{entries}
 use Rattle.scop_units.specs.Units.{stored_faults}

@@ -1,4 +1,4 @@
-use Rattle.std.proofs.Common.{◌≡◌, [], subst}
+use Rattle.scop_syntax.proofs.Common.{◌≡◌, [], subst}
 use Rattle.scop_units.specs.Units.{statement_faults}
 use Rattle.scop_units.specs.View.{stored_of}
 use Rattle.scop_pass.proofs.pass.Pass.stated.Goals as goal

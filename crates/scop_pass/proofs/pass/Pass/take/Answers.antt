@@ -1,6 +1,5 @@
-use Rattle.std.proofs.Common.{rules, ◌+◌, ◌≤◌, ◌++◌, List, length, take, drop, sym, ap, ◌∙◌}
-use Rattle.std.proofs.lemmas.List.{take_all}
-use Rattle.std.proofs.lemmas.Result.{err_from_is_err_and}
+use Rattle.scop_syntax.proofs.Common.{rules, ◌+◌, ◌≤◌, ◌++◌, List, length, take, drop, sym, ap, ◌∙◌, take_all}
+use Rattle.scop_syntax.proofs.Common.{err_from_is_err_and}
 use Rattle.scop_grammar.specs.declared.part.Part.{Part}
 use Rattle.scop_grammar.specs.Kernel.{kernel_elements, pieces}
 use Rattle.scop_grammar.specs.Turns.{piece_of, pieces_of}

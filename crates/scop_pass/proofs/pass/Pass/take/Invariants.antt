@@ -1,5 +1,5 @@
 -- The pass is the machine's state behind the parts so far.
-use Rattle.std.proofs.Common.{◌≡◌, take}
+use Rattle.scop_syntax.proofs.Common.{◌≡◌, take}
 use Rattle.scop_grammar.specs.Turns.{pieces_of}
 use Rattle.scop_pass.specs.Machine.{run}
 use Rattle.scop_pass.specs.Passing.{state_of}

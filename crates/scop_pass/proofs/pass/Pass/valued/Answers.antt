@@ -1,5 +1,4 @@
-use Rattle.std.proofs.Common.{[]}
-use Rattle.std.proofs.lemmas.Result.{err_from_is_err_and}
+use Rattle.scop_syntax.proofs.Common.{[], err_from_is_err_and}
 use Rattle.scop_pass.specs.Machine.{idle, stated}
 use Rattle.scop_pass.specs.Passing.{state_of}
 use Rattle.scop_units.specs.View.{stored_of}

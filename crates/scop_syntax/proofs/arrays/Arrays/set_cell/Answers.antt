@@ -1,8 +1,6 @@
-use Rattle.std.proofs.Common.{◌≡◌, ℕ, ◌<◌, List, [], length, map, sym, ap, subst, ◌∙◌, Vec, Global, get_or, set}
+use Rattle.whole_numbers.proofs.Common.{◌≡◌, ℕ, ◌<◌, List, [], length, map, sym, ap, subst, ◌∙◌, Vec, Global, get_or}
+use Rattle.whole_numbers.proofs.Common.{set, get_or-map, map-set, length-map, map-set_same, with_item}
 use Rattle.std.proofs.Common.{length-set}
-use Rattle.std.proofs.lemmas.List.{get_or-map, map-set, length-map}
-use Rattle.std.proofs.Math.Seq.{map-set_same}
-use Rattle.std.specs.Vec.{with_item}
 use Rattle.scop_syntax.proofs.arrays.Arrays.set_cell.Goals as goal
 
 -- a write to a row that was taken out of the rows

@@ -1,4 +1,4 @@
-use Rattle.std.proofs.Common.{Bool, ap}
+use Rattle.scop_syntax.proofs.Common.{Bool, ap}
 use Rattle.scop_lexer.specs.Bytes.{Text}
 use Rattle.scop_units.specs.View.{scope_of}
 use Rattle.scop_units.proofs.OrderedNames.{among_inserted}

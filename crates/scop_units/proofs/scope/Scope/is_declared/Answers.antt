@@ -1,4 +1,4 @@
-use Rattle.std.proofs.Common.{◌∙◌}
+use Rattle.scop_syntax.proofs.Common.{◌∙◌}
 use Rattle.scop_units.proofs.OrderedNames.{among_found}
 use Rattle.scop_units.proofs.scope.Scope.is_declared.Goals as goal
 

@@ -1,5 +1,4 @@
-use Rattle.std.proofs.Common.{◌≡◌, length, sym, ◌∙◌}
-use Rattle.std.proofs.lemmas.List.{length-map}
+use Rattle.scop_syntax.proofs.Common.{◌≡◌, length, sym, ◌∙◌, length-map}
 use Rattle.scop_units.specs.View.{scope_of}
 use Rattle.scop_units.proofs.InnerNames.{inside_some, inside_none}
 use Rattle.scop_units.proofs.scope.Scope.meaning_inside.Goals as goal

@@ -1,4 +1,4 @@
-use Rattle.std.proofs.Common.{◌∙◌, length, sym}
+use Rattle.scop_syntax.proofs.Common.{◌∙◌, length, sym}
 use Rattle.scop_units.specs.View.{tokens_in}
 use Rattle.scop_units.proofs.Spans.{start_within}
 use Rattle.scop_units.proofs.words.Words.start.Goals as goal

@@ -1,4 +1,4 @@
-use Rattle.std.proofs.Common.{rules, subst, ◌<◌}
+use Rattle.scop_syntax.proofs.Common.{rules, subst, ◌<◌}
 use Rattle.tile_core.specs.Plans.{shape_of}
 use Rattle.tile_core.proofs.Boards.{at_board, claims_tile, claims_none, refuses_claim, room, worker_there, workers_kept}
 use Rattle.tile_core.proofs.board.Board.claim.Goals as goal

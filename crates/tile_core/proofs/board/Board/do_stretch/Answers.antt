@@ -1,5 +1,5 @@
-use Rattle.std.proofs.Common.{rules, ◌∙◌, ◌+◌, ◌≤◌, List, ℕ, [], ap, ap₂, arith, length, subst, sym}
-use Rattle.std.proofs.lemmas.List.{nil_from_length, with_items_is}
+use Rattle.scop_syntax.proofs.Common.{rules, ◌∙◌, ◌+◌, ◌≤◌, List, ℕ, [], ap, ap₂, arith, length, subst, sym}
+use Rattle.scop_syntax.proofs.Common.{nil_from_length, with_items_is}
 use Rattle.tile_events.specs.Plan as events
 use Rattle.tile_core.specs.Plans.{walk_shape}
 use Rattle.tile_core.specs.Stretches.{CanPass, IsAhead}

@@ -1,4 +1,4 @@
-use Rattle.std.proofs.Common.{rules}
+use Rattle.scop_syntax.proofs.Common.{rules}
 use Rattle.tile_core.proofs.Boards.{at_board, finishes, not_full, refuses_finish, worker_there, workers_kept}
 use Rattle.tile_core.proofs.Boards.{working_tile}
 use Rattle.tile_core.proofs.board.Board.finish.Goals as goal

@@ -1,6 +1,4 @@
-use Rattle.std.proofs.Common.{ap, rules, subst, ◌≡◌, ◌∙◌, ◌<◌}
-use Rattle.std.specs.Vec.{with_item}
-use Rattle.std.specs.Prelude.{Ok}
+use Rattle.scop_syntax.proofs.Common.{ap, rules, subst, ◌≡◌, ◌∙◌, ◌<◌, with_item, Ok}
 use Rattle.tile_core.specs.Boards.{seen_of}
 use Rattle.tile_core.specs.Plans.{place_of, walk_shape}
 use Rattle.tile_core.specs.declared.worker.Stage.TheVariants.{Working}

@@ -1,4 +1,4 @@
-use Rattle.std.proofs.Common.{ap, rules, ◌≡◌, ◌<◌, ◌∙◌, ◌++◌, ◌∷◌, []}
+use Rattle.scop_syntax.proofs.Common.{ap, rules, ◌≡◌, ◌<◌, ◌∙◌, ◌++◌, ◌∷◌, []}
 use Rattle.tile_core.specs.Plans.{place_of, walk_shape}
 use Rattle.tile_core.specs.declared.worker.Stage.TheVariants.{Working}
 use Rattle.tile_core.specs.declared.worker.Worker.{Worker}

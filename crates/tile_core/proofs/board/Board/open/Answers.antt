@@ -1,4 +1,4 @@
-use Rattle.std.proofs.Common.{rules}
+use Rattle.scop_syntax.proofs.Common.{rules}
 use Rattle.tile_core.proofs.Boards.{at_board, holding_tile, opens, refuses_open, stays_shut, worker_there, workers_kept}
 use Rattle.tile_core.proofs.board.Board.open.Goals as goal
 

@@ -1,5 +1,4 @@
-use Rattle.std.proofs.Common.{ap, rules, ◌∙◌, ◌+◌, ◌%◌, ◌^◌, []}
-use Rattle.std.specs.Vec.{with_item}
+use Rattle.scop_syntax.proofs.Common.{ap, rules, ◌∙◌, ◌+◌, ◌%◌, ◌^◌, [], with_item}
 use Rattle.tile_core.specs.declared.worker.Worker.{Worker}
 use Rattle.tile_core.proofs.Boards.{at_board, one_at, refuses_release, releases, worker_there, workers_kept}
 use Rattle.tile_core.proofs.board.Board.release.Goals as goal

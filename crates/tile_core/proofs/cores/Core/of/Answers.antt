@@ -1,4 +1,4 @@
-use Rattle.std.proofs.Common.{rules, ◌+◌, ◌<◌, map}
+use Rattle.scop_syntax.proofs.Common.{rules, ◌+◌, ◌<◌, map}
 use Rattle.tile_core.specs.Plans.{shape_of}
 use Rattle.tile_core.specs.Workers.{worker_of}
 use Rattle.tile_core.proofs.Gates.{tiles_are}

@@ -1,4 +1,4 @@
-use Rattle.std.proofs.Common.{get_or, ap, sym, subst, ◌∙◌}
+use Rattle.scop_syntax.proofs.Common.{get_or, ap, sym, subst, ◌∙◌}
 use Rattle.tile_events.specs.Core.{step as stepped}
 use Rattle.tile_core.specs.declared.plan.Plan.{Plan}
 use Rattle.tile_core.specs.declared.cores.Turn.{Turn}

@@ -1,4 +1,4 @@
-use Rattle.std.proofs.Common.{◌≡◌, ℕ, List, length, map, drop}
+use Rattle.scop_syntax.proofs.Common.{◌≡◌, ℕ, List, length, map, drop}
 use Rattle.tile_events.specs.Core.{replay as replayed}
 use Rattle.tile_core.specs.Boards.{IsRun}
 use Rattle.tile_core.specs.Plans.{plan_of, shape_of}

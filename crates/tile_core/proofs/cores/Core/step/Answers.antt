@@ -1,4 +1,4 @@
-use Rattle.std.proofs.Common.{length, ap, sym, ◌∙◌}
+use Rattle.scop_syntax.proofs.Common.{length, ap, sym, ◌∙◌}
 use Rattle.tile_events.specs.Core.{State, Seen}
 use Rattle.tile_core.specs.Boards.{seen_of, event_of, state_of}
 use Rattle.tile_core.specs.Plans.{plan_of, shape_of}

@@ -1,8 +1,5 @@
-use Rattle.std.proofs.Common.{◌≡◌, ◌<◌, ℕ, List, Some, arith, length, rules, subst}
-use Rattle.std.specs.Prelude.{slice_get}
-use Rattle.std.proofs.lemmas.List.{length-map}
-use Rattle.scop_syntax.specs.View.{program_of}
-use Rattle.scop_syntax.specs.Walk.{instance, walk_of}
+use Rattle.scop_syntax.proofs.Common.{◌≡◌, ◌<◌, ℕ, List, Some, arith, length, rules, subst, slice_get, length-map}
+use Rattle.scop_syntax.proofs.Common.{program_of, instance, walk_of}
 use Rattle.tile_list.specs.declared.list.Tile.{Tile}
 use Rattle.tile_core.specs.Ranks.{sizes_of, start_at}
 use Rattle.tile_core.proofs.expansion.Expansion.of.Goals as goal

@@ -1,4 +1,4 @@
-use Rattle.std.proofs.Common.{rules, ◌≡◌, ◌∙◌, ◌+◌, ◌<◌, ap, arith, get_or, length}
+use Rattle.scop_syntax.proofs.Common.{rules, ◌≡◌, ◌∙◌, ◌+◌, ◌<◌, ap, arith, get_or, length}
 use Rattle.tile_core.proofs.Successors.{any_default}
 use Rattle.tile_core.proofs.expansion.Expansion.place.Goals as goal
 use Rattle.tile_core.proofs.expansion.Expansion.place.Goals.{After-index}

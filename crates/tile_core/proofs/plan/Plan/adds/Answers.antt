@@ -1,4 +1,4 @@
-use Rattle.std.proofs.Common.{◌∙◌}
+use Rattle.scop_syntax.proofs.Common.{◌∙◌}
 use Rattle.tile_core.specs.Plans.{place_of}
 use Rattle.tile_core.proofs.CopiedCells.{adds_alike}
 use Rattle.tile_core.proofs.plan.Plan.adds.Goals as goal

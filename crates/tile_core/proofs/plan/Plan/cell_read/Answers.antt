@@ -1,8 +1,5 @@
-use Rattle.std.proofs.Common.{◌∙◌, ◌≡◌, ◌+◌, ◌<◌, ap, get_or, subst, suc, sym, arith, rules, ℤ, [], List}
-use Rattle.std.specs.Prelude.{is_some, slice_get}
-use Rattle.whole_numbers.specs.Affine.{value_of}
-use Rattle.scop_syntax.specs.Values.{wrapped}
-use Rattle.scop_syntax.specs.View.{instance_of}
+use Rattle.scop_syntax.proofs.Common.{◌∙◌, ◌≡◌, ◌+◌, ◌<◌, ap, get_or, subst, suc, sym, arith, rules, ℤ, [], List}
+use Rattle.scop_syntax.proofs.Common.{is_some, slice_get, value_of, wrapped, instance_of}
 use Rattle.tile_events.specs.Plan as events
 use Rattle.tile_core.specs.Plans.{place_of, plain_shape, walk_shape}
 use Rattle.tile_core.proofs.CopiedCells.{as_many_reads, copy_there, few_cells, place_told, rank_inside, read_inside}

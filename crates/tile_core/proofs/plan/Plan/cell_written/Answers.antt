@@ -1,8 +1,5 @@
-use Rattle.std.proofs.Common.{◌∙◌, ◌≡◌, ◌+◌, ◌<◌, ap, subst, sym, arith, rules, ℤ, [], List}
-use Rattle.std.specs.Prelude.{is_some}
-use Rattle.whole_numbers.specs.Affine.{value_of}
-use Rattle.scop_syntax.specs.Values.{wrapped}
-use Rattle.scop_syntax.specs.View.{instance_of}
+use Rattle.scop_syntax.proofs.Common.{◌∙◌, ◌≡◌, ◌+◌, ◌<◌, ap, subst, sym, arith, rules, ℤ, [], List, is_some, value_of}
+use Rattle.scop_syntax.proofs.Common.{wrapped, instance_of}
 use Rattle.tile_events.specs.Plan as events
 use Rattle.tile_core.specs.Plans.{place_of, walk_shape}
 use Rattle.tile_core.proofs.CopiedCells.{copy_fits, place_told, rank_inside, tile_within, written_there}

@@ -1,5 +1,4 @@
-use Rattle.std.proofs.Common.{◌≡◌, ◌∙◌, ◌<◌, Some, [], List, ℕ, length, subst, sym}
-use Rattle.std.specs.Prelude.{slice_get}
+use Rattle.scop_syntax.proofs.Common.{◌≡◌, ◌∙◌, ◌<◌, Some, [], List, ℕ, length, subst, sym, slice_get}
 use Rattle.tile_core.proofs.Successors.{needs_alone}
 use Rattle.tile_core.proofs.Tiles.{offset_is, offset_there}
 use Rattle.tile_core.proofs.plan.Plan.needs.Goals as goal

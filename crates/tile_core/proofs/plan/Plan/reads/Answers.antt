@@ -1,4 +1,4 @@
-use Rattle.std.proofs.Common.{◌∙◌}
+use Rattle.scop_syntax.proofs.Common.{◌∙◌}
 use Rattle.tile_core.specs.Plans.{place_of}
 use Rattle.tile_core.proofs.CopiedCells.{as_many_reads}
 use Rattle.tile_core.proofs.plan.Plan.reads.Goals as goal

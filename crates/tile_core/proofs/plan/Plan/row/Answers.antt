@@ -1,4 +1,4 @@
-use Rattle.scop_syntax.specs.View.{instance_of}
+use Rattle.scop_syntax.proofs.Common.{instance_of}
 use Rattle.tile_core.proofs.plan.Plan.row.Goals as goal
 
 pub row-requires : goal.row-requires

@@ -1,4 +1,4 @@
-use Rattle.std.proofs.Common.{rules, ◌+◌, ◌<◌}
+use Rattle.scop_syntax.proofs.Common.{rules, ◌+◌, ◌<◌}
 use Rattle.tile_core.proofs.Successors.{sum_fits}
 use Rattle.tile_core.proofs.plan.Plan.size.Goals as goal
 

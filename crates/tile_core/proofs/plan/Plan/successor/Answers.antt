@@ -1,4 +1,4 @@
-use Rattle.std.proofs.Common.{rules, ◌≡◌, ◌∙◌, ◌+◌, ◌<◌, ap, arith, get_or, length, subst, sym}
+use Rattle.scop_syntax.proofs.Common.{rules, ◌≡◌, ◌∙◌, ◌+◌, ◌<◌, ap, arith, get_or, length, subst, sym}
 use Rattle.tile_core.specs.Plans.{shape_of, walk_shape}
 use Rattle.tile_core.proofs.Successors.{any_default, counter_with, start_within, target_is, target_within}
 use Rattle.tile_core.proofs.plan.Plan.successor.Goals as goal

@@ -1,6 +1,4 @@
-use Rattle.std.proofs.Common.{◌∙◌, ◌≡◌, length, sym}
-use Rattle.scop_syntax.specs.View.{instance_of}
-use Rattle.scop_syntax.proofs.Members.{there_is}
+use Rattle.scop_syntax.proofs.Common.{◌∙◌, ◌≡◌, length, sym, instance_of, there_is}
 use Rattle.tile_core.specs.Plans.{place_of, plain_shape}
 use Rattle.tile_core.proofs.CopiedCells.{as_many_reads}
 use Rattle.tile_core.proofs.plan.Plan.value.Goals as goal

@@ -1,6 +1,4 @@
-use Rattle.std.proofs.Common.{rules, ◌≡◌, refl, subst, sym}
-use Rattle.std.specs.Option.{option_copied}
-use Rattle.std.specs.Prelude.{MatchOption}
+use Rattle.scop_syntax.proofs.Common.{rules, ◌≡◌, refl, subst, sym, option_copied, MatchOption}
 use Rattle.tile_events.specs.Sound.{Holds}
 use Rattle.tile_core.specs.Passes.{HasNoneNext, IsNextIn}
 use Rattle.tile_core.specs.Workers.{staged}

@@ -1,7 +1,6 @@
-use Rattle.std.proofs.Common.{refl, rules, subst, sym, ◌<◌}
+use Rattle.scop_syntax.proofs.Common.{refl, rules, subst, sym, ◌<◌, MatchOption}
 use Rattle.tile_events.specs.Sound.{Holds}
 use Rattle.tile_core.specs.Plans.{walk_shape}
-use Rattle.std.specs.Prelude.{MatchOption}
 use Rattle.tile_core.specs.Workers.{HasNoneDue, IsDue, staged}
 use Rattle.tile_core.proofs.Workers.{due_is, lent}
 use Rattle.tile_core.proofs.worker.Worker.due.Goals as goal

@@ -1,4 +1,4 @@
-use Rattle.std.proofs.Common.{refl}
+use Rattle.scop_syntax.proofs.Common.{refl}
 use Rattle.tile_core.proofs.Workers.{idle_is}
 use Rattle.tile_core.proofs.worker.Worker.idle.Goals as goal
 

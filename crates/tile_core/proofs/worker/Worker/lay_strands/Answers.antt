@@ -1,6 +1,4 @@
-use Rattle.std.proofs.Common.{rules, ◌<◌, ap, get_or, length}
-use Rattle.std.specs.Vec.{with_item}
-use Rattle.std.proofs.lemmas.Option.{slice_get-get_or}
+use Rattle.scop_syntax.proofs.Common.{rules, ◌<◌, ap, get_or, length, with_item, slice_get-get_or}
 use Rattle.tile_core.specs.declared.worker.Worker.{Worker}
 use Rattle.tile_core.proofs.Strands.{desks_put, laid_more, worker_with}
 use Rattle.tile_core.proofs.worker.Worker.lay_strands.Goals as goal

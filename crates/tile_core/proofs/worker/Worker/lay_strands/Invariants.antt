@@ -1,4 +1,4 @@
-use Rattle.std.proofs.Common.{◌≡◌}
+use Rattle.scop_syntax.proofs.Common.{◌≡◌}
 use Rattle.tile_core.specs.Strands.{AreLaid}
 use Rattle.tile_core.specs.Workers.{IsWorker}
 use Rattle.tile_core.proofs.worker.Worker.lay_strands.Given as goal

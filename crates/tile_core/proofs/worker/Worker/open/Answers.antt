@@ -1,4 +1,4 @@
-use Rattle.std.proofs.Common.{refl}
+use Rattle.scop_syntax.proofs.Common.{refl}
 use Rattle.tile_core.proofs.Workers.{at_work, first_is}
 use Rattle.tile_core.proofs.worker.Worker.open.Goals as goal
 

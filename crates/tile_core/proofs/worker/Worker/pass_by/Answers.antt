@@ -1,4 +1,4 @@
-use Rattle.std.proofs.Common.{arith, rules, refl, subst, sym, ◌+◌, ◌<◌}
+use Rattle.scop_syntax.proofs.Common.{arith, rules, refl, subst, sym, ◌+◌, ◌<◌}
 use Rattle.loop_tree.specs.SpotView.{to_come}
 use Rattle.loop_tree.specs.View.{trees_in}
 use Rattle.tile_events.specs.Sound.{Holds}

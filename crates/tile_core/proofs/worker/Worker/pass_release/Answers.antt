@@ -1,4 +1,4 @@
-use Rattle.std.proofs.Common.{rules, ◌+◌, ◌<◌, arith, refl, subst, sym}
+use Rattle.scop_syntax.proofs.Common.{rules, ◌+◌, ◌<◌, arith, refl, subst, sym}
 use Rattle.tile_events.specs.Sound.{Holds}
 use Rattle.tile_core.specs.Plans.{walk_shape}
 use Rattle.tile_core.specs.Workers.{staged}

@@ -1,5 +1,4 @@
-use Rattle.std.proofs.Common.{arith, rules, ◌≡◌, ◌∙◌, ◌+◌, ◌*◌, ◌<◌, ap, drop, refl, subst, suc, sym}
-use Rattle.std.proofs.lemmas.List.{drop-drop}
+use Rattle.scop_syntax.proofs.Common.{arith, rules, ◌≡◌, ◌∙◌, ◌+◌, ◌*◌, ◌<◌, ap, drop, refl, subst, suc, sym, drop-drop}
 use Rattle.loop_tree.specs.SpotView.{to_come}
 use Rattle.loop_tree.specs.View.{trees_in}
 use Rattle.tile_events.specs.Sound.{Holds}

@@ -1,4 +1,4 @@
-use Rattle.std.proofs.Common.{refl, subst, sym}
+use Rattle.scop_syntax.proofs.Common.{refl, subst, sym}
 use Rattle.tile_events.specs.Sound.{Holds}
 use Rattle.tile_core.specs.Workers.{staged}
 use Rattle.tile_core.proofs.worker.Worker.releases.Goals as goal

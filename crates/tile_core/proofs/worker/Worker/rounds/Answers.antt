@@ -1,4 +1,4 @@
-use Rattle.std.proofs.Common.{arith, rules, ◌+◌, ◌<◌, refl, subst, sym}
+use Rattle.scop_syntax.proofs.Common.{arith, rules, ◌+◌, ◌<◌, refl, subst, sym}
 use Rattle.tile_events.specs.Sound.{Holds}
 use Rattle.tile_core.specs.Plans.{deal_of, walk_shape}
 use Rattle.tile_core.specs.Stretches.{HasRounds, IsWoven}

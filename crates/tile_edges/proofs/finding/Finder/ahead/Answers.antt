@@ -1,5 +1,4 @@
-use Rattle.std.proofs.Common.{arith, subst, sym}
-use Rattle.std.proofs.lemmas.Option.{slice_get_within}
+use Rattle.scop_syntax.proofs.Common.{arith, subst, sym, slice_get_within}
 use Rattle.loop_tree.specs.TilingView.{tiling_of}
 use Rattle.tile_list.specs.Tiles.{RowsFit}
 use Rattle.tile_list.specs.steps.Stretching.{instance_at}

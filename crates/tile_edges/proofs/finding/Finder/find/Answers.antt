@@ -1,6 +1,4 @@
-use Rattle.std.proofs.Common.{◌≡◌, ℕ, arith, rules, subst}
-use Rattle.std.proofs.lemmas.Option.{slice_get_within}
-use Rattle.scop_syntax.specs.View.{instance_of}
+use Rattle.scop_syntax.proofs.Common.{◌≡◌, ℕ, arith, rules, subst, slice_get_within, instance_of}
 use Rattle.loop_tree.specs.TilingView.{tiling_of}
 use Rattle.tile_edges.specs.steps.Finding.{Stands}
 use Rattle.tile_edges.proofs.FindingTiles.{at_within, found_same, found_tile}

@@ -1,4 +1,4 @@
-use Rattle.std.proofs.Common.{arith, refl}
+use Rattle.scop_syntax.proofs.Common.{arith, refl}
 use Rattle.tile_edges.specs.steps.Rows.{rows_in}
 use Rattle.tile_edges.proofs.PutPairs.{seen_gains, seen_total, told_after, told_before, told_gains}
 use Rattle.tile_edges.proofs.pairing.Pairs.add.Goals as goal

@@ -1,6 +1,4 @@
-use Rattle.std.proofs.Common.{subst, arith, refl, get_or}
-use Rattle.std.proofs.lemmas.List.{length-map, take_all}
-use Rattle.scop_syntax.proofs.Members.{in_at}
+use Rattle.scop_syntax.proofs.Common.{subst, arith, refl, get_or, length-map, take_all, in_at}
 use Rattle.tile_edges.specs.steps.Gains.{Gains}
 use Rattle.tile_edges.specs.steps.Rows.{rows_in}
 use Rattle.tile_edges.proofs.Taken.{number_at}

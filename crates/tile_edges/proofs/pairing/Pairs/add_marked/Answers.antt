@@ -1,5 +1,4 @@
-use Rattle.std.proofs.Common.{◌-◌, inl, refl, subst}
-use Rattle.scop_syntax.specs.Members.{In}
+use Rattle.scop_syntax.proofs.Common.{◌-◌, inl, refl, subst, In}
 use Rattle.tile_edges.specs.steps.Gains.{Gains}
 use Rattle.tile_edges.specs.steps.Rows.{rows_in}
 use Rattle.tile_edges.proofs.PutPairs.{marked_is}

@@ -1,5 +1,4 @@
-use Rattle.std.proofs.Common.{arith, ap, inl, length, sym}
-use Rattle.std.proofs.lemmas.List.{length_push}
+use Rattle.scop_syntax.proofs.Common.{arith, ap, inl, length, sym, length_push}
 use Rattle.tile_edges.proofs.PutPairs.{indices_more, none_more}
 use Rattle.tile_edges.proofs.pairing.Pairs.none.Goals as goal
 

@@ -1,4 +1,4 @@
-use Rattle.std.proofs.Common.{◌≡◌, [], ℕ, get_or, length, map}
+use Rattle.scop_syntax.proofs.Common.{◌≡◌, [], ℕ, get_or, length, map}
 use Rattle.tile_edges.specs.steps.Rows.{joined}
 use Rattle.tile_edges.proofs.pairing.Pairs.none.Given as goal
 

@@ -1,7 +1,4 @@
-use Rattle.std.proofs.Common.{◌∙◌, arith, inl, inr, subst, sym}
-use Rattle.std.proofs.lemmas.Grind.{get_or_default_zero}
-use Rattle.std.proofs.lemmas.List.{length-map}
-use Rattle.scop_syntax.specs.Members.{In}
+use Rattle.scop_syntax.proofs.Common.{◌∙◌, arith, inl, inr, subst, sym, get_or_default_zero, length-map, In}
 use Rattle.tile_edges.specs.steps.Gains.{Gains}
 use Rattle.tile_edges.specs.steps.Rows.{rows_in}
 use Rattle.tile_edges.specs.steps.Touches.{marks_in, readers_in}

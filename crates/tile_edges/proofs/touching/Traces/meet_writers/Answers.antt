@@ -1,8 +1,5 @@
-use Rattle.std.proofs.Common.{◌∙◌, arith, get_or, refl, subst, take}
-use Rattle.std.proofs.lemmas.Grind.{get_or_default_zero}
-use Rattle.std.proofs.lemmas.List.{length-map, take_all}
-use Rattle.scop_syntax.specs.Members.{In}
-use Rattle.scop_syntax.proofs.Members.{in_at}
+use Rattle.scop_syntax.proofs.Common.{◌∙◌, arith, get_or, refl, subst, take, get_or_default_zero, length-map, take_all}
+use Rattle.scop_syntax.proofs.Common.{In, in_at}
 use Rattle.tile_edges.specs.steps.Gains.{Gains}
 use Rattle.tile_edges.specs.steps.Rows.{rows_in}
 use Rattle.tile_edges.specs.steps.Touches.{marks_in}

@@ -1,4 +1,4 @@
-use Rattle.std.proofs.Common.{◌≡◌, length, take}
+use Rattle.scop_syntax.proofs.Common.{◌≡◌, length, take}
 use Rattle.tile_edges.specs.steps.Gains.{Gains}
 use Rattle.tile_edges.specs.steps.Rows.{AreKept, rows_in}
 use Rattle.tile_edges.specs.steps.Touches.{marks_in}

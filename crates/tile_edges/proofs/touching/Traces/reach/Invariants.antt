@@ -1,4 +1,4 @@
-use Rattle.std.proofs.Common.{◌-◌, suc, length}
+use Rattle.scop_syntax.proofs.Common.{◌-◌, suc, length}
 use Rattle.tile_edges.specs.steps.Touches.{AreEven, KeepSame}
 use Rattle.tile_edges.proofs.touching.Traces.reach.Given as goal
 

@@ -1,6 +1,4 @@
-use Rattle.std.proofs.Common.{subst, sym, arith, get_or}
-use Rattle.std.proofs.lemmas.List.{take_all}
-use Rattle.scop_syntax.specs.Members.{In}
+use Rattle.scop_syntax.proofs.Common.{subst, sym, arith, get_or, take_all, In}
 use Rattle.tile_edges.proofs.Taken.{number_at}
 use Rattle.tile_edges.proofs.Visits.{keep_both, room_more}
 use Rattle.tile_edges.proofs.touching.Traces.reach_all.Goals as goal

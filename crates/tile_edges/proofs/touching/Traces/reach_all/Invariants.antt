@@ -1,4 +1,4 @@
-use Rattle.std.proofs.Common.{take}
+use Rattle.scop_syntax.proofs.Common.{take}
 use Rattle.tile_edges.specs.steps.Touches.{AreEven, HasRoom, KeepSame}
 use Rattle.tile_edges.proofs.touching.Traces.reach_all.Given as goal
 

@@ -1,6 +1,4 @@
-use Rattle.std.proofs.Common.{arith, refl, ◌∙◌, get_or}
-use Rattle.std.proofs.lemmas.List.{length-set}
-use Rattle.scop_syntax.proofs.Members.{in_at}
+use Rattle.scop_syntax.proofs.Common.{arith, refl, ◌∙◌, get_or, length-set, in_at}
 use Rattle.tile_edges.specs.steps.Touches.{readers_in}
 use Rattle.tile_edges.proofs.Taken.{number_at}
 use Rattle.tile_edges.proofs.Visits.{entered_all, entered_more, none_entered}

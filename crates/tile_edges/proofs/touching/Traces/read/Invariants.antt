@@ -1,4 +1,4 @@
-use Rattle.std.proofs.Common.{◌≡◌, length, take}
+use Rattle.scop_syntax.proofs.Common.{◌≡◌, length, take}
 use Rattle.tile_edges.specs.steps.Touches.{HasEntered, readers_in}
 use Rattle.tile_edges.proofs.touching.Traces.read.Given as goal
 

@@ -1,6 +1,4 @@
-use Rattle.std.proofs.Common.{◌∙◌, ap, arith, length, suc}
-use Rattle.std.specs.Prelude.{slice_set}
-use Rattle.std.proofs.lemmas.List.{length-map}
+use Rattle.scop_syntax.proofs.Common.{◌∙◌, ap, arith, length, suc, slice_set, length-map}
 use Rattle.tile_edges.specs.steps.Touches.{marks_in, readers_in}
 use Rattle.tile_edges.proofs.Visits.{visited}
 use Rattle.tile_edges.proofs.touching.Traces.visit.Goals as goal

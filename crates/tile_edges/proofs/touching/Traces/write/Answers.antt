@@ -1,4 +1,4 @@
-use Rattle.std.proofs.Common.{[]}
+use Rattle.scop_syntax.proofs.Common.{[]}
 use Rattle.tile_edges.proofs.Taken.{seen_set}
 use Rattle.tile_edges.proofs.touching.Traces.write.Goals as goal
 

@@ -1,5 +1,4 @@
-use Rattle.std.proofs.Common.{◌≡◌, ◌∙◌, ap, rules, subst, sym}
-use Rattle.scop_syntax.specs.View.{instance_of}
+use Rattle.scop_syntax.proofs.Common.{◌≡◌, ◌∙◌, ap, rules, subst, sym, instance_of}
 use Rattle.loop_tree.specs.TilingView.{tiling_of}
 use Rattle.tile_edges.specs.steps.Walks.{CanTake, cells_at}
 use Rattle.tile_edges.proofs.PassedPlaces.{is_taken}

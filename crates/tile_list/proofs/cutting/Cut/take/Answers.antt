@@ -1,6 +1,4 @@
-use Rattle.std.proofs.Common.{refl}
-use Rattle.std.proofs.lemmas.Result.{on_ok_weaker}
-use Rattle.scop_syntax.specs.View.{instance_of}
+use Rattle.scop_syntax.proofs.Common.{refl, on_ok_weaker, instance_of}
 use Rattle.loop_tree.specs.TilingView.{tiling_of}
 use Rattle.tile_list.proofs.TakenInstances.{takes_next, takes_same}
 use Rattle.tile_list.proofs.cutting.Cut.take.Goals as goal

@@ -1,5 +1,4 @@
-use Rattle.std.proofs.Common.{rules, ◌≡◌, ◌∙◌, arith, length, get_or, refl, set}
-use Rattle.std.proofs.lemmas.List.{length-take}
+use Rattle.scop_syntax.proofs.Common.{rules, ◌≡◌, ◌∙◌, arith, length, get_or, refl, set, length-take}
 use Rattle.loop_tree.specs.TilingView.{tiling_of}
 use Rattle.loop_tree.specs.declared.braid.Braid.{Braid}
 use Rattle.loop_tree.specs.declared.stretch.Stretch.{Stretch}

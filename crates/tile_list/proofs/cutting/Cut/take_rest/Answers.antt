@@ -1,4 +1,4 @@
-use Rattle.scop_syntax.proofs.Members.{in_back, in_front}
+use Rattle.scop_syntax.proofs.Common.{in_back, in_front}
 use Rattle.loop_tree.specs.Braids.{left_of_braid}
 use Rattle.loop_tree.specs.Stretches.{left_of}
 use Rattle.tile_list.proofs.cutting.Cut.take_rest.Goals as goal

@@ -1,4 +1,4 @@
-use Rattle.std.proofs.Common.{subst}
+use Rattle.scop_syntax.proofs.Common.{subst}
 use Rattle.loop_tree.specs.TilingView.{tiling_of}
 use Rattle.tile_list.specs.steps.Keys.{IsKeyOf}
 use Rattle.tile_list.proofs.TakenInstances.{passes_stretch}

@@ -1,8 +1,4 @@
-use Rattle.std.proofs.Common.{◌∙◌, ◌++◌, List, subst, sym, ap₂}
-use Rattle.std.specs.Prelude.{IfSome}
-use Rattle.std.proofs.lemmas.Option.{IfSome_then}
-use Rattle.scop_syntax.specs.View.{instance_of}
-use Rattle.scop_syntax.specs.Walk.{Instance}
+use Rattle.scop_syntax.proofs.Common.{◌∙◌, ◌++◌, List, subst, sym, ap₂, IfSome, IfSome_then, instance_of, Instance}
 use Rattle.loop_tree.specs.Braids.{left_of_braid}
 use Rattle.loop_tree.specs.Passed.{HasLeft}
 use Rattle.loop_tree.specs.SpotView.{to_come}

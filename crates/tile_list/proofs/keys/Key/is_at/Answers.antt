@@ -1,7 +1,4 @@
-use Rattle.std.proofs.Common.{rules, ◌≡◌, ◌∙◌, ap, sym, pos, to_z, of_z}
-use Rattle.std.specs.Prelude.{FitsSigned}
-use Rattle.std.specs.Int.{w128}
-use Rattle.std.proofs.lemmas.Int.{to_z-of_z}
+use Rattle.scop_syntax.proofs.Common.{rules, ◌≡◌, ◌∙◌, ap, sym, pos, to_z, of_z, FitsSigned, w128, to_z-of_z}
 use Rattle.tile_list.specs.steps.Keys.{carried}
 use Rattle.tile_list.proofs.TellingKeys.{carried_is}
 use Rattle.tile_list.proofs.keys.Key.is_at.Goals as goal

@@ -1,4 +1,4 @@
-use Rattle.whole_numbers.proofs.Entries.{all_next, all_taken}
+use Rattle.scop_syntax.proofs.Common.{all_next, all_taken}
 use Rattle.loop_tree.specs.TilingView.{tiling_of}
 use Rattle.tile_list.specs.steps.Stretching.{AllHaveKey}
 use Rattle.tile_list.proofs.keys.Key.is_of_strands.Goals as goal

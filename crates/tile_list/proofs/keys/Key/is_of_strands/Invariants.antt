@@ -1,4 +1,4 @@
-use Rattle.std.proofs.Common.{All, take}
+use Rattle.scop_syntax.proofs.Common.{All, take}
 use Rattle.loop_tree.specs.TilingView.{tiling_of}
 use Rattle.tile_list.specs.steps.Stretching.{AllHaveKey}
 use Rattle.tile_list.proofs.keys.Key.is_of_strands.Given as goal

@@ -1,4 +1,4 @@
-use Rattle.std.proofs.Common.{subst, sym}
+use Rattle.scop_syntax.proofs.Common.{subst, sym}
 use Rattle.loop_tree.specs.TilingView.{tiling_of}
 use Rattle.tile_list.specs.Tiles.{RowsFit}
 use Rattle.tile_list.specs.steps.Keys.{IsKeyOf}

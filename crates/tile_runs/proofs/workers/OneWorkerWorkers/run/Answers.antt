@@ -1,4 +1,4 @@
-use Rattle.std.proofs.Common.{List, subst, sym, ℕ}
+use Rattle.scop_syntax.proofs.Common.{List, subst, sym, ℕ}
 use Rattle.tile_runs.specs.Running.{AreExecuted}
 use Rattle.tile_runs.proofs.FinalCells.{alone_executed}
 use Rattle.tile_runs.proofs.workers.OneWorkerWorkers.run.Goals as goal

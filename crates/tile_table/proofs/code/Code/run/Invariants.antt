@@ -1,4 +1,4 @@
-use Rattle.std.proofs.Common.{◌≡◌, ◌+◌, drop, length, map, take}
+use Rattle.scop_syntax.proofs.Common.{◌≡◌, ◌+◌, drop, length, map, take}
 use Rattle.tile_table.specs.Codes.{AreSteps, worked}
 use Rattle.tile_table.proofs.code.Code.run.Given as goal
 

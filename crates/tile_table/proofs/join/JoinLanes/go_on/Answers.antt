@@ -1,5 +1,4 @@
-use Rattle.std.proofs.Common.{[], ◌∷◌}
-use Rattle.whole_numbers.specs.Lists.{sums}
+use Rattle.scop_syntax.proofs.Common.{[], ◌∷◌, sums}
 use Rattle.tile_table.proofs.Joins.{lanes_on}
 use Rattle.tile_table.proofs.join.JoinLanes.go_on.Goals as goal
 

@@ -1,10 +1,7 @@
-use Rattle.std.proofs.Common.{◌≡◌, ◌∙◌, ap, rules}
-use Rattle.std.specs.Prelude.{ℤ, ◌-ℤ◌, FitsSigned}
-use Rattle.std.specs.Int.{cast_unsigned, int_wrap, w64}
+use Rattle.scop_syntax.proofs.Common.{◌≡◌, ◌∙◌, ap, rules, ℤ, ◌-ℤ◌, FitsSigned, cast_unsigned, w64, Affine, value_of}
+use Rattle.scop_syntax.proofs.Common.{dot, wrapped_is}
+use Rattle.std.specs.Int.{int_wrap}
 use Rattle.std.proofs.lemmas.Int.{wrapping_sub_is}
-use Rattle.whole_numbers.specs.Affine.{Affine, value_of}
-use Rattle.whole_numbers.specs.Lists.{dot}
-use Rattle.scop_syntax.proofs.WrappedSums.{wrapped_is}
 use Rattle.tile_table.proofs.Lanes.{is_lane, slope_wrapped}
 use Rattle.tile_table.proofs.lane.Lane.of.Goals as goal
 

@@ -1,5 +1,4 @@
-use Rattle.std.proofs.Common.{rules, ◌∙◌, List, [], ◌∷◌, arith, subst, sym}
-use Rattle.whole_numbers.specs.Affine.{Affine}
+use Rattle.scop_syntax.proofs.Common.{rules, ◌∙◌, List, [], ◌∷◌, arith, subst, sym, Affine}
 use Rattle.tile_table.specs.Lanes.{AreLanes}
 use Rattle.tile_table.proofs.Joins.{four_of, lane_first, no_lanes}
 use Rattle.tile_table.proofs.table.Row.lay_join.Goals as goal

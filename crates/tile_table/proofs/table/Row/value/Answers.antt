@@ -1,4 +1,4 @@
-use Rattle.std.proofs.Common.{◌≡◌, length, rules, ◌∙◌, ap, ap₂, ℕ, List, take, map}
+use Rattle.scop_syntax.proofs.Common.{◌≡◌, length, rules, ◌∙◌, ap, ap₂, ℕ, List, take, map}
 use Rattle.tile_table.specs.Codes.{result_by}
 use Rattle.tile_table.specs.declared.lane.Lane.{Lane}
 use Rattle.tile_table.proofs.Lanes.{stands_at}

@@ -1,13 +1,7 @@
-use Rattle.std.proofs.Common.{◌≡◌, ◌∙◌, ap, refl, subst, sym, ℕ, List, [], ◌∷◌, ◌++◌, length, map, Some, arith}
-use Rattle.std.specs.Prelude.{slice_get}
-use Rattle.std.specs.Option.{option_map}
-use Rattle.std.proofs.lemmas.List.{length-map, length_push}
-use Rattle.std.proofs.lemmas.Option.{slice_get-map, slice_get_read}
+use Rattle.scop_syntax.proofs.Common.{◌≡◌, ◌∙◌, ap, refl, subst, sym, ℕ, List, [], ◌∷◌, ◌++◌, length, map, Some, arith}
+use Rattle.scop_syntax.proofs.Common.{slice_get, option_map, length-map, length_push, slice_get-map, slice_get_read}
+use Rattle.scop_syntax.proofs.Common.{layout, program_of, Standing, standings_of, standing_of}
 use Rattle.scop_meaning.specs.Instances.{AreLayout}
-use Rattle.scop_syntax.specs.Execution.{layout}
-use Rattle.scop_syntax.specs.View.{program_of}
-use Rattle.scop_syntax.specs.Standings.{Standing, standings_of}
-use Rattle.scop_syntax.specs.StandingView.{standing_of}
 use Rattle.tile_table.specs.Tables.{IsRow, IsRowBy}
 use Rattle.tile_table.specs.steps.Forms.{CanForm}
 use Rattle.tile_table.specs.declared.table.Row.{Row}

@@ -1,5 +1,4 @@
-use Rattle.std.proofs.Common.{◌≡◌, length, map}
-use Rattle.scop_syntax.specs.StandingView.{standing_of}
+use Rattle.scop_syntax.proofs.Common.{◌≡◌, length, map, standing_of}
 use Rattle.tile_table.specs.Tables.{IsRowBy}
 use Rattle.tile_table.proofs.Pairs.{ArePaired}
 use Rattle.tile_table.proofs.table.Table.of.Given as goal

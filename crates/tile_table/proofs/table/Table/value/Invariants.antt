@@ -1,5 +1,4 @@
-use Rattle.std.proofs.Common.{◌≡◌, [], take}
-use Rattle.scop_syntax.specs.View.{instance_of}
+use Rattle.scop_syntax.proofs.Common.{◌≡◌, [], take, instance_of}
 use Rattle.tile_table.specs.Desks.{HasSameRoom, IsLaid}
 use Rattle.tile_table.proofs.table.Table.value.Given as goal
 

@@ -1,5 +1,4 @@
-use Rattle.std.proofs.Common.{subst, sym}
-use Rattle.std.specs.Prelude.{IfOk}
+use Rattle.whole_numbers.proofs.Common.{subst, sym, IfOk}
 use Rattle.traced_projections.specs.declared.projections.Projection.{Projection}
 use Rattle.traced_projections.specs.Projections.{LastFollows, system_in}
 use Rattle.traced_projections.proofs.projections.Projection.alone.Goals as goal

@@ -1,4 +1,4 @@
-use Rattle.std.proofs.Common.{subst, sym}
+use Rattle.whole_numbers.proofs.Common.{subst, sym}
 use Rattle.fm_projection.specs.Projecting.{Follow}
 use Rattle.fm_projection.proofs.WholePoints.{follow}
 use Rattle.traced_projections.specs.declared.projections.Projection.{Projection}

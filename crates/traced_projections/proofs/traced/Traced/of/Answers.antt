@@ -1,5 +1,4 @@
-use Rattle.std.proofs.Common.{rules, ◌≡◌, ◌+◌, ◌*◌, subst, sym, All, ℕ, arith}
-use Rattle.whole_numbers.specs.Affine.{Affine}
+use Rattle.whole_numbers.proofs.Common.{rules, ◌≡◌, ◌+◌, ◌*◌, subst, sym, All, ℕ, arith, Affine}
 use Rattle.affine_forms.specs.Parts.{variables_of}
 use Rattle.traced_projections.specs.Tracing.{Row, numbered}
 use Rattle.traced_projections.proofs.Overs.{numbered_all}

@@ -1,6 +1,4 @@
-use Rattle.std.proofs.Common.{◌≡◌, ◌∙◌, ◌+◌, ap, subst, sym, All}
-use Rattle.std.proofs.lemmas.List.Elements.{All-map}
-use Rattle.whole_numbers.specs.Affine.{Affine}
+use Rattle.whole_numbers.proofs.Common.{◌≡◌, ◌∙◌, ◌+◌, ap, subst, sym, All, All-map, Affine}
 use Rattle.affine_forms.specs.Parts.{variables_of}
 use Rattle.traced_projections.specs.Tracing.{Row, forms_of}
 use Rattle.traced_projections.proofs.traced.Traced.system.Goals as goal

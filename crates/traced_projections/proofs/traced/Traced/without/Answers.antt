@@ -1,6 +1,4 @@
-use Rattle.std.proofs.Common.{rules, ◌≡◌, ◌∙◌, ◌+◌, [], subst, sym}
-use Rattle.std.specs.Prelude.{Ok, Option, IfSome}
-use Rattle.whole_numbers.specs.Affine.{Affine}
+use Rattle.whole_numbers.proofs.Common.{rules, ◌≡◌, ◌∙◌, ◌+◌, [], subst, sym, Ok, Option, IfSome, Affine}
 use Rattle.affine_forms.specs.Parts.{variables_of}
 use Rattle.fm_projection.specs.Projecting.{Follow}
 use Rattle.traced_projections.specs.Tracing.{IsTraced, Tracing, constraints_of}

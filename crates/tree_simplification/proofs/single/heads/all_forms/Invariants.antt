@@ -1,6 +1,4 @@
-use Rattle.std.proofs.Common.{◌≡◌, ◌^◌, map, take}
-use Rattle.std.specs.Prelude.{All}
-use Rattle.whole_numbers.specs.Affine.{composed}
+use Rattle.scop_syntax.proofs.Common.{◌≡◌, ◌^◌, map, take, All, composed}
 use Rattle.loop_tree.specs.Shape.{IsUpTo}
 use Rattle.tree_simplification.proofs.single.heads.all_forms.Given as goal
 

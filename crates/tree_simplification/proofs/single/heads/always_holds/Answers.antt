@@ -1,7 +1,4 @@
-use Rattle.std.proofs.Common.{true, ◌≡◌, pos, ap, ◌∙◌, rules}
-use Rattle.std.specs.Prelude.{◌≤ℤ◌, ◌*ℤ◌}
-use Rattle.std.specs.Int.Signed.{le_z}
-use Rattle.whole_numbers.specs.Floor.{floor}
+use Rattle.scop_syntax.proofs.Common.{true, ◌≡◌, pos, ap, ◌∙◌, rules, ◌≤ℤ◌, ◌*ℤ◌, le_z, floor}
 use Rattle.loop_tree.specs.View.{test_of}
 use Rattle.loop_tree.specs.Walk.{holds}
 use Rattle.loop_tree.specs.declared.tree.Test.{Test}

@@ -1,4 +1,4 @@
-use Rattle.std.proofs.Common.{rules, ◌≡◌, ℤ, pos, All}
+use Rattle.scop_syntax.proofs.Common.{rules, ◌≡◌, ℤ, pos, All}
 use Rattle.tree_simplification.proofs.Heads.{zeros_all}
 use Rattle.tree_simplification.proofs.single.heads.are_zeros.Goals as goal
 

@@ -1,5 +1,4 @@
-use Rattle.std.proofs.Common.{◌^◌, ◌≤◌, length, map, ap, ap₂, subst, sym, ◌∙◌, List}
-use Rattle.std.specs.Prelude.{All, unsigned_abs}
+use Rattle.scop_syntax.proofs.Common.{◌^◌, ◌≤◌, length, map, ap, ap₂, subst, sym, ◌∙◌, List, All, unsigned_abs}
 use Rattle.loop_tree.specs.Shape.{IsOver}
 use Rattle.loop_tree.specs.Tree.{Bound, bounds_of}
 use Rattle.tree_simplification.specs.steps.Inlined.{bound_over}

@@ -1,5 +1,4 @@
-use Rattle.std.proofs.Common.{length}
-use Rattle.std.proofs.Common.{◌^◌}
+use Rattle.scop_syntax.proofs.Common.{length, ◌^◌}
 use Rattle.loop_tree.specs.Fits.{form_in}
 use Rattle.loop_tree.specs.Shape.{IsOver, TestIsUpTo}
 use Rattle.loop_tree.specs.View.{test_of}

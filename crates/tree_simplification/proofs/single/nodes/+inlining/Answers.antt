@@ -1,9 +1,6 @@
-use Rattle.std.proofs.Common.{◌≡◌, ◌+◌, ◌<◌, ◌≤◌, true, false, List, [], ◌∷◌, ◌++◌, length, map, refl}
-use Rattle.std.proofs.Common.{ap, subst, sym, ◌∙◌, arith}
-use Rattle.std.proofs.Common.{rules, drop_of_length-le}
-use Rattle.std.specs.Prelude.{All}
-use Rattle.std.proofs.lemmas.Result.{on_ok_weaker}
-use Rattle.whole_numbers.specs.Affine.{Affine, composed}
+use Rattle.scop_syntax.proofs.Common.{◌≡◌, ◌+◌, ◌<◌, ◌≤◌, true, false, List, [], ◌∷◌, ◌++◌, length, map, refl, ap}
+use Rattle.scop_syntax.proofs.Common.{subst, sym, ◌∙◌, arith, rules, drop_of_length-le, All, on_ok_weaker, Affine}
+use Rattle.scop_syntax.proofs.Common.{composed}
 use Rattle.iteration_domains.specs.Rows.{variable, variables}
 use Rattle.iteration_domains.proofs.Surroundings.{length-variable}
 use Rattle.loop_tree.specs.declared.tree.Node.{Node}

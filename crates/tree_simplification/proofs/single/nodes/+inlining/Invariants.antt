@@ -1,4 +1,4 @@
-use Rattle.std.proofs.Common.{◌+◌, ◌≤◌}
+use Rattle.scop_syntax.proofs.Common.{◌+◌, ◌≤◌}
 use Rattle.loop_tree.specs.View.{bounds_in, nodes_of, tree_of}
 use Rattle.loop_tree.proofs.Weights.{weight, weight_all}
 use Rattle.tree_simplification.proofs.Nodes.{HaveGone}

@@ -1,5 +1,4 @@
-use Rattle.std.proofs.Common.{◌+◌, List, [], ◌++◌, ap, subst, sym, ◌∙◌, arith}
-use Rattle.whole_numbers.specs.Affine.{Affine}
+use Rattle.scop_syntax.proofs.Common.{◌+◌, List, [], ◌++◌, ap, subst, sym, ◌∙◌, arith, Affine}
 use Rattle.iteration_domains.specs.Rows.{variables}
 use Rattle.loop_tree.specs.View.{nodes_of, trees_in}
 use Rattle.loop_tree.specs.declared.tree.Node.{Node}

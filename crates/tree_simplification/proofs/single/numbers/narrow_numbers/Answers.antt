@@ -1,6 +1,5 @@
-use Rattle.std.proofs.Common.{◌≡◌, ◌^◌, ◌≤◌, ℤ, List, [], ◌∷◌, ◌++◌, pos, get_or, ap₂, subst, sym, ◌∙◌, rules}
-use Rattle.std.specs.Prelude.{unsigned_abs}
-use Rattle.std.proofs.lemmas.List.{take_more}
+use Rattle.scop_syntax.proofs.Common.{◌≡◌, ◌^◌, ◌≤◌, ℤ, List, [], ◌∷◌, ◌++◌, pos, get_or, ap₂, subst, sym, ◌∙◌, rules}
+use Rattle.scop_syntax.proofs.Common.{unsigned_abs, take_more}
 use Rattle.tree_simplification.proofs.Heads.{at_most_more}
 use Rattle.tree_simplification.proofs.single.numbers.narrow_numbers.Goals as goal
 

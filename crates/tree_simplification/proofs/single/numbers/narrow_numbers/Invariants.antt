@@ -1,5 +1,4 @@
-use Rattle.std.proofs.Common.{◌≡◌, ◌^◌, take}
-use Rattle.scop_syntax.specs.Kernel.{AreAtMost}
+use Rattle.scop_syntax.proofs.Common.{◌≡◌, ◌^◌, take, AreAtMost}
 use Rattle.tree_simplification.proofs.single.numbers.narrow_numbers.Given as goal
 
 abbrev pub invariant-loop-number : goal.invariant-loop-number

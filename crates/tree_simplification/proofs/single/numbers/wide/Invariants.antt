@@ -1,4 +1,4 @@
-use Rattle.std.proofs.Common.{◌≡◌, take}
+use Rattle.scop_syntax.proofs.Common.{◌≡◌, take}
 use Rattle.tree_simplification.proofs.single.numbers.wide.Given as goal
 
 abbrev pub invariant-loop-coefficient : goal.invariant-loop-coefficient

@@ -1,7 +1,5 @@
-use Rattle.std.proofs.Common.{subst, sym}
+use Rattle.scop_syntax.proofs.Common.{subst, sym, In, member_at}
 use Rattle.loop_tree.specs.Tree.{Bound}
-use Rattle.scop_syntax.specs.Members.{In}
-use Rattle.scop_syntax.proofs.Members.{member_at}
 use Rattle.tree_simplification.proofs.single.once.is_among.Goals as goal
 
 pub returns-then-same_part : goal.returns-then-same_part

@@ -1,7 +1,4 @@
-use Rattle.std.proofs.Common.{List, map, subst, sym, ◌∙◌}
-use Rattle.std.specs.Prelude.{All}
-use Rattle.std.proofs.lemmas.Result.{IfOk-weaker}
-use Rattle.std.proofs.lemmas.Option.{IfSome_then}
+use Rattle.scop_syntax.proofs.Common.{List, map, subst, sym, ◌∙◌, All, IfOk-weaker, IfSome_then}
 use Rattle.loop_tree.specs.Shape.{IsOver}
 use Rattle.loop_tree.specs.Tree.{Bound}
 use Rattle.loop_tree.specs.View.{bounds_in, test_of}

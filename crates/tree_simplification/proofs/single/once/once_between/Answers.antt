@@ -1,8 +1,5 @@
-use Rattle.std.proofs.Common.{◌≡◌, ◌++◌, ℕ, List, false, map, rules, subst, sym, true}
-use Rattle.std.proofs.lemmas.Option.{IfSome_then}
-use Rattle.std.specs.Prelude.{All}
+use Rattle.scop_syntax.proofs.Common.{◌≡◌, ◌++◌, ℕ, List, false, map, rules, subst, sym, true, IfSome_then, All, In}
 use Rattle.affine_forms.specs.Parts.{variables_of}
-use Rattle.scop_syntax.specs.Members.{In}
 use Rattle.loop_tree.specs.Shape.{IsOver}
 use Rattle.loop_tree.specs.View.{test_of}
 use Rattle.loop_tree.specs.declared.tree.Test.{Test}

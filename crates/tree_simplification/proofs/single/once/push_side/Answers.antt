@@ -1,4 +1,4 @@
-use Rattle.std.proofs.Common.{◌≡◌, rules, refl}
+use Rattle.scop_syntax.proofs.Common.{◌≡◌, rules, refl}
 use Rattle.affine_forms.specs.Parts.{variables_of}
 use Rattle.loop_tree.specs.Shape.{IsOver}
 use Rattle.tree_simplification.specs.steps.Rounded.{rounded_test}

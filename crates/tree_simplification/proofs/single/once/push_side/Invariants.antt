@@ -1,4 +1,4 @@
-use Rattle.std.proofs.Common.{List, ◌++◌, map, take}
+use Rattle.scop_syntax.proofs.Common.{List, ◌++◌, map, take}
 use Rattle.affine_forms.specs.Parts.{variables_of}
 use Rattle.loop_tree.specs.Tree.{Test}
 use Rattle.loop_tree.specs.View.{test_of}

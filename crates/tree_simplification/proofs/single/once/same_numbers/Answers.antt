@@ -1,5 +1,4 @@
-use Rattle.std.proofs.lemmas.Bool.Decides.{Decides-int_eq}
-use Rattle.std.proofs.lemmas.Slice.Eq.{slice_eq-Decides}
+use Rattle.scop_syntax.proofs.Common.{Decides-int_eq, slice_eq-Decides}
 use Rattle.tree_simplification.proofs.single.once.same_numbers.Goals as goal
 
 pub returns : goal.returns

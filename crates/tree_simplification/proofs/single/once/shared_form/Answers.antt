@@ -1,7 +1,5 @@
-use Rattle.std.proofs.Common.{◌≡◌, ap, subst, sym, ◌∙◌}
+use Rattle.scop_syntax.proofs.Common.{◌≡◌, ap, subst, sym, ◌∙◌, In, member_at}
 use Rattle.loop_tree.specs.Tree.{Bound}
-use Rattle.scop_syntax.specs.Members.{In}
-use Rattle.scop_syntax.proofs.Members.{member_at}
 use Rattle.tree_simplification.specs.steps.Inlined.{whole}
 use Rattle.tree_simplification.proofs.single.once.shared_form.Goals as goal
 

@@ -1,4 +1,4 @@
-use Rattle.std.proofs.Common.{List, [], map, subst, sym, true}
+use Rattle.scop_syntax.proofs.Common.{List, [], map, subst, sym, true}
 use Rattle.affine_forms.specs.Parts.{variables_of}
 use Rattle.loop_tree.specs.View.{test_of}
 use Rattle.loop_tree.specs.declared.tree.Test.{Test as CodeTest}

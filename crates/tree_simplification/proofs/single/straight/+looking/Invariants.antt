@@ -1,5 +1,4 @@
-use Rattle.std.proofs.Common.{◌+◌, ◌*◌}
-use Rattle.std.specs.Prelude.{⊤}
+use Rattle.scop_syntax.proofs.Common.{◌+◌, ◌*◌, ⊤}
 use Rattle.tree_simplification.proofs.single.straight.+looking.Given as goal
 
 abbrev pub decreases-are_straight : goal.decreases-are_straight

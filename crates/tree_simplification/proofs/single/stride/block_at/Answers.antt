@@ -1,6 +1,4 @@
-use Rattle.std.proofs.Common.{◌+◌, ◌-◌, List, length, subst, sym}
-use Rattle.std.proofs.lemmas.Result.{IfOk-weaker}
-use Rattle.whole_numbers.specs.Affine.{Affine}
+use Rattle.scop_syntax.proofs.Common.{◌+◌, ◌-◌, List, length, subst, sym, IfOk-weaker, Affine}
 use Rattle.loop_tree.specs.Shape.{BoundsAreOver}
 use Rattle.loop_tree.specs.View.{bounds_in}
 use Rattle.tree_simplification.specs.steps.Strided.{CanBound, blocks}

@@ -1,5 +1,4 @@
-use Rattle.std.proofs.Common.{◌≡◌, ◌^◌, map, take}
-use Rattle.std.specs.Prelude.{All}
+use Rattle.scop_syntax.proofs.Common.{◌≡◌, ◌^◌, map, take, All}
 use Rattle.loop_tree.specs.Shape.{IsOverUpTo}
 use Rattle.tree_simplification.specs.steps.Strided.{block}
 use Rattle.tree_simplification.proofs.single.stride.block_parts.Given as goal

@@ -1,5 +1,4 @@
-use Rattle.std.proofs.Common.{◌^◌, map, ap, ap₂, subst, sym, ◌∙◌, List}
-use Rattle.std.specs.Prelude.{All}
+use Rattle.scop_syntax.proofs.Common.{◌^◌, map, ap, ap₂, subst, sym, ◌∙◌, List, All}
 use Rattle.loop_tree.specs.Shape.{IsOverUpTo}
 use Rattle.loop_tree.specs.Tree.{Bound, bounds_of}
 use Rattle.tree_simplification.specs.steps.Strided.{block}

@@ -1,5 +1,4 @@
-use Rattle.std.proofs.Common.{◌++◌, true, false, List, map, refl, subst, sym, ◌∙◌}
-use Rattle.std.specs.Prelude.{All}
+use Rattle.scop_syntax.proofs.Common.{◌++◌, true, false, List, map, refl, subst, sym, ◌∙◌, All}
 use Rattle.affine_forms.specs.Parts.{variables_of}
 use Rattle.loop_tree.specs.Shape.{IsOver}
 use Rattle.loop_tree.specs.Tree.{Bound}

@@ -1,7 +1,4 @@
-use Rattle.std.proofs.Common.{◌+◌, ◌-◌, true, false, List, map, ap, subst, sym, ◌∙◌}
-use Rattle.std.specs.Prelude.{All}
-use Rattle.std.proofs.lemmas.Result.{IfOk-weaker}
-use Rattle.whole_numbers.specs.Affine.{Affine}
+use Rattle.scop_syntax.proofs.Common.{◌+◌, ◌-◌, true, false, List, map, ap, subst, sym, ◌∙◌, All, IfOk-weaker, Affine}
 use Rattle.affine_forms.specs.Parts.{variables_of}
 use Rattle.loop_tree.specs.Shape.{BoundsAreOver, IsOver}
 use Rattle.loop_tree.specs.View.{bounds_in, test_of}

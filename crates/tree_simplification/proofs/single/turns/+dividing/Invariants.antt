@@ -1,4 +1,4 @@
-use Rattle.std.proofs.Common.{◌+◌, ◌*◌, ◌≤◌}
+use Rattle.scop_syntax.proofs.Common.{◌+◌, ◌*◌, ◌≤◌}
 use Rattle.tree_simplification.proofs.single.turns.+dividing.Given as goal
 
 abbrev pub decreases-turns_in : goal.decreases-turns_in

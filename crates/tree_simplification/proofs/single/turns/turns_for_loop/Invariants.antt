@@ -1,4 +1,4 @@
-use Rattle.std.proofs.Common.{◌≤◌}
+use Rattle.scop_syntax.proofs.Common.{◌≤◌}
 use Rattle.tree_simplification.proofs.single.turns.turns_for_loop.Given as goal
 
 abbrev pub invariant-loop-part : goal.invariant-loop-part
