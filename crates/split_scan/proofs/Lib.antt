@@ -2,6 +2,7 @@ pub mod Values
 pub mod EmptinessAnswers
 pub mod NodeParts
 pub mod OutlineCopies
+pub mod NarrowedNodes
 pub mod PartOrder
 pub mod PartLoops
 pub mod HullBounds

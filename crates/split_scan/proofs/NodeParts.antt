@@ -49,7 +49,7 @@ staying_false (true ∷ bs) (t ∷ sets) s params r next never (inr h) = inr (st
 staying_false (false ∷ bs) (t ∷ sets) s params r next never h = staying_false bs sets s params r next never h
 
 -- a row or its complement holds
-one_side : (f : Affine) (point : List ℤ) → (pos 0 ≤ℤ value_of f point) ⊎ (pos 0 ≤ℤ value_of (complement f) point)
+pub one_side : (f : Affine) (point : List ℤ) → (pos 0 ≤ℤ value_of f point) ⊎ (pos 0 ≤ℤ value_of (complement f) point)
 one_side f point = by_order (le_or_lt (pos 0) (value_of f point))
   where
     by_order : (pos 0 ≤ℤ value_of f point) ⊎ (value_of f point <ℤ pos 0)
@@ -124,7 +124,7 @@ goes_more m inside row cuts less old new p less_is cuts_is new_is params outer x
     by_side (inr h) = inr (subst (λ ps. InPart ps point) (sym new_is) (in_front_part old (p ∷ []) point h))
 
 -- all rows that no point of the set leaves
-implied_at : (m : ℕ) (s : Scanned) (rows : List Affine) → All (Implies m s) rows → (params outer r : List ℤ) (x : ℤ)
+pub implied_at : (m : ℕ) (s : Scanned) (rows : List Affine) → All (Implies m s) rows → (params outer r : List ℤ) (x : ℤ)
     → AreInRange params → length outer ≡ m → IsKeyOf params s (outer ++ x ∷ r)
     → AllAtLeast rows (outer ++ x ∷ params)
 implied_at m s [] implies params outer r x range size key = tt

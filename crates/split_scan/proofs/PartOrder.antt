@@ -14,6 +14,7 @@ use Rattle.plain_scan.proofs.Pieces.{all_append}
 use Rattle.plain_scan.proofs.Rows.{widened_hold}
 use Rattle.split_scan.specs.Questions.{AreNatural, HasNone, IsCut, IsIn}
 use Rattle.split_scan.specs.Parts.{HasMarks, InPart, IsPart, staying}
+use Rattle.split_scan.specs.steps.Narrowing.{HoldAtKeys}
 use Rattle.split_scan.specs.steps.Picking.{IsPicking}
 use Rattle.split_scan.proofs.NodeParts.{in_part_append}
 use Rattle.split_scan.specs.Ordering.{AreBelow, AreEnoughParts, AreParts, IsBelowAll, Rise, difference, turned}
@@ -286,22 +287,29 @@ picked_all m n inside all ps out rise parts marks enough picked =
     second point (inr g) = g
 
 -- the one part of a node that is not separated
-pub whole_parts : (m n : ℕ) (inside : List Affine) (all : List Scanned) (ps : List Part) (p : Part) → 0 < length all
-    → ps ≡ p ∷ [] → p.cuts.items ≡ [] → p.stays.items ≡ [] → AreParts m n inside all ps
-whole_parts m n inside all ps p some is cuts stays =
+pub one_part : (m n : ℕ) (inside : List Affine) (all : List Scanned) (ps : List Part) (p : Part) → 0 < length all
+    → ps ≡ p ∷ [] → All (IsCut m n) p.cuts.items → HoldAtKeys m inside all p.cuts.items → p.stays.items ≡ []
+    → AreParts m n inside all ps
+one_part m n inside all ps p some is cuts hold stays =
     subst (AreParts m n inside all) (sym is) (record {
       parts = All-cons P p [] (record {
-        cuts = subst (All (IsCut m n)) (sym cuts) (All-nil (IsCut m n));
-        keeps = λ params outer x here hold r key.
+        cuts = cuts;
+        keeps = λ params outer x here held r key.
             subst (λ bs. Keys (staying bs all) params (outer ++ x ∷ r)) (sym stays) key;
       }) (All-nil P);
       some = All-cons (λ q. 0 < length (staying q.stays.items all)) p []
           (subst (λ bs. 0 < length (staying bs all)) (sym stays) some)
           (All-nil (λ q. 0 < length (staying q.stays.items all)));
       rise = (tt, tt);
-      enough = λ params outer x here r key.
-          inl (subst (λ fs. AllAtLeast fs (outer ++ x ∷ params)) (sym cuts) tt);
+      enough = λ params outer x here r key. inl (hold params outer x here r key);
     })
   where
     P : Part → Type 0
     P = IsPart m n inside all
+
+-- all of it
+pub whole_parts : (m n : ℕ) (inside : List Affine) (all : List Scanned) (ps : List Part) (p : Part) → 0 < length all
+    → ps ≡ p ∷ [] → p.cuts.items ≡ [] → p.stays.items ≡ [] → AreParts m n inside all ps
+whole_parts m n inside all ps p some is cuts stays =
+    one_part m n inside all ps p some is (subst (All (IsCut m n)) (sym cuts) (All-nil (IsCut m n)))
+    (subst (HoldAtKeys m inside all) (sym cuts) (λ params outer x here r key. tt)) stays

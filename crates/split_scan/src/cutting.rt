@@ -26,7 +26,7 @@ struct Manner {
 }
 
 /// The cell of these rows, without marks.
-fn cell_of(alloc: Global, cuts: Vec<Form>, open: bool, held: bool) -> Part
+pub fn cell_of(alloc: Global, cuts: Vec<Form>, open: bool, held: bool) -> Part
     ensures cuts { result.cuts.items ≡ cuts.items }
     ensures stays { result.stays.items ≡ [] }
 {
@@ -53,7 +53,7 @@ fn push_cell(
 }
 
 /// Whether a row of the node or of the cell says as much, no parameter being negative.
-fn is_known(level: &Level, cuts: &[Form], row: &Form) -> bool {
+pub fn is_known(level: &Level, cuts: &[Form], row: &Form) -> bool {
     let dimensions = level.place + 1;
     has_tighter(&level.inside, row, dimensions, false) || has_tighter(cuts, row, dimensions, false)
 }
@@ -256,13 +256,20 @@ fn cut_all(
     Ok(out)
 }
 
+/// The part of these rows alone, in which all sets stay.
+pub fn one_part(alloc: Global, cuts: Vec<Form>) -> Result<Vec<Part>, AllocError>
+    ensures { IfOk result (λ v. (p : Part) × (v.items ≡ p ∷ []) × (p.cuts.items ≡ cuts.items) × (p.stays.items ≡ [])) }
+{
+    let mut parts = Vec::new(alloc);
+    parts.push(cell_of(alloc, cuts, true, false))?;
+    Ok(parts)
+}
+
 /// The cell of all of a node.
 pub fn whole(alloc: Global) -> Result<Vec<Part>, AllocError>
     ensures { IfOk result (λ v. (p : Part) × (v.items ≡ p ∷ []) × (p.cuts.items ≡ []) × (p.stays.items ≡ [])) }
 {
-    let mut cells = Vec::new(alloc);
-    cells.push(cell_of(alloc, Vec::new(alloc), true, false))?;
-    Ok(cells)
+    one_part(alloc, Vec::new(alloc))
 }
 
 /// The cells of a node, at most so many: each of its sets cuts all, or all that are not beside a core.

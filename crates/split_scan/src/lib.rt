@@ -10,6 +10,7 @@ mod cutting;
 mod halt;
 mod level;
 mod marking;
+mod narrowing;
 mod nodes;
 mod ordering;
 mod part;

@@ -20,6 +20,7 @@ use crate::cutting::whole;
 use crate::halt::Halt;
 use crate::level::Level;
 use crate::marking::separated;
+use crate::narrowing::narrowed;
 use crate::ordering::ordered;
 use crate::part::Part;
 use crate::questions::joined;
@@ -113,7 +114,29 @@ fn parts_in_order(
     }
 }
 
-/// The parts of a node in their order, or one for all of it where it is not separated.
+/// The parts of a node: those of its sets in their order where it is separated, and else one.
+fn parts_by_rows(
+    alloc: Global,
+    level: &Level,
+    outlines: &[Outline],
+    depth: usize,
+    hulls: usize,
+) -> Result<Vec<Part>, Halt>
+    requires some { 0 < length outlines.now }
+    requires alike { All (IsAlike depth (level.now.place + 1 + level.now.parameters)) outlines.now }
+    requires dimensions { All (λ o. o.set.now.system.dimensions ≡ level.now.place + suc depth) outlines.now }
+    ensures { IfOk result (λ v. AreParts level.now.place (level.now.place + 1 + level.now.parameters)
+        level.now.inside.items (sets_in outlines.now) v.items) }
+{
+    let numbers = are_numbers(outlines, depth);
+    if is_apart(level, numbers, hulls) {
+        parts_in_order(alloc, level, outlines, depth, numbers)
+    } else {
+        narrowed(alloc, level, outlines, depth)
+    }
+}
+
+/// The parts of a node in their order, or one for all of it where a question stops.
 fn parts_of(
     alloc: Global,
     level: &Level,
@@ -127,11 +150,7 @@ fn parts_of(
     ensures { IfOk result (λ v. AreParts level.now.place (level.now.place + 1 + level.now.parameters)
         level.now.inside.items (sets_in outlines.now) v.items) }
 {
-    let numbers = are_numbers(outlines, depth);
-    if !is_apart(level, numbers, hulls) {
-        return whole(alloc);
-    }
-    match parts_in_order(alloc, level, outlines, depth, numbers) {
+    match parts_by_rows(alloc, level, outlines, depth, hulls) {
         Ok(parts) => Ok(parts),
         Err(Halt::Stopped) => whole(alloc),
         Err(Halt::NoMemory) => Err(AllocError),

@@ -1,7 +1,6 @@
-use Rattle.scop_syntax.proofs.Common.{◌≡◌, [], ◌∷◌, ◌∙◌, rules}
+use Rattle.scop_syntax.proofs.Common.{◌∙◌, IfOk-weaker}
 use Rattle.split_scan.proofs.cutting.whole.Goals as goal
 
 pub returns : goal.returns
 returns c =
-    let pushed : c.push.new.self.items ≡ c.cell_of.result ∷ [] = search rules in
-    (c.cell_of.result, pushed, c.cell_of.ensures.cuts ∙ c.new.ensures.items, c.cell_of.ensures.stays)
+    IfOk-weaker c.one_part.result _ _ (λ v h. (h.0, h.1, h.2 ∙ c.new.ensures.items, h.3)) c.one_part.ensures

@@ -4,20 +4,11 @@ use Rattle.split_scan.proofs.OutlineCopies.{sets_count}
 use Rattle.split_scan.proofs.PartOrder.{whole_parts}
 use Rattle.split_scan.proofs.nodes.parts_of.Goals as goal
 
-pub returns-then-not-is_apart : goal.returns-then-not-is_apart
-returns-then-not-is_apart c =
+pub returns-in-Err-Stopped : goal.returns-in-Err-Stopped
+returns-in-Err-Stopped c =
     let level = c.args.level.now in
     let os = c.args.outlines.now in
     let some = c.requires.some in
     IfOk-weaker c.whole.result _ _ (λ v h. whole_parts level.place
     (level.place + 1 + level.parameters) level.inside.items
     (sets_in os) v.items h.0 (omega (arith, sets_count os, some)) h.1 h.2 h.3) c.whole.ensures
-
-pub returns-in-Err-Stopped : goal.returns-in-Err-Stopped
-returns-in-Err-Stopped c =
-    let level = c.args.level.now in
-    let os = c.args.outlines.now in
-    let some = c.requires.some in
-    IfOk-weaker c.whole-in-Err-Stopped.result _ _ (λ v h. whole_parts level.place
-    (level.place + 1 + level.parameters) level.inside.items
-    (sets_in os) v.items h.0 (omega (arith, sets_count os, some)) h.1 h.2 h.3) c.whole-in-Err-Stopped.ensures
