@@ -1,7 +1,7 @@
 -- A hull's loop serves its sets one dimension further out; leaves under all their constraints serve them behind the
 -- last.
 use Rattle.scop_syntax.proofs.Common.{◌≡◌, ℕ, zero, suc, ◌+◌, ◌-◌, ◌<◌, Bool, ℤ, pos, negsuc, List, [], ◌∷◌, ◌++◌}
-use Rattle.scop_syntax.proofs.Common.{length, get_or, map, inl, inr, refl, ap, subst, sym, ◌∙◌, All, arith, ◌≤◌, ◌≤ℤ◌}
+use Rattle.scop_syntax.proofs.Common.{length, get_or, map, inl, inr, refl, ap, subst, sym, ◌∙◌, All, arith, ◌≤ℤ◌}
 use Rattle.scop_syntax.proofs.Common.{◌<ℤ◌, ints, get_or-set_same, All-cons, All-head, All-nil, All-tail, zeros, Affine}
 use Rattle.scop_syntax.proofs.Common.{value_of, length-zeros, option_eq, eqb, Option, Some}
 use Rattle.fractions.specs.Elimination.{coefficient_of}

@@ -15,7 +15,7 @@ use Rattle.traced_projections.proofs.Runs.{follow_of}
 use Rattle.plain_scan.specs.Between.{IsLargeOf}
 use Rattle.plain_scan.specs.Shadows.{IsShadow}
 use Rattle.plain_scan.specs.Outlines.{IsLargeOwn, IsNext, IsOpen, IsOpenFrom, IsOpenSomewhere, PassEachAlone}
-use Rattle.plain_scan.specs.Outlines.{PassProjecting, StopsAt, StopsBy, StopsNumbers, StopsSet, StopsShadow}
+use Rattle.plain_scan.specs.Outlines.{PassProjecting, StopsAt, StopsBy, StopsSet, StopsShadow}
 use Rattle.plain_scan.specs.Outlines.{projection_at}
 use Rattle.plain_scan.specs.Scanning.{StopsScan}
 use Rattle.plain_scan.proofs.AppendedRows.{projection_shape}
@@ -76,13 +76,6 @@ alone_halts p (fm.Wide w) h = h
 alone_halts p (fm.Crowded pairs) h = h
 alone_halts p (fm.Large number) h = absurd h
 alone_halts p fm.NoMemory h = tt
-
-pub numbers_halt : (p : Projection) (stop : FmStop) → PassesAlone p → StopsNumbers (alone_of p) stop
-    → StopsShadow p stop
-numbers_halt p (fm.Wide w) passed h = absurd h
-numbers_halt p (fm.Crowded pairs) passed h = absurd h
-numbers_halt p (fm.Large number) passed h = (passed, h)
-numbers_halt p fm.NoMemory passed h = tt
 
 -- the shadow of a projection is not found
 pub shadow_stops : (s : Constraints) (p t : Projection) (n : ℕ) (stop : FmStop) → IsReached p t n
