@@ -11,12 +11,13 @@ ghost use Rattle.c_printer.specs.Naming.{iterators_of};
 ghost use Rattle.c_printer.specs.Statements.{between};
 
 use crate::forms::put_iterator;
+use crate::place::Place;
 use crate::texts::{copies, push_name, put_between, put_next_number};
 use crate::values::put_statement;
 use form_text::put_bytes;
 use loop_tree::Leaf;
 use scop_syntax::standings::Standing;
-use scop_syntax::tree::{Aff, Kernel, Loop, Name};
+use scop_syntax::tree::{Aff, Loop, Name};
 use std::alloc::{AllocError, Global};
 
 /// Puts a source iterator at a turn of its loop.
@@ -104,69 +105,49 @@ pub fn names_of(
 fn put_body(
     alloc: Global,
     out: &mut Vec<u8>,
-    kernel: &Kernel,
-    names: &[Name],
-    loops: usize,
+    place: &Place,
     standing: &Standing,
     turns: &[Aff],
 ) -> Result<(), AllocError>
     ensures { OnOk result (out.new.items ≡ out.old.items
-        ++ body_text (program_of kernel.now) (map (λ n. n.items) names.now) loops (Some (standing_of standing.now))
-        turns.now) }
+        ++ body_text (program_of place.now.source.now) (map (λ n. n.items) place.now.names.items) place.now.loops
+        (Some (standing_of standing.now)) turns.now) }
 {
-    let mut given = copies(alloc, names)?;
-    let parameters = kernel.parameters.len();
-    put_givens(
-        alloc,
-        out,
-        &mut given,
-        parameters,
-        loops,
-        &standing.heads,
-        turns,
-    )?;
-    let source = names_of(alloc, &kernel.parameters, &standing.heads)?;
-    put_statement(out, kernel, &source, standing.body)
+    let mut told = copies(alloc, &place.names)?;
+    let source = place.source;
+    let parameters = source.kernel.parameters.len();
+    let heads = &standing.heads;
+    put_givens(alloc, out, &mut told, parameters, place.loops, heads, turns)?;
+    let names = names_of(alloc, &source.kernel.parameters, heads)?;
+    put_statement(out, source.kernel, &names, standing.body)
 }
 
 /// Puts the statement of the kernel that an instance is of, if there is one.
-fn put_found(
-    alloc: Global,
-    out: &mut Vec<u8>,
-    kernel: &Kernel,
-    statements: &[Standing],
-    names: &[Name],
-    loops: usize,
-    leaf: &Leaf,
-) -> Result<(), AllocError>
-    requires { map standing_of statements.now ≡ standings_of (program_of kernel.now) }
+fn put_found(alloc: Global, out: &mut Vec<u8>, place: &Place, leaf: &Leaf) -> Result<(), AllocError>
     ensures { OnOk result (out.new.items ≡ out.old.items
-        ++ body_text (program_of kernel.now) (map (λ n. n.items) names.now) loops
-        (slice_get (standings_of (program_of kernel.now)) leaf.now.statement) leaf.now.turns.items) }
+        ++ body_text (program_of place.now.source.now) (map (λ n. n.items) place.now.names.items) place.now.loops
+        (slice_get (standings_of (program_of place.now.source.now)) leaf.now.statement) leaf.now.turns.items) }
 {
-    match statements.get(leaf.statement) {
-        Some(standing) => put_body(alloc, out, kernel, names, loops, standing, &leaf.turns),
+    let source = place.source;
+    match source.statements.get(leaf.statement) {
+        Some(standing) => put_body(alloc, out, place, standing, &leaf.turns),
         None => Ok(()),
     }
 }
 
-/// Puts an instance of a statement of the kernel, whose statements are these.
+/// Puts an instance of a statement of the kernel.
 #[tactic(auto, using(crate::proofs::PutTexts::putting))]
 pub fn put_instance(
     alloc: Global,
     out: &mut Vec<u8>,
-    kernel: &Kernel,
-    statements: &[Standing],
-    names: &[Name],
-    loops: usize,
+    place: &Place,
     leaf: &Leaf,
 ) -> Result<(), AllocError>
-    requires { map standing_of statements.now ≡ standings_of (program_of kernel.now) }
     ensures { OnOk result (out.new.items ≡ out.old.items
-        ++ instance_text (program_of kernel.now) (map (λ n. n.items) names.now) loops leaf.now.statement
-        leaf.now.turns.items) }
+        ++ instance_text (program_of place.now.source.now) (map (λ n. n.items) place.now.names.items) place.now.loops
+        leaf.now.statement leaf.now.turns.items) }
 {
     put_next_number(out, b"{ /* S", leaf.statement, b" */ ")?;
-    put_found(alloc, out, kernel, statements, names, loops, leaf)?;
+    put_found(alloc, out, place, leaf)?;
     put_bytes(out, b"; }\n")
 }

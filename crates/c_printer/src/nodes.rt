@@ -3,21 +3,19 @@
 ghost use Rattle.std.specs.Prelude.{◌≡◌, ◌++◌, [], true, if◌then◌else◌, codes, map, IfOk, OnOk};
 ghost use Rattle.loop_tree.specs.View.{bounds_in, nodes_of, test_of, tree_of, trees_in};
 ghost use Rattle.scop_syntax.specs.View.{program_of};
-ghost use Rattle.c_printer.specs.Forms.{loop_name, names_in};
-ghost use Rattle.scop_syntax.specs.StandingView.{standing_of};
+ghost use Rattle.c_printer.specs.Forms.{loop_name};
 ghost use Rattle.c_printer.specs.Nodes.{closing_text, head_text, node_text, nodes_text, pragma_text, tests_text};
 ghost use Rattle.c_printer.specs.Nodes.{text_of};
-ghost use Rattle.scop_syntax.specs.Standings.{standings_of};
 ghost use Rattle.c_printer.specs.Statements.{between};
 
 use crate::bounds::{put_bounds, put_tests};
 use crate::header::put_front;
 use crate::instances::put_instance;
-use crate::place::{Place, within_guard, within_loop};
+use crate::place::{Place, Source, within_guard, within_loop};
 use crate::texts::{copies, name_of_loop, put_between, put_repeated};
 use form_text::put_bytes;
 use loop_tree::{Guard, Loop, Node, Tree};
-use scop_syntax::standings::{Standing, standings_of};
+use scop_syntax::standings::standings_of;
 use scop_syntax::tree::{Kernel, Name};
 use std::alloc::{AllocError, Global};
 
@@ -124,22 +122,17 @@ fn put_nodes(
     nodes: &[Node],
     alloc: Global,
     out: &mut Vec<u8>,
-    kernel: &Kernel,
-    statements: &[Standing],
     place: &Place,
 ) -> Result<(), AllocError>
-    requires statements { map standing_of statements.now ≡ standings_of (program_of kernel.now) }
-    requires names { map (λ n. n.items) place.now.names.items
-        ≡ names_in (program_of kernel.now).parameters place.now.loops }
     ensures { OnOk result (out.new.items ≡ out.old.items
-        ++ nodes_text (program_of kernel.now) place.now.level place.now.loops (nodes_of nodes.now)) }
+        ++ nodes_text (program_of place.now.source.now) place.now.level place.now.loops (nodes_of nodes.now)) }
 {
     for node in nodes {
         match put_repeated(out, b"  ", place.level) {
             Ok(()) => {}
             Err(_) => return Err(AllocError),
         }
-        match put_node(node, alloc, out, kernel, statements, place) {
+        match put_node(node, alloc, out, place) {
             Ok(()) => {}
             Err(_) => return Err(AllocError),
         }
@@ -150,40 +143,22 @@ fn put_nodes(
 /// Puts a node behind its indentation.
 #[cycle(printing)]
 #[tactic(auto, using(crate::proofs::PutTexts::putting))]
-fn put_node(
-    node: &Node,
-    alloc: Global,
-    out: &mut Vec<u8>,
-    kernel: &Kernel,
-    statements: &[Standing],
-    place: &Place,
-) -> Result<(), AllocError>
-    requires statements { map standing_of statements.now ≡ standings_of (program_of kernel.now) }
-    requires names { map (λ n. n.items) place.now.names.items
-        ≡ names_in (program_of kernel.now).parameters place.now.loops }
+fn put_node(node: &Node, alloc: Global, out: &mut Vec<u8>, place: &Place) -> Result<(), AllocError>
     ensures { OnOk result (out.new.items ≡ out.old.items
-        ++ node_text (program_of kernel.now) place.now.level place.now.loops (tree_of node.now)) }
+        ++ node_text (program_of place.now.source.now) place.now.level place.now.loops (tree_of node.now)) }
 {
     match node {
         Node::Loop(head, body) => {
             put_opening(alloc, out, place, head)?;
             let inner = within_loop(alloc, place)?;
-            put_body(body, alloc, out, kernel, statements, &inner, place.level)
+            put_body(body, alloc, out, &inner, place.level)
         }
         Node::Guard(guarded, body) => {
             put_condition(alloc, out, place, guarded)?;
             let inner = within_guard(alloc, place)?;
-            put_body(body, alloc, out, kernel, statements, &inner, place.level)
+            put_body(body, alloc, out, &inner, place.level)
         }
-        Node::Instance(leaf) => put_instance(
-            alloc,
-            out,
-            kernel,
-            statements,
-            &place.names,
-            place.loops,
-            leaf,
-        ),
+        Node::Instance(leaf) => put_instance(alloc, out, place, leaf),
     }
 }
 
@@ -194,19 +169,14 @@ fn put_body(
     body: &[Node],
     alloc: Global,
     out: &mut Vec<u8>,
-    kernel: &Kernel,
-    statements: &[Standing],
     inner: &Place,
     level: usize,
 ) -> Result<(), AllocError>
-    requires statements { map standing_of statements.now ≡ standings_of (program_of kernel.now) }
-    requires names { map (λ n. n.items) inner.now.names.items
-        ≡ names_in (program_of kernel.now).parameters inner.now.loops }
     ensures { OnOk result (out.new.items ≡ out.old.items
-        ++ (nodes_text (program_of kernel.now) inner.now.level inner.now.loops (nodes_of body.now)
+        ++ (nodes_text (program_of inner.now.source.now) inner.now.level inner.now.loops (nodes_of body.now)
         ++ closing_text level)) }
 {
-    put_nodes(body, alloc, out, kernel, statements, inner)?;
+    put_nodes(body, alloc, out, inner)?;
     put_closing(out, level)
 }
 
@@ -236,14 +206,16 @@ pub fn print(alloc: Global, kernel: &Kernel, tree: &Tree) -> Result<Vec<u8>, All
     ensures { IfOk result (λ text. text.items ≡ text_of (program_of kernel.now) (trees_in tree.now)) }
 {
     let statements = standings_of(alloc, kernel)?;
+    let source = Source { kernel, statements };
     let place = Place {
+        source: &source,
         names: copies(alloc, &kernel.parameters)?,
         level: 1,
         loops: 0,
     };
     let mut out = Vec::new(alloc);
     put_front(&mut out, kernel)?;
-    put_nodes(&tree.nodes, alloc, &mut out, kernel, &statements, &place)?;
+    put_nodes(&tree.nodes, alloc, &mut out, &place)?;
     put_bytes(&mut out, b"}\n")?;
     Ok(out)
 }

@@ -10,6 +10,7 @@ ghost use Rattle.scop_syntax.specs.Standings.{standings_of};
 
 use crate::instances::names_of;
 use crate::part::{Read, strip_between};
+use crate::place::Place;
 use crate::read_forms::read_turn;
 use crate::texts::{copies, push_name};
 use crate::values::put_statement;
@@ -119,21 +120,21 @@ fn body_end<'a>(
 /// The instance of a statement of the kernel behind its number.
 fn read_body<'a>(
     alloc: Global,
-    kernel: &Kernel,
+    place: &Place,
     standing: &Standing,
-    names: &[Name],
-    loops: usize,
     statement: usize,
     text: &'a [u8],
 ) -> Result<Option<Read<'a, Node>>, AllocError>
     ensures { IfOk result (λ r. node_in r
-        ≡ body_at (program_of kernel.now) (map (λ n. n.items) names.now) loops statement text.now
-        (Some (standing_of standing.now))) }
+        ≡ body_at (program_of place.now.source.now) (map (λ n. n.items) place.now.names.items) place.now.loops statement
+        text.now (Some (standing_of standing.now))) }
 {
-    let mut given = copies(alloc, names)?;
-    let parameters = kernel.parameters.len();
-    match read_givens(alloc, &mut given, parameters, loops, &standing.heads, text) {
-        Ok(Some(turns)) => body_end(alloc, kernel, standing, statement, turns),
+    let mut given = copies(alloc, &place.names)?;
+    let source = place.source;
+    let parameters = source.kernel.parameters.len();
+    let heads = &standing.heads;
+    match read_givens(alloc, &mut given, parameters, place.loops, heads, text) {
+        Ok(Some(turns)) => body_end(alloc, source.kernel, standing, statement, turns),
         Ok(None) => Ok(None),
         Err(_) => Err(AllocError),
     }
@@ -142,20 +143,17 @@ fn read_body<'a>(
 /// The instance of the statement at a place of the kernel, if there is one, behind its number.
 fn read_found<'a>(
     alloc: Global,
-    kernel: &Kernel,
-    statements: &[Standing],
-    names: &[Name],
-    loops: usize,
+    place: &Place,
     statement: usize,
     text: &'a [u8],
 ) -> Result<Option<Read<'a, Node>>, AllocError>
-    requires { map standing_of statements.now ≡ standings_of (program_of kernel.now) }
     ensures { IfOk result (λ r. node_in r
-        ≡ body_at (program_of kernel.now) (map (λ n. n.items) names.now) loops statement text.now
-        (slice_get (standings_of (program_of kernel.now)) statement)) }
+        ≡ body_at (program_of place.now.source.now) (map (λ n. n.items) place.now.names.items) place.now.loops statement
+        text.now (slice_get (standings_of (program_of place.now.source.now)) statement)) }
 {
-    match statements.get(statement) {
-        Some(standing) => read_body(alloc, kernel, standing, names, loops, statement, text),
+    let source = place.source;
+    match source.statements.get(statement) {
+        Some(standing) => read_body(alloc, place, standing, statement, text),
         None => Ok(None),
     }
 }
@@ -173,19 +171,16 @@ fn place_of(number: u128) -> Option<usize>
     }
 }
 
-/// An instance of a statement of the kernel, whose statements are these, behind `{ /* S`.
+/// An instance of a statement of the kernel behind `{ /* S`.
 #[tactic(auto, unfolding(crate::specs::Reading::read_instance))]
 pub fn read_instance<'a>(
     alloc: Global,
-    kernel: &Kernel,
-    statements: &[Standing],
-    names: &[Name],
-    loops: usize,
+    place: &Place,
     text: &'a [u8],
 ) -> Result<Option<Read<'a, Node>>, AllocError>
-    requires { map standing_of statements.now ≡ standings_of (program_of kernel.now) }
     ensures { IfOk result (λ r. node_in r
-        ≡ read_instance (program_of kernel.now) (map (λ n. n.items) names.now) loops text.now) }
+        ≡ read_instance (program_of place.now.source.now) (map (λ n. n.items) place.now.names.items) place.now.loops
+        text.now) }
 {
     let (number, counted) = read_number(text);
     let Some(statement) = place_of(number) else {
@@ -194,5 +189,5 @@ pub fn read_instance<'a>(
     let Some(behind) = strip(counted, b" */ ") else {
         return Ok(None);
     };
-    read_found(alloc, kernel, statements, names, loops, statement, behind)
+    read_found(alloc, place, statement, behind)
 }

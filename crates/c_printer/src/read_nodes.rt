@@ -5,19 +5,17 @@ ghost use Rattle.scop_syntax.specs.View.{program_of};
 ghost use Rattle.loop_tree.specs.Tree.{guard, loop, Trees};
 ghost use Rattle.loop_tree.specs.View.{bounds_in, test_of, trees_in};
 ghost use Rattle.c_printer.specs.Forms.{loop_name, names_in};
-ghost use Rattle.scop_syntax.specs.StandingView.{standing_of};
 ghost use Rattle.c_printer.specs.Nodes.{text_of};
 ghost use Rattle.c_printer.specs.Printable.{AreNodes, IsNamed};
 ghost use Rattle.c_printer.specs.Reading.{printed_as, read_node, read_nodes, read_text};
 ghost use Rattle.c_printer.specs.View.{body_in, body_part, line_in, node_in, sides_part};
 ghost use Rattle.c_printer.specs.steps.Reading.{closed_as, closed_body, guard_from, loop_from, lower_end};
 ghost use Rattle.c_printer.specs.steps.Reading.{parallel_from, read_condition, read_line, upper_end};
-ghost use Rattle.scop_syntax.specs.Standings.{standings_of};
 
 use crate::header::put_front;
 use crate::nodes::print;
 use crate::part::{Read, strip_between, strip_repeated};
-use crate::place::{Place, within_guard, within_loop};
+use crate::place::{Place, Source, within_guard, within_loop};
 use crate::read_bounds::read_bounds;
 use crate::read_instances::read_instance;
 use crate::read_tests::read_condition;
@@ -25,7 +23,7 @@ use crate::text_laws::unread_texts_are_of_no_tree;
 use crate::texts::{copies, name_of_loop};
 use form_text::strip;
 use loop_tree::{Bounds, Guard, Loop, Node, Tree};
-use scop_syntax::standings::{Standing, standings_of};
+use scop_syntax::standings::standings_of;
 use scop_syntax::tree::{Kernel, Name};
 use std::alloc::{AllocError, Global};
 
@@ -179,16 +177,11 @@ fn closed_guard<'a>(condition: Guard, body: Option<Read<'a, Vec<Node>>>) -> Opti
 fn read_nodes<'a>(
     steps: usize,
     alloc: Global,
-    kernel: &Kernel,
-    statements: &[Standing],
     place: &Place,
     text: &'a [u8],
 ) -> Result<Option<Read<'a, Vec<Node>>>, AllocError>
-    requires statements { map standing_of statements.now ≡ standings_of (program_of kernel.now) }
-    requires names { map (λ n. n.items) place.now.names.items
-        ≡ names_in (program_of kernel.now).parameters place.now.loops }
     ensures { IfOk result (λ r. body_in r
-        ≡ read_nodes (program_of kernel.now) steps place.now.level place.now.loops text.now) }
+        ≡ read_nodes (program_of place.now.source.now) steps place.now.level place.now.loops text.now) }
 {
     let mut nodes = Vec::new(alloc);
     let mut rest = text;
@@ -196,7 +189,7 @@ fn read_nodes<'a>(
         let Some(behind) = strip_repeated(rest, b"  ", place.level) else {
             return Ok(Some(Read { part: nodes, rest }));
         };
-        match read_node(steps - (at + 1), alloc, kernel, statements, place, behind) {
+        match read_node(steps - (at + 1), alloc, place, behind) {
             Ok(Some(node)) => {
                 match nodes.push(node.part) {
                     Ok(()) => {}
@@ -216,29 +209,24 @@ fn read_nodes<'a>(
 fn read_node<'a>(
     steps: usize,
     alloc: Global,
-    kernel: &Kernel,
-    statements: &[Standing],
     place: &Place,
     text: &'a [u8],
 ) -> Result<Option<Read<'a, Node>>, AllocError>
-    requires statements { map standing_of statements.now ≡ standings_of (program_of kernel.now) }
-    requires names { map (λ n. n.items) place.now.names.items
-        ≡ names_in (program_of kernel.now).parameters place.now.loops }
     ensures { IfOk result (λ r. node_in r
-        ≡ read_node (read_nodes (program_of kernel.now) steps) (program_of kernel.now) steps place.now.level
-        place.now.loops text.now) }
+        ≡ read_node (read_nodes (program_of place.now.source.now) steps) (program_of place.now.source.now) steps
+        place.now.level place.now.loops text.now) }
 {
     if let Some(behind) = strip(text, b"#pragma omp parallel for\n") {
-        return read_parallel(steps, alloc, kernel, statements, place, behind);
+        return read_parallel(steps, alloc, place, behind);
     }
     if let Some(behind) = strip(text, b"for (int64_t ") {
-        return read_loop(steps, alloc, kernel, statements, place, false, behind);
+        return read_loop(steps, alloc, place, false, behind);
     }
     if let Some(behind) = strip(text, b"if (") {
-        return read_guard(steps, alloc, kernel, statements, place, behind);
+        return read_guard(steps, alloc, place, behind);
     }
     match strip(text, b"{ /* S") {
-        Some(behind) => read_instance(alloc, kernel, statements, &place.names, place.loops, behind),
+        Some(behind) => read_instance(alloc, place, behind),
         None => Ok(None),
     }
 }
@@ -249,23 +237,18 @@ fn read_node<'a>(
 fn read_parallel<'a>(
     steps: usize,
     alloc: Global,
-    kernel: &Kernel,
-    statements: &[Standing],
     place: &Place,
     text: &'a [u8],
 ) -> Result<Option<Read<'a, Node>>, AllocError>
-    requires statements { map standing_of statements.now ≡ standings_of (program_of kernel.now) }
-    requires names { map (λ n. n.items) place.now.names.items
-        ≡ names_in (program_of kernel.now).parameters place.now.loops }
     ensures { IfOk result (λ r. node_in r
-        ≡ parallel_from (read_nodes (program_of kernel.now) steps) (program_of kernel.now) steps place.now.level
-        place.now.loops text.now) }
+        ≡ parallel_from (read_nodes (program_of place.now.source.now) steps) (program_of place.now.source.now) steps
+        place.now.level place.now.loops text.now) }
 {
     let Some(indented) = strip_repeated(text, b"  ", place.level) else {
         return Ok(None);
     };
     match strip(indented, b"for (int64_t ") {
-        Some(behind) => read_loop(steps, alloc, kernel, statements, place, true, behind),
+        Some(behind) => read_loop(steps, alloc, place, true, behind),
         None => Ok(None),
     }
 }
@@ -276,29 +259,25 @@ fn read_parallel<'a>(
 fn read_loop<'a>(
     steps: usize,
     alloc: Global,
-    kernel: &Kernel,
-    statements: &[Standing],
     place: &Place,
     parallel: bool,
     text: &'a [u8],
 ) -> Result<Option<Read<'a, Node>>, AllocError>
-    requires statements { map standing_of statements.now ≡ standings_of (program_of kernel.now) }
-    requires names { map (λ n. n.items) place.now.names.items
-        ≡ names_in (program_of kernel.now).parameters place.now.loops }
     ensures { IfOk result (λ r. node_in r
-        ≡ loop_from (read_nodes (program_of kernel.now) steps (suc place.now.level) (suc place.now.loops))
-        place.now.level (read_line steps (length (program_of kernel.now).parameters)
-        (names_in (program_of kernel.now).parameters place.now.loops) (loop_name place.now.loops) parallel
+        ≡ loop_from (read_nodes (program_of place.now.source.now) steps (suc place.now.level) (suc place.now.loops))
+        place.now.level (read_line steps (length (program_of place.now.source.now).parameters)
+        (names_in (program_of place.now.source.now).parameters place.now.loops) (loop_name place.now.loops) parallel
         text.now)) }
 {
-    let parameters = kernel.parameters.len();
+    let source = place.source;
+    let parameters = source.kernel.parameters.len();
     let line = match read_line_at(alloc, steps, parameters, place, parallel, text) {
         Ok(Some(line)) => line,
         Ok(None) => return Ok(None),
         Err(_) => return Err(AllocError),
     };
     let inner = within_loop(alloc, place)?;
-    match read_nodes(steps, alloc, kernel, statements, &inner, line.rest) {
+    match read_nodes(steps, alloc, &inner, line.rest) {
         Ok(body) => Ok(closed_loop(line.part, closed_body(place.level, body))),
         Err(_) => Err(AllocError),
     }
@@ -310,27 +289,23 @@ fn read_loop<'a>(
 fn read_guard<'a>(
     steps: usize,
     alloc: Global,
-    kernel: &Kernel,
-    statements: &[Standing],
     place: &Place,
     text: &'a [u8],
 ) -> Result<Option<Read<'a, Node>>, AllocError>
-    requires statements { map standing_of statements.now ≡ standings_of (program_of kernel.now) }
-    requires names { map (λ n. n.items) place.now.names.items
-        ≡ names_in (program_of kernel.now).parameters place.now.loops }
     ensures { IfOk result (λ r. node_in r
-        ≡ guard_from (read_nodes (program_of kernel.now) steps (suc place.now.level) place.now.loops)
-        place.now.level (read_condition steps (length (program_of kernel.now).parameters)
-        (names_in (program_of kernel.now).parameters place.now.loops) text.now)) }
+        ≡ guard_from (read_nodes (program_of place.now.source.now) steps (suc place.now.level) place.now.loops)
+        place.now.level (read_condition steps (length (program_of place.now.source.now).parameters)
+        (names_in (program_of place.now.source.now).parameters place.now.loops) text.now)) }
 {
-    let parameters = kernel.parameters.len();
+    let source = place.source;
+    let parameters = source.kernel.parameters.len();
     let condition = match read_condition(alloc, steps, parameters, &place.names, text) {
         Ok(Some(condition)) => condition,
         Ok(None) => return Ok(None),
         Err(_) => return Err(AllocError),
     };
     let inner = within_guard(alloc, place)?;
-    match read_nodes(steps, alloc, kernel, statements, &inner, condition.rest) {
+    match read_nodes(steps, alloc, &inner, condition.rest) {
         Ok(body) => Ok(closed_guard(condition.part, closed_body(place.level, body))),
         Err(_) => Err(AllocError),
     }
@@ -346,12 +321,14 @@ fn read_all<'a>(
     ensures { IfOk result (λ r. body_in r ≡ read_nodes (program_of kernel.now) steps 1 0 text.now) }
 {
     let statements = standings_of(alloc, kernel)?;
+    let source = Source { kernel, statements };
     let place = Place {
+        source: &source,
         names: copies(alloc, &kernel.parameters)?,
         level: 1,
         loops: 0,
     };
-    read_nodes(steps, alloc, kernel, &statements, &place, text)
+    read_nodes(steps, alloc, &place, text)
 }
 
 /// The tree of nodes that were read, where it prints as the text.

@@ -6,3 +6,4 @@ pub mod Shapes
 pub mod GatheredDependences
 pub mod Parts
 pub mod RelatedPairs
+pub mod Systems

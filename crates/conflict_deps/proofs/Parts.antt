@@ -1,7 +1,6 @@
 -- The system of a conflict, taken apart.
-use Rattle.scop_syntax.proofs.Common.{◌≡◌, ℕ, ◌+◌, List, [], ◌∷◌, ◌++◌, map, Some, ap, ap₂, subst, sym, ◌∙◌, refl}
-use Rattle.scop_syntax.proofs.Common.{slice_get, flat_map, Affine, at_least, equal, In, in_map_from, in_if_from}
-use Rattle.scop_syntax.proofs.Common.{place_of}
+use Rattle.scop_syntax.proofs.Common.{◌≡◌, ℕ, ◌+◌, List, ◌++◌, map, Some, ap, ap₂, subst, sym, ◌∙◌, slice_get, flat_map}
+use Rattle.scop_syntax.proofs.Common.{Affine, In, in_map_from, in_if_from, place_of}
 use Rattle.std.proofs.lemmas.List.{append-nil}
 use Rattle.iteration_domains.specs.Rows.{variables}
 use Rattle.iteration_domains.specs.Constraints.{equalities_in, rows_in}
@@ -9,36 +8,12 @@ use Rattle.iteration_domains.specs.Model.{KernelModel, Modelled}
 use Rattle.iteration_domains.specs.Sizes.{IsKernelModel}
 use Rattle.iteration_domains.specs.Dependence.{Dependence}
 use Rattle.iteration_domains.proofs.Points.{equalities_in-append, rows_in-append}
-use Rattle.conflict_deps.specs.Conflicts.{Side, sides_of, sides_in, loops_of, source_form, target_form, map_test}
-use Rattle.conflict_deps.specs.Conflicts.{source_rows, target_rows, cell_rows, parameter_rows}
-use Rattle.conflict_deps.specs.Conflicts.{pair_size, dep_of, afters_of, may_conflict, deps_between, conflicts_of}
+use Rattle.conflict_deps.specs.Conflicts.{Side, sides_of, sides_in, loops_of, source_form, target_form, source_rows}
+use Rattle.conflict_deps.specs.Conflicts.{target_rows, cell_rows, parameter_rows, pair_size, dep_of, afters_of}
+use Rattle.conflict_deps.specs.Conflicts.{may_conflict, deps_between, conflicts_of}
 use Rattle.conflict_deps.specs.Parts.{HasParts}
 use Rattle.conflict_deps.proofs.Sides.{in_flat_map_from, side_to}
-use Rattle.conflict_deps.proofs.Shapes.{no_rows_in_cells}
-
--- the equalities of a domain's tests, each with the same done to its form
-equals_mapped : (h : Affine → Affine) (fs : List Affine) (gs : List Affine)
-    → equalities_in (map (map_test h) (map equal fs ++ map at_least gs)) ≡ map h fs
-equals_mapped h [] [] = refl
-equals_mapped h [] (g ∷ gs) = equals_mapped h [] gs
-equals_mapped h (f ∷ fs) gs = ap (λ us. h f ∷ us) (equals_mapped h fs gs)
-
--- and its rows
-rows_mapped : (h : Affine → Affine) (fs : List Affine) (gs : List Affine)
-    → rows_in (map (map_test h) (map equal fs ++ map at_least gs)) ≡ map h gs
-rows_mapped h [] [] = refl
-rows_mapped h [] (g ∷ gs) = ap (λ us. h g ∷ us) (rows_mapped h [] gs)
-rows_mapped h (f ∷ fs) gs = rows_mapped h fs gs
-
--- inequalities have no equality
-no_equal : (fs : List Affine) → equalities_in (map at_least fs) ≡ []
-no_equal [] = refl
-no_equal (f ∷ fs) = no_equal fs
-
--- they are rows
-all_rows : (fs : List Affine) → rows_in (map at_least fs) ≡ fs
-all_rows [] = refl
-all_rows (f ∷ fs) = ap (λ us. f ∷ us) (all_rows fs)
+use Rattle.conflict_deps.proofs.Shapes.{all_rows, equalities-kept, no_equalities, no_rows_in_cells, rows-kept}
 
 -- a side of the model stands at its statement's place
 pub stands : (model : KernelModel) (s : Side) → IsKernelModel model → In s (sides_in model)
@@ -81,20 +56,20 @@ parts_of model dep is h =
       equalities = ap (λ (d : Dependence). d.system.equalities) a.2
           ∙ (equalities_in-append u (v ++ (c ++ (o ++ w)))
           ∙ ap₂ (λ (x y : List Affine). x ++ y)
-          (equals_mapped (source_form (loops_of s.0) (loops_of t.0)) du.equalities du.rows)
+          (equalities-kept (source_form (loops_of s.0) (loops_of t.0)) du)
           (equalities_in-append v (c ++ (o ++ w))
           ∙ ap₂ (λ (x y : List Affine). x ++ y)
-          (equals_mapped (target_form (loops_of s.0)) dv.equalities dv.rows)
+          (equalities-kept (target_form (loops_of s.0)) dv)
           (equalities_in-append c (o ++ w)
           ∙ ap (λ (y : List Affine). equalities_in c ++ y)
           (equalities_in-append o w
-          ∙ (ap (λ (y : List Affine). equalities_in o ++ y) (no_equal ps) ∙ append-nil (equalities_in o))))));
+          ∙ (ap (λ (y : List Affine). equalities_in o ++ y) (no_equalities ps) ∙ append-nil (equalities_in o))))));
       rows = ap (λ (d : Dependence). d.system.rows) a.2
           ∙ (rows_in-append u (v ++ (c ++ (o ++ w)))
           ∙ ap₂ (λ (x y : List Affine). x ++ y)
-          (rows_mapped (source_form (loops_of s.0) (loops_of t.0)) du.equalities du.rows)
+          (rows-kept (source_form (loops_of s.0) (loops_of t.0)) du)
           (rows_in-append v (c ++ (o ++ w))
-          ∙ ap₂ (λ (x y : List Affine). x ++ y) (rows_mapped (target_form (loops_of s.0)) dv.equalities dv.rows)
+          ∙ ap₂ (λ (x y : List Affine). x ++ y) (rows-kept (target_form (loops_of s.0)) dv)
           (rows_in-append c (o ++ w)
           ∙ ap₂ (λ (x y : List Affine). x ++ y)
           (no_rows_in_cells (loops_of s.0) (loops_of t.0) s.0.access.subscripts t.0.access.subscripts)

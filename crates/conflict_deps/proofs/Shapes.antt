@@ -1,11 +1,11 @@
 -- Forms over the variables of a pair as the code puts them together: their parts, how many variables they have, and how
 -- large they are.
-use Rattle.scop_syntax.proofs.Common.{◌≡◌, ℕ, zero, suc, Bool, true, ◌+◌, ◌-◌, ◌<◌, ◌≤◌, ℤ, negsuc, List, [], ◌∷◌, ◌++◌}
-use Rattle.scop_syntax.proofs.Common.{length, map, take, drop, ap, ap₂, subst, sym, ◌∙◌, refl, arith, length-append}
-use Rattle.scop_syntax.proofs.Common.{get_or, drop-cons, drop_of_length-le, add-one, All, take-length, All-nil}
-use Rattle.scop_syntax.proofs.Common.{All-cons, All-head, All-tail, All-append, zeros, multiples, Affine}
-use Rattle.scop_syntax.proofs.Common.{multiple_of_form, length-zeros, length-sums, length-multiples, Test, at_least}
-use Rattle.scop_syntax.proofs.Common.{equal, common}
+use Rattle.scop_syntax.proofs.Common.{◌≡◌, ℕ, zero, suc, Bool, true, ◌+◌, ◌-◌, ◌<◌, ◌≤◌, ◌^◌, ℤ, negsuc, List, [], ◌∷◌}
+use Rattle.scop_syntax.proofs.Common.{◌++◌, length, map, take, drop, ap, ap₂, subst, sym, ◌∙◌, refl, arith}
+use Rattle.scop_syntax.proofs.Common.{length-append, get_or, drop-cons, drop_of_length-le, add-one, All, take-length}
+use Rattle.scop_syntax.proofs.Common.{All-nil, All-cons, All-head, All-tail, All-append, All-weaker, test_form, zeros}
+use Rattle.scop_syntax.proofs.Common.{multiples, Affine, multiple_of_form, length-zeros, length-sums, length-multiples}
+use Rattle.scop_syntax.proofs.Common.{Test, at_least, equal, common}
 use Rattle.std.proofs.Common.{length-drop}
 use Rattle.std.proofs.lemmas.List.{append_assoc, append-nil}
 use Rattle.iteration_domains.specs.Parts.{variables_of}
@@ -14,7 +14,7 @@ use Rattle.iteration_domains.specs.Constraints.{equalities_in, rows_in, tests_of
 use Rattle.iteration_domains.specs.Rows.{variable, variables}
 use Rattle.iteration_domains.specs.Sizes.{size, form_size, IsNarrow}
 use Rattle.iteration_domains.proofs.Points.{equalities_in-append, rows_in-append}
-use Rattle.iteration_domains.proofs.Surroundings.{length-variable, sized-variables}
+use Rattle.iteration_domains.proofs.Surroundings.{length-variable}
 use Rattle.iteration_domains.proofs.Sizes.{size-sum, size-multiple, size-variable, size-zeros}
 use Rattle.conflict_deps.specs.Conflicts.{Side, loops_of, difference_of_forms, spread, source_form, target_form}
 use Rattle.conflict_deps.specs.Conflicts.{map_test, same_subscripts, step, equal_turns, one_form, later_turn, After}
@@ -83,6 +83,83 @@ size-step n d k =
 
 pub size-one : (n : ℕ) → form_size (one_form n) ≡ 1
 size-one n = let z = size-zeros n in omega arith
+
+-- a form of a conflict's system: over its n variables, and its numbers lie far within 128 bits
+pub record Fits (n : ℕ) (f : Affine) : Type 0 where
+  pub variables : variables_of f ≡ n
+  pub numbers : form_size f ≤ 2 ^ 48
+
+-- a comparison of such
+abbrev pub FitsTest : ℕ → Test → Type 0
+FitsTest n test = Fits n (test_form test)
+
+pub equalities_fit : (n : ℕ) (tests : List Test) → All (FitsTest n) tests → All (Fits n) (equalities_in tests)
+equalities_fit n [] h = All-nil (Fits n)
+equalities_fit n (at_least f ∷ tests) h = equalities_fit n tests (All-tail (FitsTest n) (at_least f) tests h)
+equalities_fit n (equal f ∷ tests) h =
+    All-cons (Fits n) f (equalities_in tests) (All-head (FitsTest n) (equal f) tests h)
+    (equalities_fit n tests (All-tail (FitsTest n) (equal f) tests h))
+
+pub rows_fit : (n : ℕ) (tests : List Test) → All (FitsTest n) tests → All (Fits n) (rows_in tests)
+rows_fit n [] h = All-nil (Fits n)
+rows_fit n (at_least f ∷ tests) h =
+    All-cons (Fits n) f (rows_in tests) (All-head (FitsTest n) (at_least f) tests h)
+    (rows_fit n tests (All-tail (FitsTest n) (at_least f) tests h))
+rows_fit n (equal f ∷ tests) h = rows_fit n tests (All-tail (FitsTest n) (equal f) tests h)
+
+pub cells_fit : (d e m : ℕ) (fs gs : List Affine) → All (IsNarrow (d + m)) fs → All (IsNarrow (e + m)) gs
+    → All (FitsTest (d + e + m)) (same_subscripts d e fs gs)
+cells_fit d e m [] gs a b = All-nil (FitsTest (d + e + m))
+cells_fit d e m (f ∷ fs) [] a b = All-nil (FitsTest (d + e + m))
+cells_fit d e m (f ∷ fs) (g ∷ gs) a b =
+    let own = All-head (IsNarrow (d + m)) f fs a in
+    let other = All-head (IsNarrow (e + m)) g gs b in
+    let one = own.numbers in
+    let two = other.numbers in
+    let p = size-source d e f in
+    let q = size-target d g in
+    let r = size-difference (source_form d e f) (target_form d g) in
+    All-cons (FitsTest (d + e + m)) (equal (difference_of_forms (source_form d e f) (target_form d g)))
+    (same_subscripts d e fs gs)
+    (record {
+      variables = length-difference (d + e + m) (source_form d e f) (target_form d g)
+          (length-source d e m f own.variables)
+          (length-target d e m g other.variables);
+      numbers = omega arith;
+    })
+    (cells_fit d e m fs gs (All-tail (IsNarrow (d + m)) f fs a) (All-tail (IsNarrow (e + m)) g gs b))
+
+pub turns_fit : (n d k : ℕ) → All (FitsTest n) (equal_turns n d k)
+turns_fit n d zero = All-nil (FitsTest n)
+turns_fit n d (suc k) =
+    let s = size-step n d k in
+    All-append (FitsTest n) (equal_turns n d k) (equal (step n d k) ∷ []) (turns_fit n d k)
+    (All-cons (FitsTest n) (equal (step n d k)) [] (record { variables = length-step n d k; numbers = omega arith })
+    (All-nil (FitsTest n)))
+
+pub later_fits : (n d k : ℕ) → All (FitsTest n) (equal_turns n d k ++ later_turn n d k ∷ [])
+later_fits n d k =
+    let s = size-step n d k in
+    let z = size-one n in
+    let c = size-difference (step n d k) (one_form n) in
+    All-append (FitsTest n) (equal_turns n d k) (later_turn n d k ∷ []) (turns_fit n d k)
+    (All-cons (FitsTest n) (later_turn n d k) []
+    (record {
+      variables = length-difference n (step n d k) (one_form n) (length-step n d k) (length-zeros n);
+      numbers = omega arith;
+    })
+    (All-nil (FitsTest n)))
+
+-- both lists of such comparisons are over n variables
+equalities_over : (n : ℕ) (tests : List Test) → All (FitsTest n) tests
+    → All (λ f. variables_of f ≡ n) (equalities_in tests)
+equalities_over n tests h =
+    All-weaker (Fits n) (λ f. variables_of f ≡ n) (λ f fits. fits.variables) (equalities_in tests)
+    (equalities_fit n tests h)
+
+rows_over : (n : ℕ) (tests : List Test) → All (FitsTest n) tests → All (λ f. variables_of f ≡ n) (rows_in tests)
+rows_over n tests h =
+    All-weaker (Fits n) (λ f. variables_of f ≡ n) (λ f fits. fits.variables) (rows_in tests) (rows_fit n tests h)
 
 -- equal subscripts, one more
 pub cells_more : (d e : ℕ) (fs gs : List Affine) (at : ℕ) (f g h : Affine) (out next whole : List Affine)
@@ -156,7 +233,7 @@ common_end ks ls at h past so_far = let z = none ks ls at h past in omega arith
     none (k ∷ ks) (l ∷ ls) (suc at) h past = none ks ls at (omega arith) (omega arith)
 
 -- both domains
-equalities-kept : (h : Affine → Affine) (s : Constraints)
+pub equalities-kept : (h : Affine → Affine) (s : Constraints)
     → equalities_in (map (map_test h) (tests_of s)) ≡ map h s.equalities
 equalities-kept h s = both s.equalities s.rows
   where
@@ -168,7 +245,7 @@ equalities-kept h s = both s.equalities s.rows
     both [] fs = ups fs
     both (e ∷ es) fs = ap (λ (xs : List Affine). h e ∷ xs) (both es fs)
 
-rows-kept : (h : Affine → Affine) (s : Constraints) → rows_in (map (map_test h) (tests_of s)) ≡ map h s.rows
+pub rows-kept : (h : Affine → Affine) (s : Constraints) → rows_in (map (map_test h) (tests_of s)) ≡ map h s.rows
 rows-kept h s = both s.equalities s.rows
   where
     ups : (fs : List Affine) → rows_in (map (map_test h) (map at_least fs)) ≡ map h fs
@@ -229,9 +306,8 @@ domains_shown m s t rows first second equalities ups =
 -- rows that gain more equalities, or more rows
 gained : (n : ℕ) (old new : PairRows) (gains : List Test)
     → new.equalities.items ≡ old.equalities.items ++ equalities_in gains
-    → new.rows.items ≡ old.rows.items ++ rows_in gains → All (λ f. variables_of f ≡ n) (equalities_in gains)
-    → All (λ f. variables_of f ≡ n) (rows_in gains) → GainsTests n old new gains
-gained n old new gains equalities ups a b tests shows =
+    → new.rows.items ≡ old.rows.items ++ rows_in gains → All (FitsTest n) gains → GainsTests n old new gains
+gained n old new gains equalities ups fit tests shows =
     let P : Affine → Type 0 = λ f. variables_of f ≡ n in
     record {
       equalities = equalities ∙ (ap (λ (xs : List Affine). xs ++ equalities_in gains) shows.equalities
@@ -240,9 +316,10 @@ gained n old new gains equalities ups a b tests shows =
           ∙ sym (rows_in-append tests gains));
       sized = record {
         equalities_sized = subst (λ (fs : List Affine). All (λ f. variables_of f ≡ n) fs) (sym equalities)
-            (All-append P old.equalities.items (equalities_in gains) shows.sized.equalities_sized a);
+            (All-append P old.equalities.items (equalities_in gains) shows.sized.equalities_sized
+            (equalities_over n gains fit));
         rows_sized = subst (λ (fs : List Affine). All (λ f. variables_of f ≡ n) fs) (sym ups)
-            (All-append P old.rows.items (rows_in gains) shows.sized.rows_sized b);
+            (All-append P old.rows.items (rows_in gains) shows.sized.rows_sized (rows_over n gains fit));
       };
     }
 
@@ -251,18 +328,6 @@ pub no_rows_in_cells : (d e : ℕ) (fs gs : List Affine) → rows_in (same_subsc
 no_rows_in_cells d e [] gs = refl
 no_rows_in_cells d e (f ∷ fs) [] = refl
 no_rows_in_cells d e (f ∷ fs) (g ∷ gs) = no_rows_in_cells d e fs gs
-
-sized_cells : (d e m : ℕ) (fs gs : List Affine) → All (IsNarrow (d + m)) fs → All (IsNarrow (e + m)) gs
-    → All (λ f. variables_of f ≡ d + e + m) (equalities_in (same_subscripts d e fs gs))
-sized_cells d e m [] gs a b = All-nil (λ f. variables_of f ≡ d + e + m)
-sized_cells d e m (f ∷ fs) [] a b = All-nil (λ f. variables_of f ≡ d + e + m)
-sized_cells d e m (f ∷ fs) (g ∷ gs) a b =
-    All-cons (λ h. variables_of h ≡ d + e + m) (difference_of_forms (source_form d e f) (target_form d g))
-    (equalities_in (same_subscripts d e fs gs))
-    (length-difference (d + e + m) (source_form d e f) (target_form d g)
-    (length-source d e m f (All-head (IsNarrow (d + m)) f fs a).variables)
-    (length-target d e m g (All-head (IsNarrow (e + m)) g gs b).variables))
-    (sized_cells d e m fs gs (All-tail (IsNarrow (d + m)) f fs a) (All-tail (IsNarrow (e + m)) g gs b))
 
 pub cells_gained : (m : ℕ) (s t : Side) (old new : PairRows) → CanPair m s → CanPair m t
     → new.equalities.items ≡ old.equalities.items ++ equalities_in (cell_rows s t) → new.rows.items ≡ old.rows.items
@@ -273,9 +338,7 @@ cells_gained m s t old new a b equalities same =
     let none = no_rows_in_cells d e s.access.subscripts t.access.subscripts in
     gained (pair_size m s t) old new (cell_rows s t) equalities
     (same ∙ (sym (append-nil old.rows.items) ∙ ap (λ (xs : List Affine). old.rows.items ++ xs) (sym none)))
-    (sized_cells d e m s.access.subscripts t.access.subscripts a.narrow b.narrow)
-    (subst (λ (fs : List Affine). All (λ f. variables_of f ≡ d + e + m) fs) (sym none)
-    (All-nil (λ f. variables_of f ≡ d + e + m)))
+    (cells_fit d e m s.access.subscripts t.access.subscripts a.narrow b.narrow)
 
 -- the order
 no_rows_in_turns : (n d k : ℕ) → rows_in (equal_turns n d k) ≡ []
@@ -284,15 +347,6 @@ no_rows_in_turns n d (suc k) =
     rows_in-append (equal_turns n d k) (equal (step n d k) ∷ [])
     ∙ (append-nil (rows_in (equal_turns n d k)) ∙ no_rows_in_turns n d k)
 
-sized_turns : (n d k : ℕ) → All (λ f. variables_of f ≡ n) (equalities_in (equal_turns n d k))
-sized_turns n d zero = All-nil (λ f. variables_of f ≡ n)
-sized_turns n d (suc k) =
-    let P : Affine → Type 0 = λ f. variables_of f ≡ n in
-    subst (λ (fs : List Affine). All (λ f. variables_of f ≡ n) fs)
-    (sym (equalities_in-append (equal_turns n d k) (equal (step n d k) ∷ [])))
-    (All-append P (equalities_in (equal_turns n d k)) (step n d k ∷ []) (sized_turns n d k)
-    (All-cons P (step n d k) [] (length-step n d k) (All-nil P)))
-
 pub turns_gained : (n d k : ℕ) (old new : PairRows)
     → new.equalities.items ≡ old.equalities.items ++ equalities_in (equal_turns n d k) → new.rows.items ≡ old.rows.items
     → GainsTests n old new (equal_turns n d k)
@@ -300,15 +354,13 @@ turns_gained n d k old new equalities same =
     let none = no_rows_in_turns n d k in
     gained n old new (equal_turns n d k) equalities
     (same ∙ (sym (append-nil old.rows.items) ∙ ap (λ (xs : List Affine). old.rows.items ++ xs) (sym none)))
-    (sized_turns n d k)
-    (subst (λ (fs : List Affine). All (λ f. variables_of f ≡ n) fs) (sym none) (All-nil (λ f. variables_of f ≡ n)))
+    (turns_fit n d k)
 
 pub later_gained : (n d k : ℕ) (old new : PairRows)
     → new.equalities.items ≡ old.equalities.items ++ equalities_in (equal_turns n d k)
     → new.rows.items ≡ old.rows.items ++ difference_of_forms (step n d k) (one_form n) ∷ []
     → GainsTests n old new (equal_turns n d k ++ later_turn n d k ∷ [])
 later_gained n d k old new equalities ups =
-    let P : Affine → Type 0 = λ f. variables_of f ≡ n in
     let later = difference_of_forms (step n d k) (one_form n) in
     let es : equalities_in (equal_turns n d k ++ later_turn n d k ∷ []) ≡ equalities_in (equal_turns n d k) =
     equalities_in-append (equal_turns n d k) (later_turn n d k ∷ []) ∙ append-nil (equalities_in (equal_turns n d k)) in
@@ -318,12 +370,25 @@ later_gained n d k old new equalities ups =
     gained n old new (equal_turns n d k ++ later_turn n d k ∷ [])
     (equalities ∙ ap (λ (xs : List Affine). old.equalities.items ++ xs) (sym es))
     (ups ∙ ap (λ (xs : List Affine). old.rows.items ++ xs) (sym rs))
-    (subst (λ (fs : List Affine). All (λ f. variables_of f ≡ n) fs) (sym es) (sized_turns n d k))
-    (subst (λ (fs : List Affine). All (λ f. variables_of f ≡ n) fs) (sym rs)
-    (All-cons P later [] (length-difference n (step n d k) (one_form n) (length-step n d k) (length-zeros n))
-    (All-nil P)))
+    (later_fits n d k)
 
 -- the parameters
+pub ups_fit : (n j m : ℕ) → All (FitsTest n) (map at_least (variables n j m))
+ups_fit n j zero = All-nil (FitsTest n)
+ups_fit n j (suc m) =
+    let v = size-variable n j in
+    All-cons (FitsTest n) (at_least (variable n j)) (map at_least (variables n (j + 1) m))
+    (record { variables = length-variable n j; numbers = omega arith })
+    (ups_fit n (j + 1) m)
+
+pub no_equalities : (fs : List Affine) → equalities_in (map at_least fs) ≡ []
+no_equalities [] = refl
+no_equalities (f ∷ fs) = no_equalities fs
+
+pub all_rows : (fs : List Affine) → rows_in (map at_least fs) ≡ fs
+all_rows [] = refl
+all_rows (f ∷ fs) = ap (λ (xs : List Affine). f ∷ xs) (all_rows fs)
+
 pub up_gained : (m : ℕ) (s t : Side) (old new : PairRows) → new.equalities.items ≡ old.equalities.items
     → new.rows.items ≡ old.rows.items ++ variables (pair_size m s t) (loops_of s + loops_of t) m
     → GainsTests (pair_size m s t) old new (parameter_rows m s t)
@@ -334,18 +399,7 @@ up_gained m s t old new same ups =
     (same ∙ (sym (append-nil old.equalities.items)
     ∙ ap (λ (xs : List Affine). old.equalities.items ++ xs) (sym (no_equalities vs))))
     (ups ∙ ap (λ (xs : List Affine). old.rows.items ++ xs) (sym (all_rows vs)))
-    (subst (λ (fs : List Affine). All (λ f. variables_of f ≡ n) fs) (sym (no_equalities vs))
-    (All-nil (λ f. variables_of f ≡ n)))
-    (subst (λ (fs : List Affine). All (λ f. variables_of f ≡ n) fs) (sym (all_rows vs))
-    (sized-variables n (loops_of s + loops_of t) m))
-  where
-    no_equalities : (fs : List Affine) → equalities_in (map at_least fs) ≡ []
-    no_equalities [] = refl
-    no_equalities (f ∷ fs) = no_equalities fs
-
-    all_rows : (fs : List Affine) → rows_in (map at_least fs) ≡ fs
-    all_rows [] = refl
-    all_rows (f ∷ fs) = ap (λ (xs : List Affine). f ∷ xs) (all_rows fs)
+    (ups_fit n (loops_of s + loops_of t) m)
 
 -- all of them
 pub between_shown : (m : ℕ) (s t : Side) (a : After) (r0 r1 r2 r3 : PairRows)

@@ -5,13 +5,15 @@ ghost use Rattle.scop_syntax.specs.Order.{common};
 ghost use Rattle.iteration_domains.specs.Sizes.{HaveOneCount};
 ghost use Rattle.conflict_deps.specs.Conflicts.{afters_of, cell_rows, conflicts_of, dep_of, deps_between, end_of};
 ghost use Rattle.conflict_deps.specs.Conflicts.{conflicts_without as exact_without, deps_on, loops_of};
-ghost use Rattle.conflict_deps.specs.Conflicts.{may_conflict, pair_size, parameter_rows};
+ghost use Rattle.conflict_deps.specs.Conflicts.{may_conflict, parameter_rows};
 ghost use Rattle.conflict_deps.specs.Conflicts.{sides_in, sides_of, source_rows, target_rows};
+ghost use Rattle.conflict_deps.specs.HeldPairs.{source_of, target_of, width_of};
 ghost use Rattle.conflict_deps.specs.View.{CanPair, GainsTests, ShowsTests, order_at, side_of};
 
 use crate::forms::{
     push_equal_turns, push_later_turn, push_sources, push_subscripts, push_targets,
 };
+use crate::pair::Pair;
 use integer_sets::System;
 use iteration_domains::{
     AccessForms, Dep, DepEnd, Form, Model, StatementModel, push, push_variables,
@@ -50,66 +52,52 @@ fn common_loops(first: &[usize], second: &[usize]) -> usize
 }
 
 /// Whether the accesses are to one array, and one of them writes.
-fn can_conflict(source: &AccessOf, target: &AccessOf) -> bool
-    ensures { result ≡ may_conflict (side_of source.now) (side_of target.now) }
+fn can_conflict(pair: &Pair) -> bool
+    ensures { result ≡ may_conflict (source_of pair.now) (target_of pair.now) }
 {
-    let first = source.access;
-    let second = target.access;
-    first.array == second.array && (source.number == 0 || target.number == 0)
+    let first = pair.source.access;
+    let second = pair.target.access;
+    first.array == second.array && (pair.source.number == 0 || pair.target.number == 0)
 }
 
 /// That both instances run.
-fn both_domains(
-    alloc: Global,
-    parameters: usize,
-    source: &AccessOf,
-    target: &AccessOf,
-) -> Result<PairRows, AllocError>
-    requires source { CanPair parameters (side_of source.now) }
-    requires target { CanPair parameters (side_of target.now) }
-    ensures { IfOk result (λ rows.
-        ShowsTests (pair_size parameters (side_of source.now) (side_of target.now)) rows
-        (source_rows (side_of source.now) (side_of target.now)
-        ++ target_rows (side_of source.now) (side_of target.now))) }
+fn both_domains(alloc: Global, pair: &Pair) -> Result<PairRows, AllocError>
+    ensures { IfOk result (λ rows. ShowsTests (width_of pair.now) rows
+        (source_rows (source_of pair.now) (target_of pair.now)
+        ++ target_rows (source_of pair.now) (target_of pair.now))) }
 {
-    let first = source.statement.domain();
-    let second = target.statement.domain();
-    let loops = first.dimensions();
-    let others = second.dimensions();
+    let first = pair.source.statement.domain();
+    let second = pair.target.statement.domain();
     let mut equalities = Vec::new(alloc);
     let mut rows = Vec::new(alloc);
-    push_sources(&mut equalities, alloc, first.equalities(), loops, others)?;
-    push_targets(&mut equalities, alloc, second.equalities(), loops)?;
-    push_sources(&mut rows, alloc, first.rows(), loops, others)?;
-    push_targets(&mut rows, alloc, second.rows(), loops)?;
+    push_sources(
+        &mut equalities,
+        alloc,
+        first.equalities(),
+        pair.loops,
+        pair.others,
+    )?;
+    push_targets(&mut equalities, alloc, second.equalities(), pair.loops)?;
+    push_sources(&mut rows, alloc, first.rows(), pair.loops, pair.others)?;
+    push_targets(&mut rows, alloc, second.rows(), pair.loops)?;
     Ok(PairRows { equalities, rows })
 }
 
 /// And touch one cell.
-fn push_cell(
-    rows: &mut PairRows,
-    alloc: Global,
-    parameters: usize,
-    source: &AccessOf,
-    target: &AccessOf,
-) -> Result<(), AllocError>
-    requires source { CanPair parameters (side_of source.now) }
-    requires target { CanPair parameters (side_of target.now) }
-    ensures { OnOk result (GainsTests (pair_size parameters (side_of source.now) (side_of target.now)) rows.old rows.new
-        (cell_rows (side_of source.now) (side_of target.now))) }
+fn push_cell(rows: &mut PairRows, alloc: Global, pair: &Pair) -> Result<(), AllocError>
+    ensures { OnOk result (GainsTests (width_of pair.now) rows.old rows.new
+        (cell_rows (source_of pair.now) (target_of pair.now))) }
 {
-    let loops = source.statement.domain().dimensions();
-    let others = target.statement.domain().dimensions();
-    let first = source.access;
-    let second = target.access;
+    let first = pair.source.access;
+    let second = pair.target.access;
     push_subscripts(
         &mut rows.equalities,
         alloc,
         first.subscripts.as_slice(),
         second.subscripts.as_slice(),
-        loops,
-        others,
-        parameters,
+        pair.loops,
+        pair.others,
+        pair.parameters,
     )?;
     Ok(())
 }
@@ -136,28 +124,17 @@ fn push_order(
 }
 
 /// And no parameter is negative.
-fn push_up(
-    rows: &mut PairRows,
-    alloc: Global,
-    parameters: usize,
-    source: &AccessOf,
-    target: &AccessOf,
-) -> Result<(), AllocError>
-    requires source { loops_of (side_of source.now) ≤ 5 }
-    requires target { loops_of (side_of target.now) ≤ 5 }
-    requires few { parameters ≤ 4 }
-    ensures { OnOk result (GainsTests (pair_size parameters (side_of source.now) (side_of target.now)) rows.old rows.new
-        (parameter_rows parameters (side_of source.now) (side_of target.now))) }
+fn push_up(rows: &mut PairRows, alloc: Global, pair: &Pair) -> Result<(), AllocError>
+    ensures { OnOk result (GainsTests (width_of pair.now) rows.old rows.new
+        (parameter_rows pair.now.parameters (source_of pair.now) (target_of pair.now))) }
 {
-    let loops = source.statement.domain().dimensions();
-    let others = target.statement.domain().dimensions();
-    let before = loops + others;
+    let before = pair.loops + pair.others;
     push_variables(
         &mut rows.rows,
         alloc,
-        before + parameters,
+        before + pair.parameters,
         before,
-        parameters,
+        pair.parameters,
     )?;
     Ok(())
 }
@@ -174,41 +151,28 @@ fn end(side: &AccessOf) -> DepEnd
 }
 
 /// The dependence by which the turns of `equal` common loops are equal, and the next one is later or the text decides.
-fn dep_between(
-    alloc: Global,
-    parameters: usize,
-    source: &AccessOf,
-    target: &AccessOf,
-    equal: usize,
-    later: bool,
-) -> Result<Dep, AllocError>
-    requires source { CanPair parameters (side_of source.now) }
-    requires target { CanPair parameters (side_of target.now) }
-    requires one { HaveOneCount source.now.statement.now target.now.statement.now }
-    requires few { parameters ≤ 4 }
-    requires equal { equal ≤ loops_of (side_of target.now) }
-    requires later { IsTrue later → equal < loops_of (side_of target.now) }
-    ensures { IfOk result (λ dep. dep ≡ dep_of parameters (side_of source.now) (side_of target.now)
-        (order_at (pair_size parameters (side_of source.now) (side_of target.now)) (loops_of (side_of source.now))
-        equal later)) }
+fn dep_between(alloc: Global, pair: &Pair, equal: usize, later: bool) -> Result<Dep, AllocError>
+    requires equal { equal ≤ loops_of (target_of pair.now) }
+    requires later { IsTrue later → equal < loops_of (target_of pair.now) }
+    ensures { IfOk result (λ dep. dep ≡ dep_of pair.now.parameters (source_of pair.now) (target_of pair.now)
+        (order_at (width_of pair.now) (loops_of (source_of pair.now)) equal later)) }
 {
-    let first = source.statement.domain().dimensions();
-    let dimensions = first + target.statement.domain().dimensions();
-    let mut rows = both_domains(alloc, parameters, source, target)?;
-    push_cell(&mut rows, alloc, parameters, source, target)?;
+    let dimensions = pair.loops + pair.others;
+    let mut rows = both_domains(alloc, pair)?;
+    push_cell(&mut rows, alloc, pair)?;
     push_order(
         &mut rows,
         alloc,
-        dimensions + parameters,
-        first,
+        dimensions + pair.parameters,
+        pair.loops,
         equal,
         later,
     )?;
-    push_up(&mut rows, alloc, parameters, source, target)?;
-    let system = System::from_parts(dimensions, parameters, rows.equalities, rows.rows);
+    push_up(&mut rows, alloc, pair)?;
+    let system = System::from_parts(dimensions, pair.parameters, rows.equalities, rows.rows);
     Ok(Dep {
-        source: end(source),
-        target: end(target),
+        source: end(pair.source),
+        target: end(pair.target),
         depth: equal + 1,
         system,
     })
@@ -218,70 +182,45 @@ fn dep_between(
 fn push_dep(
     deps: &mut Vec<Dep>,
     alloc: Global,
-    parameters: usize,
-    source: &AccessOf,
-    target: &AccessOf,
+    pair: &Pair,
     equal: usize,
     later: bool,
 ) -> Result<(), AllocError>
-    requires source { CanPair parameters (side_of source.now) }
-    requires target { CanPair parameters (side_of target.now) }
-    requires one { HaveOneCount source.now.statement.now target.now.statement.now }
-    requires few { parameters ≤ 4 }
-    requires equal { equal ≤ loops_of (side_of target.now) }
-    requires later { IsTrue later → equal < loops_of (side_of target.now) }
+    requires equal { equal ≤ loops_of (target_of pair.now) }
+    requires later { IsTrue later → equal < loops_of (target_of pair.now) }
     ensures { OnOk result (deps.new.items
-        ≡ deps.old.items ++ dep_of parameters (side_of source.now) (side_of target.now)
-        (order_at (pair_size parameters (side_of source.now) (side_of target.now)) (loops_of (side_of source.now))
-        equal later) ∷ []) }
+        ≡ deps.old.items ++ dep_of pair.now.parameters (source_of pair.now) (target_of pair.now)
+        (order_at (width_of pair.now) (loops_of (source_of pair.now)) equal later) ∷ []) }
 {
-    let dep = dep_between(alloc, parameters, source, target, equal, later)?;
+    let dep = dep_between(alloc, pair, equal, later)?;
     push(deps, dep)
 }
 
 /// Appends the dependences from one access to another, by depth.
-fn push_depths(
-    deps: &mut Vec<Dep>,
-    alloc: Global,
-    parameters: usize,
-    source: &AccessOf,
-    target: &AccessOf,
-) -> Result<(), AllocError>
-    requires source { CanPair parameters (side_of source.now) }
-    requires target { CanPair parameters (side_of target.now) }
-    requires one { HaveOneCount source.now.statement.now target.now.statement.now }
-    requires few { parameters ≤ 4 }
+fn push_depths(deps: &mut Vec<Dep>, alloc: Global, pair: &Pair) -> Result<(), AllocError>
     ensures { OnOk result (deps.new.items ≡ deps.old.items
-        ++ map (dep_of parameters (side_of source.now) (side_of target.now))
-        (afters_of parameters (side_of source.now) (side_of target.now))) }
+        ++ map (dep_of pair.now.parameters (source_of pair.now) (target_of pair.now))
+        (afters_of pair.now.parameters (source_of pair.now) (target_of pair.now))) }
 {
-    let common = common_loops(source.statement.loops(), target.statement.loops());
+    let source = pair.source.statement;
+    let target = pair.target.statement;
+    let common = common_loops(source.loops(), target.loops());
     for equal in 0..common {
-        push_dep(deps, alloc, parameters, source, target, equal, true)?;
+        push_dep(deps, alloc, pair, equal, true)?;
     }
-    if source.statement.number() < target.statement.number() {
-        push_dep(deps, alloc, parameters, source, target, common, false)?;
+    if source.number() < target.number() {
+        push_dep(deps, alloc, pair, common, false)?;
     }
     Ok(())
 }
 
 /// Appends the dependences from one access to another, if one of them writes what the other touches.
-fn push_between(
-    deps: &mut Vec<Dep>,
-    alloc: Global,
-    parameters: usize,
-    source: &AccessOf,
-    target: &AccessOf,
-) -> Result<(), AllocError>
-    requires source { CanPair parameters (side_of source.now) }
-    requires target { CanPair parameters (side_of target.now) }
-    requires one { HaveOneCount source.now.statement.now target.now.statement.now }
-    requires few { parameters ≤ 4 }
-    ensures { OnOk result (deps.new.items
-        ≡ deps.old.items ++ deps_between parameters (side_of source.now) (side_of target.now)) }
+fn push_between(deps: &mut Vec<Dep>, alloc: Global, pair: &Pair) -> Result<(), AllocError>
+    ensures { OnOk result (deps.new.items ≡ deps.old.items
+        ++ deps_between pair.now.parameters (source_of pair.now) (target_of pair.now)) }
 {
-    if can_conflict(source, target) {
-        push_depths(deps, alloc, parameters, source, target)
+    if can_conflict(pair) {
+        push_depths(deps, alloc, pair)
     } else {
         Ok(())
     }
@@ -304,13 +243,22 @@ fn push_to_statement(
 {
     let accesses = statement.accesses();
     let _loops = statement.loops();
+    let loops = source.statement.domain().dimensions();
+    let others = statement.domain().dimensions();
     for number in 0..accesses.len() {
         let target = AccessOf {
             statement,
             number,
             access: &accesses[number],
         };
-        push_between(deps, alloc, parameters, source, &target)?;
+        let pair = Pair {
+            parameters,
+            source: &*source,
+            target: &target,
+            loops,
+            others,
+        };
+        push_between(deps, alloc, &pair)?;
     }
     Ok(())
 }

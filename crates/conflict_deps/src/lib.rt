@@ -9,6 +9,7 @@
 pub mod conflict_laws;
 mod deps;
 mod forms;
+mod pair;
 pub mod source_laws;
 mod worked_rows;
 

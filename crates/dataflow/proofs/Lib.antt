@@ -6,7 +6,6 @@ pub mod Maxima
 pub mod ProblemPoints
 pub mod CandidateSolutions
 pub mod ResolvedWriters
-pub mod Sizes
 pub mod PosableCandidates
 pub mod Lists
 pub mod Fits

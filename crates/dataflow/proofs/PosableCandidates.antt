@@ -1,10 +1,9 @@
 -- A candidate of a kernel's model can be posed: nothing on the way is too wide.
 use Rattle.scop_syntax.proofs.Common.{◌≡◌, ℕ, zero, suc, ◌<◌, ◌+◌, ◌-◌, ◌*◌, ◌^◌, ◌≤◌, ℤ, negsuc, List, [], ◌∷◌, ◌++◌}
 use Rattle.scop_syntax.proofs.Common.{length, map, Some, take, drop, get_or, ap, ap₂, subst, sym, ◌∙◌, refl, arith}
-use Rattle.scop_syntax.proofs.Common.{length-append, All, slice_get, nat_lt, flat_map, length-map, All-nil, All-cons}
-use Rattle.scop_syntax.proofs.Common.{All-head, All-tail, All-append, Affine, composed, AreAtMost, IsKernel, IsPlaced}
-use Rattle.scop_syntax.proofs.Common.{ranks_of, In, common, Placed, statements_of, Program, in_map_from, in_if_from}
-use Rattle.scop_syntax.proofs.Common.{in_from_place}
+use Rattle.scop_syntax.proofs.Common.{length-append, All, slice_get, length-map, All-nil, All-cons, All-head, All-tail}
+use Rattle.scop_syntax.proofs.Common.{All-append, Affine, composed, AreAtMost, IsKernel, IsPlaced, ranks_of, In, Placed}
+use Rattle.scop_syntax.proofs.Common.{statements_of, Program, in_from_place, All-weaker}
 use Rattle.affine_forms.specs.Parts.{variables_of}
 use Rattle.integer_sets.specs.Constraints.{Constraints, variables_in}
 use Rattle.quast_joins.specs.declared.way.Way.{Way}
@@ -13,14 +12,15 @@ use Rattle.iteration_domains.specs.Rows.{variable, variables}
 use Rattle.iteration_domains.specs.Constraints.{equalities_in, rows_in}
 use Rattle.iteration_domains.specs.Model.{Modelled, KernelModel, modelled, model_of}
 use Rattle.iteration_domains.specs.Dependence.{Dependence}
-use Rattle.iteration_domains.specs.Sizes.{size, form_size, forms_size, CanCompose, IsKernelModel}
+use Rattle.iteration_domains.specs.Sizes.{size, form_size, forms_size, CanCompose, IsKernelModel, IsNarrow}
+use Rattle.iteration_domains.proofs.NarrowStatements.{statement_narrow}
 use Rattle.iteration_domains.proofs.TreeStatements.{model_is_one}
 use Rattle.iteration_domains.proofs.Sizes.{size-multiple, size-variable, size-variables}
 use Rattle.iteration_domains.proofs.Surroundings.{length-variables, sized-variables}
-use Rattle.conflict_deps.specs.Conflicts.{Side, sides_in, loops_of, pair_size, dep_of, afters_of, may_conflict}
-use Rattle.conflict_deps.specs.Conflicts.{deps_between, conflicts_of, source_form, target_form, cell_rows}
+use Rattle.conflict_deps.specs.Conflicts.{loops_of, pair_size, conflicts_of, source_form, target_form, cell_rows}
 use Rattle.conflict_deps.specs.Parts.{HasParts}
-use Rattle.conflict_deps.proofs.Sides.{in_flat_map_from}
+use Rattle.conflict_deps.proofs.Shapes.{Fits}
+use Rattle.conflict_deps.proofs.Systems.{conflict_fits}
 use Rattle.dataflow.specs.Posed.{CanPose, IsSmall}
 use Rattle.dataflow.specs.Problems.{top, below, all_below, moved_pair, moved_variables, flat, own, own_equalities_of}
 use Rattle.dataflow.specs.Problems.{reader_begins, turned}
@@ -28,29 +28,16 @@ use Rattle.dataflow.specs.Sources.{writer_end, reader_end}
 use Rattle.dataflow.proofs.CandidateSolutions.{writer_of, reader_of, writer_slot, reader_slot}
 use Rattle.dataflow.proofs.Lists.{equalities_put}
 use Rattle.dataflow.proofs.ResolvedWriters.{length-all_below, size-pair}
-use Rattle.dataflow.proofs.Sizes.{AreSmall, all_small, side_small, statement_of_model, order_small, between_small}
 
--- all numbers of a conflict's system are small
-system_small : (program : Program) (dep : Dependence) → IsKernel program
-    → ((q : Placed) → In q (statements_of program) → IsPlaced (ranks_of program) (length program.parameters) q)
-    → In dep (conflicts_of (model_of program)) → AreSmall dep.system.equalities × AreSmall dep.system.rows
-system_small program dep is placed h =
-    let m = length program.parameters in
-    let all = sides_in (model_of program) in
-    let s = in_flat_map_from (λ (s : Side). flat_map (deps_between m s) all) all dep h in
-    let t = in_flat_map_from (deps_between m s.0) all dep s.2 in
-    let b = in_if_from (may_conflict s.0 t.0) dep (map (dep_of m s.0 t.0) (afters_of m s.0 t.0)) t.2 in
-    let a = in_map_from (dep_of m s.0 t.0) dep (afters_of m s.0 t.0) b.1 in
-    let own = side_small program s.0 is placed s.1 in
-    let other = side_small program t.0 is placed t.1 in
-    let order = order_small (pair_size m s.0 t.0) (loops_of s.0) 0
-    (common s.0.statement.loops t.0.statement.loops) (nat_lt s.0.statement.number t.0.statement.number) a.0 a.1 in
-    let small = between_small m s.0 t.0 a.0 own other order in (
-      subst (λ (d : Dependence). AreSmall d.system.equalities) (sym a.2) small.0,
-      subst (λ (d : Dependence). AreSmall d.system.rows) (sym a.2) small.1,
-    )
+-- narrow forms are small
+narrow_small : (n : ℕ) (fs : List Affine) → All (IsNarrow n) fs → All IsSmall fs
+narrow_small n fs all =
+    All-weaker (IsNarrow n) IsSmall (λ f is. let s = is.numbers in omega arith) fs all
 
--- so it can be posed, its source as the writer
+fits_small : (n : ℕ) (fs : List Affine) → All (Fits n) fs → All IsSmall fs
+fits_small n fs all = All-weaker (Fits n) IsSmall (λ f fits. fits.numbers) fs all
+
+-- a conflict can be posed, its source as the writer
 pose_behind : (program : Program) (dep : Dependence) (p : HasParts (model_of program) dep) → IsKernel program
     → ((q : Placed) → In q (statements_of program) → IsPlaced (ranks_of program) (length program.parameters) q)
     → In dep (conflicts_of (model_of program))
@@ -62,10 +49,11 @@ pose_behind program dep p is placed h =
     let t = p.to in
     let ds = s.statement.domain in
     let dt = t.statement.domain in
-    let small = system_small program dep is placed h in
-    let own = statement_of_model program s.statement is placed
+    let fit = conflict_fits program dep is placed h in
+    let n = variables_in dep.system in
+    let own = statement_narrow program s.statement is placed
     (in_from_place model.statements dep.source.statement s.statement p.source) in
-    let other = statement_of_model program t.statement is placed
+    let other = statement_narrow program t.statement is placed
     (in_from_place model.statements dep.target.statement t.statement p.target) in
     let e1 = map (source_form (loops_of s) (loops_of t)) ds.equalities in
     let e2 = map (target_form (loops_of s)) dt.equalities in
@@ -94,10 +82,10 @@ pose_behind program dep p is placed h =
       variables = ap (λ (d : Dependence). variables_in d.system) p.is;
       equalities = omega arith;
       rows = omega arith;
-      small_equalities = all_small dep.system.equalities small.0;
-      small_rows = all_small dep.system.rows small.1;
-      small_reader_equalities = all_small dt.equalities other.equalities;
-      small_reader_rows = all_small dt.rows other.rows;
+      small_equalities = fits_small n dep.system.equalities fit.equalities;
+      small_rows = fits_small n dep.system.rows fit.rows;
+      small_reader_equalities = narrow_small (loops_of t + m) dt.equalities other.equalities;
+      small_reader_rows = narrow_small (loops_of t + m) dt.rows other.rows;
     }
 
 -- and either way
@@ -110,7 +98,8 @@ can_pose Later program dep p is placed h = pose_behind program dep p is placed h
 can_pose Earlier program dep p is placed h =
     let can = pose_behind program dep p is placed h in
     let source = p.from.statement in
-    let own = statement_of_model program source is placed
+    let k = loops_of p.from + length program.parameters in
+    let own = statement_narrow program source is placed
     (in_from_place (model_of program).statements dep.source.statement source p.source) in
     let variables = can.variables in
     let equalities = can.equalities in
@@ -125,8 +114,8 @@ can_pose Earlier program dep p is placed h =
       rows = omega arith;
       small_equalities = can.small_equalities;
       small_rows = can.small_rows;
-      small_reader_equalities = all_small source.domain.equalities own.equalities;
-      small_reader_rows = all_small source.domain.rows own.rows;
+      small_reader_equalities = narrow_small k source.domain.equalities own.equalities;
+      small_reader_rows = narrow_small k source.domain.rows own.rows;
     }
 
 -- the sizes of what is put in

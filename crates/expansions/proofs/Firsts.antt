@@ -1,6 +1,6 @@
 -- Lists one behind another, and what a function gives for the numbers below n.
 use Rattle.scop_syntax.proofs.Common.{◌≡◌, ◌<◌, ◌≤◌, ◌+◌, ℕ, zero, suc, List, [], ◌∷◌, ◌++◌, Some, ap, refl, sym, ◌∙◌}
-use Rattle.scop_syntax.proofs.Common.{arith, length, drop, get_or, subst, slice_get, get_or_from_slice_get, nat_cases}
+use Rattle.scop_syntax.proofs.Common.{arith, length, get_or, subst, slice_get, get_or_from_slice_get, nat_cases}
 use Rattle.scop_syntax.proofs.Common.{there_is}
 use Rattle.std.proofs.lemmas.List.{append_assoc, length-append}
 use Rattle.expansions.specs.steps.Marks.{firsts}
@@ -44,22 +44,6 @@ firsts_more f k old now new x is told e =
     ∙ (append_assoc old (firsts f k) (x ∷ [])
     ∙ (ap (λ (z : ℕ). old ++ (firsts f k ++ z ∷ [])) told
     ∙ ap (λ (n : ℕ). old ++ firsts f n) next)))
-
--- what comes next of a list, and that none is left
-pub next_left : {A : Type 0} (xs : List A) (n : ℕ) (x : A) (rest : List A) → x ∷ rest ≡ drop n xs
-    → (slice_get xs n ≡ Some x) × (rest ≡ drop (suc n) xs)
-next_left [] zero x rest e = absurd cc
-next_left [] (suc n) x rest e = absurd cc
-next_left {A} (y ∷ xs) zero x rest e =
-    let head : x ≡ y = cc in
-    let tail : rest ≡ xs = cc in
-    (ap Some (sym head), tail)
-next_left (y ∷ xs) (suc n) x rest e = next_left xs n x rest e
-
-pub none_left : {A : Type 0} (xs : List A) (n : ℕ) → [] ≡ drop n xs → length xs ≤ n
-none_left [] n e = omega arith
-none_left (x ∷ xs) zero e = absurd cc
-none_left (x ∷ xs) (suc n) e = let l = none_left xs n e in omega (arith, l)
 
 -- an element of a list at its index
 pub got_at : {A : Type 0} (xs : List A) (k : ℕ) (x : A) → k < length xs → x ≡ get_or xs k x → slice_get xs k ≡ Some x

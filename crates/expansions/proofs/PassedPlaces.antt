@@ -1,25 +1,20 @@
 -- A pass over the walk goes on by one place.
-use Rattle.scop_syntax.proofs.Common.{◌≡◌, ◌<◌, ◌≤◌, ◌*◌, ◌^◌, ℕ, suc, ℤ, List, [], ◌∷◌, Some, None, ap, sym, refl, ◌∙◌}
+use Rattle.scop_syntax.proofs.Common.{◌≡◌, ◌<◌, ◌≤◌, ◌*◌, ℕ, suc, ℤ, List, [], ◌∷◌, Some, None, ap, sym, refl, ◌∙◌}
 use Rattle.scop_syntax.proofs.Common.{subst, arith, length, map, get_or, drop, Option, option_and_then, slice_get}
-use Rattle.scop_syntax.proofs.Common.{option_map, length-map, slice_get-map, slice_get_past, slice_get_within, Affine}
-use Rattle.scop_syntax.proofs.Common.{value_of, Cell, accesses, cell_at, cell_of, reads, written, IsCell, cell_number}
-use Rattle.scop_syntax.proofs.Common.{layout, WithinLimits, Access, Program, Statement, wrapped, Instance, Visit}
+use Rattle.scop_syntax.proofs.Common.{option_map, length-map, slice_get_past, slice_get_within, Affine}
+use Rattle.scop_syntax.proofs.Common.{value_of, Cell, accesses, cell_at, cell_of, reads, written, cell_number}
+use Rattle.scop_syntax.proofs.Common.{layout, Access, Program, wrapped, Instance, Visit}
 use Rattle.scop_syntax.proofs.Common.{instance, walk_of, last_of, last_writer, in_from_place, nat_cases, there_is}
 use Rattle.tile_table.specs.declared.table.Row.{Row}
 use Rattle.tile_table.specs.declared.table.Table.{Table}
-use Rattle.tile_table.proofs.Visits.{HasRow, WalkLaws, cell_told, reads_told, row_of}
+use Rattle.tile_table.proofs.NextPlaces.{AreSmall, NextPlace, as_many, next_place, next_row, none_left, same_row, told_at}
+use Rattle.tile_table.proofs.Visits.{HasRow, WalkLaws, reads_told, row_of}
 use Rattle.expansions.specs.Expansions.{AreSourcesOf, number_of}
 use Rattle.expansions.specs.steps.Marks.{AreKept, HasPassed, IsMarked, mark_of, read_marks}
 use Rattle.expansions.specs.steps.Passing.{CanPass, IsOnItsWay, ReadFew}
 use Rattle.expansions.specs.declared.sourcing.Pass.{Pass}
 use Rattle.expansions.specs.declared.sourcing.Sources.{Sources}
-use Rattle.expansions.proofs.Firsts.{next_left, none_left}
 use Rattle.expansions.proofs.KeptMarks.{HaveOwnNumbers, kept_more, none_kept}
-
--- the numbers of cells are small
-abbrev pub AreSmall : Type 0
-AreSmall = (program : Program) (params : List ℤ) (c : Cell) → WithinLimits program params
-    → IsCell (layout program params) c → cell_number (layout program params) c < 2 ^ 22
 
 -- the source of an access, by the access itself
 last_told : (walk : List Visit) (n a : ℕ) (v : Visit) → slice_get walk n ≡ Some v → (o : Option Access)
@@ -53,99 +48,42 @@ module _ (program : Program) (params : List ℤ) (table : Table) (most : ℕ) (c
   walk = walk_of program params
 
   -- the place that comes next
-  pub record NextPlace (x : Instance) (rest : List Instance) (pass : Pass) : Type 0 where
-    pub visit : Visit
-    pub at : slice_get walk pass.place ≡ Some visit
-    pub same : instance visit ≡ x
-    pub left : rest ≡ drop (suc pass.place) (map instance walk)
-
-  pub next_place : (x : Instance) (all rest : List Instance) (pass : Pass) → all ≡ x ∷ rest
-      → IsOnItsWay program params most all pass → NextPlace x rest pass
-  next_place x all rest pass is way =
-      let next = next_left (map instance walk) pass.place x rest (sym is ∙ way.left) in
-      let less = slice_get_within (map instance walk) pass.place x next.0 in
-      let long = length-map walk instance in
-      let there = there_is walk pass.place (omega (arith, less, long)) in
-      let both : Some (instance there.0) ≡ Some x =
-      sym (ap (option_map instance) there.1) ∙ (sym (slice_get-map instance walk pass.place) ∙ next.0) in
-      record { visit = there.0; at = there.1; same = cc; left = next.1 }
+  abbrev NextOf : Instance → List Instance → Pass → Type 0
+  NextOf x rest pass = NextPlace program params pass.place x rest
 
   -- it is one of few
-  pub place_few : (x : Instance) (rest : List Instance) (pass : Pass) → NextPlace x rest pass → pass.place < 4194304
+  pub place_few : (x : Instance) (rest : List Instance) (pass : Pass) → NextOf x rest pass → pass.place < 4194304
   place_few x rest pass next =
       let less = slice_get_within walk pass.place next.visit next.at in
       let few = can.few in
       omega (arith, less, few)
 
   module _ (laws : WalkLaws) where
-    has_row : (x : Instance) (rest : List Instance) (pass : Pass) (next : NextPlace x rest pass)
+    abbrev has_row : (x : Instance) (rest : List Instance) (pass : Pass) (next : NextOf x rest pass)
         → HasRow program params table x next.visit
-    has_row x rest pass next =
-        row_of laws program params table x next.visit can.told
-        (record { walked = in_from_place walk pass.place next.visit next.at; same = next.same })
+    has_row x rest pass = next_row program params table can.told laws pass.place x rest
 
-    pub row_within : (x : Instance) (rest : List Instance) (pass : Pass) → NextPlace x rest pass
-        → x.number < length table.rows.items
-    row_within x rest pass next =
-        let has = has_row x rest pass next in
-        slice_get_within table.rows.items x.number has.row has.told
-
-    -- the row has a form for each access of the place
-    as_many : (x : Instance) (rest : List Instance) (pass : Pass) (next : NextPlace x rest pass)
-        → length (has_row x rest pass next).row.cells.items ≡ length (accesses next.visit.body)
-    as_many x rest pass next =
-        let has = has_row x rest pass next in
-        has.fits.forms.count ∙ ap (λ (s : Statement). length (accesses s)) has.body
-
-    same_row : (x : Instance) (rest : List Instance) (pass : Pass) (next : NextPlace x rest pass) (row : Row)
-        → slice_get table.rows.items x.number ≡ Some row → (has_row x rest pass next).row ≡ row
-    same_row x rest pass next row told =
-        let has = has_row x rest pass next in
-        let both : Some has.row ≡ Some row = sym has.told ∙ told in
-        cc
-
-    pub row_some : (x : Instance) (rest : List Instance) (pass : Pass) → NextPlace x rest pass → (row : Row)
+    pub row_some : (x : Instance) (rest : List Instance) (pass : Pass) → NextOf x rest pass → (row : Row)
         → slice_get table.rows.items x.number ≡ Some row → 0 < length row.cells.items
     row_some x rest pass next row told =
         let many : length (has_row x rest pass next).row.cells.items ≡ suc (length (reads next.visit.body)) =
-        as_many x rest pass next in
-        subst (λ (r : Row). 0 < length r.cells.items) (same_row x rest pass next row told) (omega (arith, many))
+        as_many program params table can.told laws pass.place x rest next in
+        subst (λ (r : Row). 0 < length r.cells.items) (same_row program params table can.told laws pass.place x rest next row told) (omega (arith, many))
 
-    -- the row tells the cells of the place
     module _ (small : AreSmall) where
-      told_at : (x : Instance) (rest : List Instance) (pass : Pass) (next : NextPlace x rest pass) (a : ℕ)
-          (access : Access) (form : Affine) → slice_get (accesses next.visit.body) a ≡ Some access
-          → slice_get (has_row x rest pass next).row.cells.items a ≡ Some form
-          → IsCell (layout program params) (cell_of access next.visit.point)
-          × (wrapped (value_of form x.turns) ≡ cell_number (layout program params) (cell_of access next.visit.point))
-      told_at x rest pass next a access form accessed formed =
-          let v = next.visit in
-          let inside = can.inside v (in_from_place walk pass.place v next.at) access
-          (in_from_place (accesses v.body) a access accessed) in (
-            inside,
-            cell_told program params table x v a access (wrapped (value_of form x.turns)) inside
-                (small program params (cell_of access v.point) can.limits inside) (has_row x rest pass next) accessed
-                (λ other e. one_form form other (sym formed ∙ e)),
-          )
-        where
-          one_form : (form other : Affine) → Some form ≡ Some other
-              → wrapped (value_of form x.turns) ≡ wrapped (value_of other x.turns)
-          one_form form other e =
-              let same : form ≡ other = cc in ap (λ (f : Affine). wrapped (value_of f x.turns)) same
-
       -- what is kept of a read is its source
-      source_kept : (x : Instance) (rest : List Instance) (pass : Pass) (next : NextPlace x rest pass) (a : ℕ)
+      source_kept : (x : Instance) (rest : List Instance) (pass : Pass) (next : NextOf x rest pass) (a : ℕ)
           → AreKept (layout program params) walk most pass.place pass.marks.items pass.numbers.items
           → mark_of pass.marks.items x.turns (slice_get (has_row x rest pass next).row.cells.items a)
           ≡ number_of (last_of walk pass.place a)
       source_kept x rest pass next a kept =
           let v = next.visit in
           let cells = (has_row x rest pass next).row.cells.items in
-          let many = as_many x rest pass next in
+          let many = as_many program params table can.told laws pass.place x rest next in
           nat_cases a (length (accesses v.body))
           (λ less. let access = there_is (accesses v.body) a less in
           let form = there_is cells a (omega (arith, many, less)) in
-          let told = told_at x rest pass next a access.0 form.0 access.1 form.1 in
+          let told = told_at program params table can.told laws can.limits can.inside small pass.place x rest next a access.0 form.0 access.1 form.1 in
           source_there walk pass.place a v pass.marks.items x.turns cells
           (cell_number (layout program params) (cell_of access.0 v.point)) access.0 form.0 next.at access.1 form.1 told.1
           (kept.marks_are (cell_of access.0 v.point) told.0))
@@ -155,7 +93,7 @@ module _ (program : Program) (params : List ℤ) (table : Table) (most : ℕ) (c
           (omega (arith, l, many)))
 
       -- the pass has gone on
-      gone_on : (x : Instance) (rest : List Instance) (before after : Pass) (next : NextPlace x rest before)
+      gone_on : (x : Instance) (rest : List Instance) (before after : Pass) (next : NextOf x rest before)
           → HaveOwnNumbers → HasPassed (has_row x rest before next).row x.turns most before after
           → AreKept (layout program params) walk most before.place before.marks.items before.numbers.items
           → IsOnItsWay program params most rest after
@@ -163,9 +101,9 @@ module _ (program : Program) (params : List ℤ) (table : Table) (most : ℕ) (c
           let v = next.visit in
           let extents = layout program params in
           let row = (has_row x rest before next).row in
-          let many : length row.cells.items ≡ suc (length (reads v.body)) = as_many x rest before next in
+          let many : length row.cells.items ≡ suc (length (reads v.body)) = as_many program params table can.told laws before.place x rest next in
           let form = there_is row.cells.items 0 (omega (arith, many)) in
-          let told = told_at x rest before next 0 v.body.place form.0 refl form.1 in
+          let told = told_at program params table can.told laws can.limits can.inside small before.place x rest next 0 v.body.place form.0 refl form.1 in
           let marked : IsMarked (cell_number extents (written v)) before.place before.marks.items after.marks.items =
           subst (λ (k : ℕ). IsMarked k before.place before.marks.items after.marks.items) told.1 (has.marks form.0 form.1) in
           let less = slice_get_within walk before.place v next.at in
@@ -184,9 +122,9 @@ module _ (program : Program) (params : List ℤ) (table : Table) (most : ℕ) (c
           → HasPassed row x.turns most before after → IsOnItsWay program params most all before
           → IsOnItsWay program params most rest after
       step_on x all rest before after row is own told has way =
-          let next = next_place x all rest before is way in
+          let next = next_place program params before.place x all rest is way.left in
           gone_on x rest before after next own
-          (subst (λ (r : Row). HasPassed r x.turns most before after) (sym (same_row x rest before next row told)) has)
+          (subst (λ (r : Row). HasPassed r x.turns most before after) (sym (same_row program params table can.told laws before.place x rest next row told)) has)
           way.kept
 
     -- no place reads more than the table's rows

@@ -9,4 +9,5 @@ pub mod AddedConstraints
 pub mod FixedForms
 pub mod OutsideLaws
 pub mod OutsideSteps
+pub mod NarrowStatements
 pub mod Asking

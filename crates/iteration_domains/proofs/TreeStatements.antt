@@ -1,20 +1,17 @@
 -- The statements of a tree by their models, from the place at which the tree stands.
-use Rattle.scop_syntax.proofs.Common.{◌≡◌, ℕ, zero, suc, ◌+◌, ◌-◌, ◌*◌, ◌^◌, ◌<◌, ◌≤◌, List, [], ◌∷◌, ◌++◌, length, map}
-use Rattle.scop_syntax.proofs.Common.{drop, get_or, ap, ap₂, subst, sym, ◌∙◌, refl, arith, length-append, inl, inr}
-use Rattle.scop_syntax.proofs.Common.{take, take-append_seam, All, slice_get, Some, map-append, length-map, take-map}
-use Rattle.scop_syntax.proofs.Common.{All-nil, All-cons, All-head, All-tail, All-append, Affine, composed, Access}
-use Rattle.scop_syntax.proofs.Common.{Expression, read, affine, negated, complemented, cast, binary, shifted_left}
-use Rattle.scop_syntax.proofs.Common.{shifted_right, narrowed, Right, assigned, combined, moved_left, moved_right}
-use Rattle.scop_syntax.proofs.Common.{combined_narrow, moved_left_narrow, Statement, Test, at_least, equal, Head, Tree}
-use Rattle.scop_syntax.proofs.Common.{loop, guard, statement, Trees, none, more, Program, reads_of, reads_with}
-use Rattle.scop_syntax.proofs.Common.{IsAffine, IsAccess, IsExpression, IsRight, IsStatement, AreScopes, AreTrees}
-use Rattle.scop_syntax.proofs.Common.{IsKernel, ranks_of, statements_in, Scope, round, under, loops_in, Placed}
-use Rattle.scop_syntax.proofs.Common.{in_loop_of, in_guard_of, placed_all, statements_of, In, tree_of, items_of}
-use Rattle.scop_syntax.proofs.Common.{length-placed, item_here}
+use Rattle.scop_syntax.proofs.Common.{◌≡◌, ℕ, zero, suc, ◌+◌, ◌-◌, ◌*◌, ◌^◌, ◌<◌, ◌≤◌, List, [], ◌∷◌, ◌++◌, length}
+use Rattle.scop_syntax.proofs.Common.{map, drop, get_or, ap, ap₂, subst, sym, ◌∙◌, refl, arith, length-append, inl}
+use Rattle.scop_syntax.proofs.Common.{inr, take, take-append_seam, All, slice_get, Some, map-append, length-map}
+use Rattle.scop_syntax.proofs.Common.{take-map, All-nil, All-cons, All-head, All-tail, All-append, All-weaker, Affine}
+use Rattle.scop_syntax.proofs.Common.{composed, Access, Statement, Test, at_least, equal, Head, Tree, loop, guard}
+use Rattle.scop_syntax.proofs.Common.{statement, Trees, none, more, Program, accesses, in_at, IsAffine, IsAccess}
+use Rattle.scop_syntax.proofs.Common.{IsStatement, AreScopes, AreTrees, IsKernel, ranks_of, statements_in, Scope}
+use Rattle.scop_syntax.proofs.Common.{round, under, loops_in, Placed, in_loop_of, in_guard_of, placed_all}
+use Rattle.scop_syntax.proofs.Common.{statements_of, In, tree_of, items_of, length-placed, item_here}
+use Rattle.scop_syntax.proofs.Bounds.{access_is}
 use Rattle.std.proofs.lemmas.List.{append_assoc}
 use Rattle.integer_sets.specs.Parts.{variables_of}
 use Rattle.integer_sets.specs.Constraints.{IsSized, Constraints, system_of}
-use Rattle.scop_syntax.specs.Tree.{constant}
 use Rattle.scop_syntax.specs.Statements.{placed}
 use Rattle.scop_syntax.specs.declared.tree.Item.{Item}
 use Rattle.iteration_domains.specs.Rows.{variable, variables, composed_test, iterator, within_loop, rows_from}
@@ -24,8 +21,7 @@ use Rattle.iteration_domains.specs.Model.{Modelled, statement_model, composed_ac
 use Rattle.iteration_domains.specs.Sizes.{forms_size, grown, CanCompose, IsNarrow, IsModelled, HaveOneCount}
 use Rattle.iteration_domains.specs.Sizes.{IsKernelModel}
 use Rattle.iteration_domains.specs.Standing.{Gathered, finished, starting, CanEnter}
-use Rattle.iteration_domains.specs.Path.{Path, path_at, placed_at, modelled_in, CanModel, CanAccess, CanRead}
-use Rattle.iteration_domains.specs.Path.{CanReadRight}
+use Rattle.iteration_domains.specs.Path.{Path, path_at, placed_at, modelled_in, CanModel, CanAccess}
 use Rattle.iteration_domains.proofs.Points.{equalities_in-append, rows_in-append}
 use Rattle.iteration_domains.proofs.Sizes.{size-composed, sizes-within, size-variables}
 use Rattle.iteration_domains.proofs.Surroundings.{grown_more, grown_five, can_compose, length-variable, sized-variables}
@@ -48,7 +44,7 @@ sized_tests n forms (equal f ∷ tests) sized =
     let rest = equalities_in (map (composed_test n forms) tests) in
     (All-cons (Over n) (composed f forms n) rest (length-composed n f forms sized) r.0, r.1)
 
-pub sized_rows : (scopes : List Scope) (n j : ℕ) (forms : List Affine) → All (λ f. variables_of f ≡ n) forms
+sized_rows : (scopes : List Scope) (n j : ℕ) (forms : List Affine) → All (λ f. variables_of f ≡ n) forms
     → All (λ f. variables_of f ≡ n) (equalities_in (rows_from n j scopes forms))
     × All (λ f. variables_of f ≡ n) (rows_in (rows_from n j scopes forms))
 sized_rows [] n j forms sized = (All-nil (Over n), All-nil (Over n))
@@ -78,7 +74,7 @@ pub record ArePointForms (n entries : ℕ) (forms : List Affine) : Type 0 where
   pub count : length forms ≡ entries
   pub small : forms_size forms ≤ 2 ^ 40
 
-forms_are : (scopes : List Scope) (n j : ℕ) (forms : List Affine) → All (λ f. variables_of f ≡ n) forms
+pub forms_are : (scopes : List Scope) (n j : ℕ) (forms : List Affine) → All (λ f. variables_of f ≡ n) forms
     → AreScopes (length forms) scopes → grown (loops_in scopes) (forms_size forms) ≤ 2 ^ 40
     → ArePointForms n (length forms + loops_in scopes) (forms_from n j scopes forms)
 forms_are [] n j forms sized is small =
@@ -141,60 +137,15 @@ affine_compose n forms (f ∷ fs) are all =
     (omega arith))
     (affine_compose n forms fs are (All-tail (IsAffine (length forms)) f fs all))
 
-pub can_access : (ranks : List ℕ) (n : ℕ) (forms : List Affine) (a : Access) → ArePointForms n (length forms) forms
+can_access : (ranks : List ℕ) (n : ℕ) (forms : List Affine) (a : Access) → ArePointForms n (length forms) forms
     → IsAccess ranks (length forms) a → CanAccess n forms a
 can_access ranks n forms a are is = record { subscripts = affine_compose n forms a.subscripts are is.subscripts }
 
-can_read : (ranks : List ℕ) (n : ℕ) (forms : List Affine) (e : Expression) → ArePointForms n (length forms) forms
-    → IsExpression ranks (length forms) e → CanRead n forms e
-can_read ranks n forms (read a) are is = can_access ranks n forms a are is
-can_read ranks n forms (constant c) are is = tt
-can_read ranks n forms (affine form) are is = tt
-can_read ranks n forms (negated e) are is = can_read ranks n forms e are is
-can_read ranks n forms (complemented e) are is = can_read ranks n forms e are is
-can_read ranks n forms (cast e) are is = can_read ranks n forms e are is
-can_read ranks n forms (binary op e f) are is =
-    (can_read ranks n forms e are is.0, can_read ranks n forms f are is.1)
-can_read ranks n forms (shifted_left e k) are is = can_read ranks n forms e are is.1
-can_read ranks n forms (shifted_right e k) are is = can_read ranks n forms e are is.1
-can_read ranks n forms (narrowed w e) are is = can_read ranks n forms e are is.1
-
-pub can_read_right : (ranks : List ℕ) (n : ℕ) (forms : List Affine) (r : Right) → ArePointForms n (length forms) forms
-    → IsRight ranks (length forms) r → CanReadRight n forms r
-can_read_right ranks n forms (assigned e) are is = can_read ranks n forms e are is
-can_read_right ranks n forms (combined op e) are is = can_read ranks n forms e are is
-can_read_right ranks n forms (moved_left k) are is = tt
-can_read_right ranks n forms (moved_right k) are is = tt
-can_read_right ranks n forms (combined_narrow op e) are is = can_read ranks n forms e are is
-can_read_right ranks n forms (moved_left_narrow k) are is = tt
-
 -- the accesses of a statement are accesses
-reads_are : (ranks : List ℕ) (n : ℕ) (e : Expression) → IsExpression ranks n e → All (IsAccess ranks n) (reads_of e)
-reads_are ranks n (read a) is = All-cons (IsAccess ranks n) a [] is (All-nil (IsAccess ranks n))
-reads_are ranks n (constant c) is = All-nil (IsAccess ranks n)
-reads_are ranks n (affine form) is = All-nil (IsAccess ranks n)
-reads_are ranks n (negated e) is = reads_are ranks n e is
-reads_are ranks n (complemented e) is = reads_are ranks n e is
-reads_are ranks n (cast e) is = reads_are ranks n e is
-reads_are ranks n (binary op e f) is =
-    All-append (IsAccess ranks n) (reads_of e) (reads_of f) (reads_are ranks n e is.0) (reads_are ranks n f is.1)
-reads_are ranks n (shifted_left e k) is = reads_are ranks n e is.1
-reads_are ranks n (shifted_right e k) is = reads_are ranks n e is.1
-reads_are ranks n (narrowed w e) is = reads_are ranks n e is.1
-
-right_reads_are : (ranks : List ℕ) (n : ℕ) (place : Access) (r : Right) → IsAccess ranks n place → IsRight ranks n r
-    → All (IsAccess ranks n) (reads_with place r)
-right_reads_are ranks n place (assigned e) a is = reads_are ranks n e is
-right_reads_are ranks n place (combined op e) a is =
-    All-cons (IsAccess ranks n) place (reads_of e) a (reads_are ranks n e is)
-right_reads_are ranks n place (moved_left k) a is =
-    All-cons (IsAccess ranks n) place [] a (All-nil (IsAccess ranks n))
-right_reads_are ranks n place (moved_right k) a is =
-    All-cons (IsAccess ranks n) place [] a (All-nil (IsAccess ranks n))
-right_reads_are ranks n place (combined_narrow op e) a is =
-    All-cons (IsAccess ranks n) place (reads_of e) a (reads_are ranks n e is)
-right_reads_are ranks n place (moved_left_narrow k) a is =
-    All-cons (IsAccess ranks n) place [] a (All-nil (IsAccess ranks n))
+pub statement_accesses : (ranks : List ℕ) (n : ℕ) (s : Statement) → IsStatement ranks n s
+    → All (IsAccess ranks n) (accesses s)
+statement_accesses ranks n s is = λ i d h.
+    access_is ranks n s (get_or (accesses s) i d) is (in_at (accesses s) i d h)
 
 -- composed forms stay narrow
 narrow_forms : (n : ℕ) (forms fs : List Affine) → ArePointForms n (length forms) forms
@@ -208,7 +159,7 @@ narrow_forms n forms (f ∷ fs) are all =
     (record { variables = length-composed n f forms are.sized; numbers = omega arith })
     (narrow_forms n forms fs are (All-tail (IsAffine (length forms)) f fs all))
 
-narrow_accesses : (ranks : List ℕ) (n : ℕ) (forms : List Affine) (fs : List Access)
+pub narrow_accesses : (ranks : List ℕ) (n : ℕ) (forms : List Affine) (fs : List Access)
     → ArePointForms n (length forms) forms → All (IsAccess ranks (length forms)) fs
     → All (λ (a : Access). All (IsNarrow n) a.subscripts) (map (composed_access n forms) fs)
 narrow_accesses ranks n forms [] are all = All-nil (λ (a : Access). All (IsNarrow n) a.subscripts)
@@ -218,41 +169,42 @@ narrow_accesses ranks n forms (f ∷ fs) are all =
     (narrow_forms n forms f.subscripts are (All-head (IsAccess ranks (length forms)) f fs all).subscripts)
     (narrow_accesses ranks n forms fs are (All-tail (IsAccess ranks (length forms)) f fs all))
 
--- a statement that stands there has accesses within its point, and its model is one
+-- a statement that stands there is one within its point, and its model is one
 pub record Stands (path : Path) (s : Statement) : Type 0 where
   pub ranks : List ℕ
   pub are : ArePointForms (length path.loops + path.parameters) (length (forms_at path)) (forms_at path)
-  pub place : IsAccess ranks (length (forms_at path)) s.place
-  pub right : IsRight ranks (length (forms_at path)) s.right
+  pub body : IsStatement ranks (length (forms_at path)) s
 
 pub stands_there : (path : Path) (s : Statement) → CanModel path (more (statement s) none) → Stands path s
 stands_there path s can =
-    let forms = forms_at path in
     let r = point_forms_are path (more (statement s) none) can in
-    let is = can.trees.0 in
     record {
       ranks = can.ranks;
       are = record { sized = r.sized; count = refl; small = r.small };
-      place = subst (λ k. IsAccess can.ranks k s.place) (sym r.count) is.place;
-      right = subst (λ k. IsRight can.ranks k s.right) (sym r.count) is.right;
+      body = subst (λ k. IsStatement can.ranks k s) (sym r.count) can.trees.0;
     }
+
+pub can_accesses : (path : Path) (s : Statement) → CanModel path (more (statement s) none)
+    → All (CanAccess (length path.loops + path.parameters) (forms_at path)) (accesses s)
+can_accesses path s can =
+    let t = stands_there path s can in
+    let forms = forms_at path in
+    let n = length path.loops + path.parameters in
+    All-weaker (IsAccess t.ranks (length forms)) (CanAccess n forms)
+    (λ a is. can_access t.ranks n forms a t.are is) (accesses s) (statement_accesses t.ranks (length forms) s t.body)
 
 pub model_is : (path : Path) (number : ℕ) (s : Statement) (rows : List Test) → CanModel path (more (statement s) none)
     → IsModelled (statement_model number path.loops (constraints_of (length path.loops) path.parameters rows)
-    (map (composed_access (length path.loops + path.parameters) (forms_at path)) (s.place ∷ reads_with s.place
-    s.right)))
+    (map (composed_access (length path.loops + path.parameters) (forms_at path)) (accesses s)))
 model_is path number s rows can =
     let t = stands_there path s can in
-    let n = length (forms_at path) in
     let named = can.loops in
     let few = can.few in
     record {
       loops = refl;
       few_loops = omega arith;
       accesses = narrow_accesses t.ranks (length path.loops + path.parameters) (forms_at path)
-          (s.place ∷ reads_with s.place s.right) t.are
-          (All-cons (IsAccess t.ranks n) s.place (reads_with s.place s.right) t.place
-          (right_reads_are t.ranks n s.place s.right t.place t.right));
+          (accesses s) t.are (statement_accesses t.ranks (length (forms_at path)) s t.body);
     }
 
 pub rows_sized : (path : Path) (ts : Trees) → CanModel path ts
@@ -293,17 +245,15 @@ pub made_there : (path : Path) (number : ℕ) (s : Statement) (d : ℕ) (loops :
     (forms : List Affine) (found : List Access)
     → d ≡ length path.loops → loops ≡ path.loops → AreGathered path g
     → domain ≡ system_of d path.parameters g.equalities g.rows → forms ≡ g.forms
-    → found ≡ map (composed_access (d + path.parameters) forms) (s.place ∷ reads_with s.place s.right)
+    → found ≡ map (composed_access (d + path.parameters) forms) (accesses s)
     → statement_model number loops domain found
     ≡ statement_model number path.loops (constraints_of (length path.loops) path.parameters (rows_at path))
-    (map (composed_access (length path.loops + path.parameters) (forms_at path)) (s.place ∷ reads_with s.place s.right))
-made_there path number s d loops domain g forms found named same are is all accesses =
+    (map (composed_access (length path.loops + path.parameters) (forms_at path)) (accesses s))
+made_there path number s d loops domain g forms found named same are is all touches =
     let m = path.parameters in
-    let touched : found ≡ map (composed_access (length path.loops + m) (forms_at path)) (s.place ∷ reads_with s.place
-    s.right) =
-    accesses ∙ ap₂ (λ (k : ℕ) (fs : List Affine). map (composed_access (k + m) fs) (s.place ∷ reads_with s.place
-    s.right))
-    named (all ∙ are.forms) in
+    let touched : found ≡ map (composed_access (length path.loops + m) (forms_at path)) (accesses s) =
+    touches ∙ ap₂ (λ (k : ℕ) (fs : List Affine). map (composed_access (k + m) fs) (accesses s)) named
+    (all ∙ are.forms) in
     let system : domain ≡ constraints_of (length path.loops) m (rows_at path) =
     is ∙ (ap (λ (k : ℕ). system_of k m g.equalities g.rows) named
     ∙ ap₂ (λ (es rs : List Affine). system_of (length path.loops) m es rs) are.equalities are.rows) in
@@ -313,14 +263,14 @@ made_there path number s d loops domain g forms found named same are is all acce
 -- the model of a statement there
 pub modelled_there : (path : Path) (number : ℕ) (s : Statement) → length path.loops ≡ loops_in path.scopes
     → statement_model number path.loops (constraints_of (length path.loops) path.parameters (rows_at path))
-    (map (composed_access (length path.loops + path.parameters) (forms_at path)) (s.place ∷ reads_with s.place s.right))
+    (map (composed_access (length path.loops + path.parameters) (forms_at path)) (accesses s))
     ≡ modelled path.parameters (placed_at path number s)
 modelled_there path number s named =
     let m = path.parameters in
     ap (λ (d : ℕ). statement_model number path.loops
     (constraints_of d m (rows_from (d + m) 0 path.scopes (variables (d + m) d m)))
     (map (composed_access (d + m) (forms_from (d + m) 0 path.scopes (variables (d + m) d m)))
-    (s.place ∷ reads_with s.place s.right))) named
+    (accesses s))) named
 
 -- places within
 loops_in-append : (ss rs : List Scope) → loops_in (ss ++ rs) ≡ loops_in ss + loops_in rs
@@ -555,13 +505,6 @@ model_is_one program m now is same number e =
           ap (λ (r : Placed). loops_in r.scopes) (same p q a b number)));
       places = λ k s at. at_place n k k ps s (number k) at;
     })
-
--- the accesses of a statement of a kernel
-pub statement_accesses : (ranks : List ℕ) (n : ℕ) (s : Statement) → IsStatement ranks n s
-    → All (IsAccess ranks n) (s.place ∷ reads_with s.place s.right)
-statement_accesses ranks n s is =
-    All-cons (IsAccess ranks n) s.place (reads_with s.place s.right) is.place
-    (right_reads_are ranks n s.place s.right is.place is.right)
 
 -- the model of a kernel
 pub one_model : (program : Program) → IsKernel program

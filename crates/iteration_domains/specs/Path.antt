@@ -1,9 +1,7 @@
 -- What the code's values stand for while it goes down a tree.
 use Rattle.whole_numbers.specs.Affine.{Affine}
-use Rattle.std.specs.Prelude.{◌≡◌, ℕ, ◌+◌, ◌≤◌, List, map, length, ◌++◌, All, ⊤}
-use Rattle.scop_syntax.specs.Tree.{Access, Expression, read, constant, affine, negated, complemented, cast, binary}
-use Rattle.scop_syntax.specs.Tree.{shifted_left, shifted_right, narrowed, Right, assigned, combined, moved_left}
-use Rattle.scop_syntax.specs.Tree.{moved_right, combined_narrow, moved_left_narrow, Statement, Trees}
+use Rattle.std.specs.Prelude.{◌≡◌, ℕ, ◌+◌, ◌≤◌, List, map, length, ◌++◌, All}
+use Rattle.scop_syntax.specs.Tree.{Access, Statement, Trees}
 use Rattle.scop_syntax.specs.Kernel.{AreScopes, AreTrees}
 use Rattle.scop_syntax.specs.Statements.{Scope, round, under, loops_in, Placed}
 use Rattle.scop_syntax.specs.View.{test_of}
@@ -78,25 +76,3 @@ pub record CanModel (path : Path) (body : Trees) : Type 0 where
 -- each subscript can be composed with forms over n variables
 pub record CanAccess (n : ℕ) (forms : List Affine) (access : Access) : Type 0 where
   pub subscripts : All (CanCompose n forms) access.subscripts
-
--- so can those of each access that an expression reads
-abbrev pub CanRead : ℕ → List Affine → Expression → Type 0
-CanRead n forms (read access) = CanAccess n forms access
-CanRead n forms (constant c) = ⊤
-CanRead n forms (affine form) = ⊤
-CanRead n forms (negated e) = CanRead n forms e
-CanRead n forms (complemented e) = CanRead n forms e
-CanRead n forms (cast e) = CanRead n forms e
-CanRead n forms (binary op e f) = CanRead n forms e × CanRead n forms f
-CanRead n forms (shifted_left e k) = CanRead n forms e
-CanRead n forms (shifted_right e k) = CanRead n forms e
-CanRead n forms (narrowed w e) = CanRead n forms e
-
--- so can those of each access that the right of a statement reads
-abbrev pub CanReadRight : ℕ → List Affine → Right → Type 0
-CanReadRight n forms (assigned e) = CanRead n forms e
-CanReadRight n forms (combined op e) = CanRead n forms e
-CanReadRight n forms (moved_left k) = ⊤
-CanReadRight n forms (moved_right k) = ⊤
-CanReadRight n forms (combined_narrow op e) = CanRead n forms e
-CanReadRight n forms (moved_left_narrow k) = ⊤

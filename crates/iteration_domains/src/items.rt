@@ -2,7 +2,7 @@
 ghost use Rattle.std.specs.Prelude.{◌≡◌, ◌++◌, ◌∷◌, [], IfOk, OnOk, length, map};
 ghost use Rattle.scop_syntax.specs.Statements.{placed, placed_all};
 ghost use Rattle.scop_syntax.specs.Tree.{loop, guard, more, none, statement as stands};
-ghost use Rattle.scop_syntax.specs.View.{items_of, right_of, statement_of, test_of, tree_of};
+ghost use Rattle.scop_syntax.specs.View.{items_of, statement_of, test_of, tree_of};
 ghost use Rattle.iteration_domains.specs.Model.{modelled};
 ghost use Rattle.iteration_domains.specs.Path.{CanModel, modelled_in, path_at, path_of, placed_at, scope_of, scopes_of};
 
@@ -10,7 +10,7 @@ use crate::accesses::accesses_within;
 use crate::rows::{Scope, rows_within};
 use crate::statement::StatementModel;
 use integer_sets::System;
-use scop_syntax::tree::{Access, Guard, Item, Loop, Right, Stmt};
+use scop_syntax::tree::{Guard, Item, Loop, Stmt};
 use std::alloc::{AllocError, Global};
 
 /// A place in a kernel's tree: what stands round it, outermost first, and the loops among that, each by the number of
@@ -27,18 +27,16 @@ fn model_assignment(
     alloc: Global,
     path: &Path,
     number: usize,
-    place: &Access,
-    right: &Right,
+    statement: &Stmt,
 ) -> Result<StatementModel, AllocError>
-    requires { CanModel (path_of path.now)
-        (more (stands (record { place = place.now; right = right_of right.now })) none) }
+    requires { CanModel (path_of path.now) (more (stands (statement_of statement.now)) none) }
     ensures { IfOk result (λ s. s ≡ modelled path.now.parameters
-        (placed_at (path_of path.now) number (record { place = place.now; right = right_of right.now }))) }
+        (placed_at (path_of path.now) number (statement_of statement.now))) }
 {
     let dimensions = path.loops.len();
     let rows = rows_within(alloc, path.scopes.as_slice(), path.parameters, dimensions)?;
     let variables = dimensions + path.parameters;
-    let accesses = accesses_within(alloc, place, right, rows.forms.as_slice(), variables)?;
+    let accesses = accesses_within(alloc, statement, rows.forms.as_slice(), variables)?;
     let loops = path.loops.as_slice().to_vec(alloc)?;
     let domain = System::from_parts(dimensions, path.parameters, rows.equalities, rows.rows);
     Ok(StatementModel::from_parts(number, loops, domain, accesses))
@@ -57,7 +55,7 @@ fn model_statement(
         (placed_at (path_of path.now) (length statements.old.items) (statement_of statement.now)) ∷ []) }
 {
     let number = statements.len();
-    let model = model_assignment(alloc, path, number, &statement.place, &statement.right)?;
+    let model = model_assignment(alloc, path, number, statement)?;
     match statements.push(model) {
         Err(_) => Err(AllocError),
         Ok(()) => Ok(()),

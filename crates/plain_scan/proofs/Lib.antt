@@ -11,6 +11,7 @@ pub mod AppendedRows
 pub mod HullRows
 pub mod WeakerRows
 pub mod HullLoops
+pub mod HullNodes
 pub mod CodeBounds
 pub mod Smallness
 pub mod VisitIterators

@@ -1,7 +1,7 @@
 -- What a scanned tree is like: how many coefficients its forms have, how large its numbers are, whose its instances
 -- are.
-use Rattle.scop_syntax.proofs.Common.{◌≡◌, ℕ, zero, suc, ◌+◌, ◌-◌, ◌<◌, Bool, ℤ, pos, negsuc, List, [], ◌∷◌, length}
-use Rattle.scop_syntax.proofs.Common.{get_or, map, inl, inr, refl, ap, subst, sym, ◌∙◌, All, arith, ◌≤◌, ◌^◌, neg_ℤ}
+use Rattle.scop_syntax.proofs.Common.{◌≡◌, ℕ, zero, suc, ◌<◌, Bool, ℤ, pos, List, [], ◌∷◌, length}
+use Rattle.scop_syntax.proofs.Common.{get_or, map, inl, inr, refl, ap, subst, ◌∙◌, All, arith, ◌≤◌, ◌^◌, neg_ℤ}
 use Rattle.scop_syntax.proofs.Common.{unsigned_abs, All-cons, All-head, All-nil, All-tail, Affine, multiple_of_form}
 use Rattle.scop_syntax.proofs.Common.{zeros, length-multiples, length-zeros, AreAtMost, IsForm, In}
 use Rattle.std.proofs.Math.ListN.{length-set}
@@ -14,15 +14,14 @@ use Rattle.fm_projection.proofs.RemovedEntries.{narrowed_sized}
 use Rattle.loop_tree.specs.Tree.{Bound, Bounds, only, Test, at_least, equal, Tree, loop, guard}
 use Rattle.loop_tree.specs.Tree.{instance, Trees, none, more}
 use Rattle.loop_tree.specs.Fits.{IsSmall, form_in}
-use Rattle.loop_tree.specs.Shape.{BoundsAreOver, BoundsAreUpTo, IsOver, IsUpTo}
-use Rattle.loop_tree.specs.Shape.{TestIsUpTo}
+use Rattle.loop_tree.specs.Shape.{BoundsAreOver, BoundsAreUpTo, IsOver, IsUpTo, TestIsUpTo}
 use Rattle.plain_scan.specs.declared.set_outline.Outline.{Outline}
 use Rattle.plain_scan.specs.Scanning.{AreOfSets, IsOfSets}
 use Rattle.plain_scan.specs.Shape.{AreShaped}
 use Rattle.plain_scan.specs.Sets.{equal_tests, leaves, place_forms, row_tests, tests_of, turn_forms, under}
 use Rattle.plain_scan.specs.Rows.{high_bound, high_bounds, low_bound, low_bounds}
 use Rattle.plain_scan.specs.Sorting.{lows_in, highs_in}
-use Rattle.plain_scan.specs.Hulls.{AreHullRows, IsHull, leaf_tree, own_leaf, sets_in}
+use Rattle.plain_scan.specs.Hulls.{AreHullRows, leaf_tree, own_leaf, sets_in}
 use Rattle.plain_scan.specs.Between.{HasSmallNumbers}
 use Rattle.plain_scan.proofs.SortedRows.{highs_of, lows_of}
 use Rattle.plain_scan.proofs.Smallness.{is_small, narrowed_small, opposite_small, place_small, small_negative}
@@ -187,7 +186,7 @@ pub leaves_shaped : (n : ℕ) (os : List Outline) → All (λ o. variables_in o.
 leaves_shaped n os count = leaves_in n (sets_in os) os count (λ s i. i)
 
 -- a loop between rows of a hull round what is so
-hull_rows : (depth n : ℕ) (os : List Outline) (fs : List Affine) → AreHullRows depth n os fs → All (IsRowOver n) fs
+pub hull_rows : (depth n : ℕ) (os : List Outline) (fs : List Affine) → AreHullRows depth n os fs → All (IsRowOver n) fs
 hull_rows depth n os fs h = λ k d inside. row_over n (get_or fs k d) (h k d inside).sized (h k d inside).small
 
 pub loop_shaped : (m n : ℕ) (sets : List Scanned) (flag : Bool) (low high : Affine) (others : List Affine)
@@ -206,25 +205,3 @@ loop_shaped m n sets flag low high others body inside rows h =
       over = ((lows.1, highs.1, h.over), tt);
       instances = (h.instances, tt);
     }
-
-pub next_shaped : (depth place n p : ℕ) (os : List Outline) (fs rows : List Affine)
-    (h : IsHull depth place (place + 1 + p) os fs) → rows ≡ fs → depth < n → place ≡ n - 1 - depth → (flag : Bool)
-    (body ts : Trees) → AreShaped (n - depth + p) (sets_in os) body
-    → ((low high : Affine) (others : List Affine) → rows ≡ low ∷ high ∷ others
-    → ts ≡ more (loop flag (low_bounds place low (lows_in place others)) (high_bounds place high
-    (highs_in place others)) body) none)
-    → AreShaped (n - (depth + 1) + p) (sets_in os) ts
-next_shaped depth place n p os fs rows h same less at flag body ts inner made =
-    let v = place + 1 + p in
-    let sets = sets_in os in
-    let low = place_form v place (pos 1) h.low in
-    let high = place_form v place (negsuc 0) h.high in
-    let one : v ≡ suc (place + p) = omega arith in
-    let here : n - depth + p ≡ suc (place + p) = omega (arith, less, at) in
-    let there : place + p ≡ n - (depth + 1) + p = omega (arith, less, at) in
-    let all = subst (All (IsRowOver v)) h.is (hull_rows depth v os fs h.rows) in
-    let step = loop_shaped place (place + p) sets flag low high h.others body (omega arith)
-    (subst (λ k. All (IsRowOver k) (low ∷ high ∷ h.others)) one all)
-    (subst (λ k. AreShaped k sets body) here inner) in
-    subst (λ k. AreShaped k sets ts) there
-    (subst (AreShaped (place + p) sets) (sym (made low high h.others (same ∙ h.is))) step)

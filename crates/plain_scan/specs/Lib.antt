@@ -7,9 +7,11 @@ pub mod Shape
 pub mod Between
 pub mod Outlines
 pub mod Hulls
+pub mod Nodes
 pub mod Weaker
 pub mod Scanning
 pub mod Leaving
+pub mod Outlined
 pub mod Giving
 -- Passed on: what this crate's contracts are told in.
 pub use Rattle.fm_projection.specs.Alone

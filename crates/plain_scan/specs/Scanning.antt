@@ -1,13 +1,19 @@
--- What a scan asks of its sets, whose its instances are, and why it stops.
-use Rattle.std.specs.Prelude.{◌≡◌, ℕ, ◌+◌, ◌<◌, ◌≤◌, ◌^◌, List, [], ◌∷◌, length, Option, None, All, ⊤}
+-- What a scan asks of its sets, what its trees are, and why it stops.
+use Rattle.std.specs.Prelude.{◌≡◌, ℕ, zero, ◌+◌, ◌<◌, ◌≤◌, ◌^◌, ℤ, List, [], ◌∷◌, length, Option, None, All, ⊤}
 use Rattle.integer_sets.specs.Scanned.{Scanned, iterators_at}
 use Rattle.scop_syntax.specs.Members.{In}
 use Rattle.fm_projection.specs.declared.stop.FmStop.{FmStop}
 use Rattle.fm_projection.specs.declared.stop.FmStop.TheVariants as fm
-use Rattle.fm_projection.specs.Alone.{IsBounded}
+use Rattle.fm_projection.specs.Alone.{AreInRange, IsBounded}
+use Rattle.loop_tree.specs.Fits.{AreSmallTrees, FitsAll}
+use Rattle.loop_tree.specs.Marks.{FlatAll, MarksAll}
+use Rattle.loop_tree.specs.Scans.{Exact}
+use Rattle.loop_tree.specs.Shape.{NestAllTo, TreesAreOver, TreesAreUpTo}
 use Rattle.loop_tree.specs.Tree.{Tree, loop, guard, instance, Trees, none, more}
-use Rattle.loop_tree.specs.Walk.{Visit}
+use Rattle.loop_tree.specs.Walk.{Visit, walk_all}
+use Rattle.plain_scan.specs.Hulls.{flags}
 use Rattle.plain_scan.specs.Outlines.{StopsSet}
+use Rattle.plain_scan.specs.Sets.{Keys}
 
 -- how many dimensions sets have, whose number is that of the first
 abbrev pub dimensions_of : List Scanned → ℕ
@@ -55,6 +61,22 @@ abbrev mutual
   pub AreOfSets : List Scanned → Trees → Type 0
   AreOfSets sets none = ⊤
   AreOfSets sets (more t ts) = IsOfSets sets t × AreOfSets sets ts
+
+-- trees that scan sets: for parameters in range they visit exactly the keys, in order, give the iterators, and their
+-- numbers fit; the numbers are small, the forms over the parameters and the loops round, which are one a dimension at
+-- most; instances are those of the sets; they are flat, and parallel at the mark; of no set they are none
+pub record IsScan (sets : List Scanned) (ts : Trees) : Type 0 where
+  pub exact : (params : List ℤ) → AreInRange params → Exact (Keys sets params) (walk_all ts params [])
+  pub iterators : (params : List ℤ) → AreInRange params → GiveIterators sets (walk_all ts params [])
+  pub fits : (params : List ℤ) → AreInRange params → length params ≡ parameters_of sets → FitsAll ts params []
+  pub small : TreesAreUpTo (2 ^ 40) ts
+  pub numbers : AreSmallTrees (dimensions_of sets) ts
+  pub over : TreesAreOver (parameters_of sets) ts
+  pub nested : NestAllTo (dimensions_of sets) ts
+  pub instances : AreOfSets sets ts
+  pub flat : FlatAll ts
+  pub marks : MarksAll (flags (mark_of sets) zero (dimensions_of sets)) ts
+  pub empty : sets ≡ [] → ts ≡ none
 
 -- one of the sets stops so; want of memory is free
 abbrev pub StopsScan : List Scanned → FmStop → Type 0

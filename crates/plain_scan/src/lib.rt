@@ -7,6 +7,7 @@ mod bounds;
 mod hull;
 mod numbers;
 mod outline;
+mod outlined_sets;
 mod set_outline;
 pub mod shared;
 mod tree_of_sets;

@@ -4,5 +4,6 @@ pub use crate::bounds::{leaves, loop_round};
 pub use crate::hull::hull;
 pub use crate::numbers::{has_small_numbers, opposite};
 pub use crate::outline::{Shadow, has_tighter};
+pub use crate::outlined_sets::Outlines;
 pub use crate::set_outline::Outline;
-pub use crate::tree_of_sets::{dimensions_in, mark_in, outlines_of, parameters_in};
+pub use crate::tree_of_sets::outlined;

@@ -1,65 +1,45 @@
 //! The tree of sets: the hull of all, dimension by dimension.
 
-ghost use Rattle.std.specs.Prelude.{◌≡◌, zero, ◌+◌, ◌<◌, ◌^◌, ℤ, List, [], All, IfErr, IfOk, length};
-ghost use Rattle.fm_projection.specs.Alone.{AreInRange};
-ghost use Rattle.loop_tree.specs.Walk.{walk_all};
-ghost use Rattle.loop_tree.specs.Scans.{Exact};
-ghost use Rattle.loop_tree.specs.Fits.{AreSmallTrees, FitsAll};
-ghost use Rattle.loop_tree.specs.Marks.{FlatAll, MarksAll};
-ghost use Rattle.loop_tree.specs.Shape.{NestAllTo, TreesAreOver, TreesAreUpTo};
-ghost use Rattle.loop_tree.specs.Tree.{none};
+ghost use Rattle.std.specs.Prelude.{◌≡◌, [], IfErr, IfOk, MatchOption};
 ghost use Rattle.loop_tree.specs.View.{trees_in};
-ghost use Rattle.plain_scan.specs.Sets.{Keys, NumbersRise};
-ghost use Rattle.plain_scan.specs.Rows.{ServesOn};
-ghost use Rattle.plain_scan.specs.Hulls.{flags, sets_in};
-ghost use Rattle.plain_scan.specs.Giving.{HasIterators, TurnsOn};
-ghost use Rattle.plain_scan.specs.Shape.{AreShaped};
+ghost use Rattle.plain_scan.specs.Sets.{NumbersRise};
+ghost use Rattle.plain_scan.specs.Hulls.{sets_in};
 ghost use Rattle.plain_scan.specs.Leaving.{LeavesOut};
-ghost use Rattle.plain_scan.specs.Scanning.{AreOfSets, AreScanned, GiveIterators, StopsScan};
-ghost use Rattle.plain_scan.specs.Scanning.{dimensions_of, mark_of, parameters_of};
+ghost use Rattle.plain_scan.specs.Outlined.{AreNodesOf, AreOutlined};
+ghost use Rattle.plain_scan.specs.Scanning.{AreScanned, IsScan, StopsScan, dimensions_of, mark_of, parameters_of};
 
 use crate::bounds::{leaves, loop_round};
 use crate::hull::hull;
 use crate::outline::outline_of;
+use crate::outlined_sets::Outlines;
 use crate::set_outline::Outline;
 use fm_projection::FmStop;
 use integer_sets::ScanSet;
 use loop_tree::Tree;
 use std::alloc::{AllocError, Global};
 
-/// The tree of the hull of sets of so many dimensions and parameters: one loop a dimension, each statement under all
-/// constraints of its set.
-fn scan_outlines(
-    alloc: Global,
-    outlines: &[Outline],
-    dimensions: usize,
-    parameters: usize,
-    parallel: Option<usize>,
-) -> Result<Tree, AllocError>
-    requires some { 0 < length outlines.now }
-    requires few { dimensions + parameters < 2 ^ 32 }
-    requires dimensions { All (λ o. o.set.now.system.dimensions ≡ dimensions) outlines.now }
-    requires parameters { All (λ o. o.set.now.system.parameters ≡ parameters) outlines.now }
-    requires iterators { All (HasIterators dimensions) (sets_in outlines.now) }
-    ensures serves { IfOk result (λ t. NumbersRise (sets_in outlines.now)
-        → ServesOn dimensions zero (sets_in outlines.now) [] (trees_in t)) }
-    ensures turns { IfOk result (λ t. TurnsOn zero (sets_in outlines.now) (trees_in t)) }
-    ensures small { IfOk result (λ t. AreSmallTrees dimensions (trees_in t)) }
-    ensures shaped { IfOk result (λ t. AreShaped parameters (sets_in outlines.now) (trees_in t)) }
-    ensures flat { IfOk result (λ t. FlatAll (trees_in t)) }
-    ensures marks { IfOk result (λ t. MarksAll (flags parallel zero dimensions) (trees_in t)) }
+/// The tree of the hull of sets: one loop a dimension, each statement under all constraints of its set.
+fn scan_outlines(alloc: Global, all: &Outlines) -> Result<Tree, AllocError>
+    requires { NumbersRise (sets_in all.now.outlines.items) }
+    ensures { IfOk result (λ t. AreNodesOf all.now (trees_in t)) }
 {
-    let mut nodes = leaves(alloc, outlines)?;
-    for depth in 0..dimensions {
-        let place = dimensions - 1 - depth;
-        let rows = hull(alloc, outlines, depth, place, place + 1 + parameters)?;
-        nodes = loop_round(alloc, &rows, place, parallel == Some(place), nodes)?;
+    let mut nodes = leaves(alloc, &all.outlines)?;
+    for depth in 0..all.dimensions {
+        let place = all.dimensions - 1 - depth;
+        let rows = hull(
+            alloc,
+            &all.outlines,
+            depth,
+            place,
+            place + 1 + all.parameters,
+        )?;
+        nodes = loop_round(alloc, &rows, place, all.parallel == Some(place), nodes)?;
     }
     Ok(Tree { nodes })
 }
 
 /// The outlines of sets, without the sets that have no point.
-pub fn outlines_of(alloc: Global, sets: &[ScanSet]) -> Result<Vec<Outline>, FmStop>
+fn outlines_of(alloc: Global, sets: &[ScanSet]) -> Result<Vec<Outline>, FmStop>
     requires { AreScanned sets.now }
     ensures kept { IfOk result (λ v. LeavesOut sets.now (sets_in v.items)) }
     ensures stops { IfErr result (StopsScan sets.now) }
@@ -79,7 +59,7 @@ pub fn outlines_of(alloc: Global, sets: &[ScanSet]) -> Result<Vec<Outline>, FmSt
 }
 
 /// How many dimensions the sets have.
-pub fn dimensions_in(sets: &[ScanSet]) -> usize
+fn dimensions_in(sets: &[ScanSet]) -> usize
     ensures { result ≡ dimensions_of sets.now }
 {
     match sets.first() {
@@ -89,7 +69,7 @@ pub fn dimensions_in(sets: &[ScanSet]) -> usize
 }
 
 /// How many parameters the sets have.
-pub fn parameters_in(sets: &[ScanSet]) -> usize
+fn parameters_in(sets: &[ScanSet]) -> usize
     ensures { result ≡ parameters_of sets.now }
 {
     match sets.first() {
@@ -99,13 +79,35 @@ pub fn parameters_in(sets: &[ScanSet]) -> usize
 }
 
 /// The dimension that the sets mark.
-pub fn mark_in(sets: &[ScanSet]) -> Option<usize>
+fn mark_in(sets: &[ScanSet]) -> Option<usize>
     ensures { result ≡ mark_of sets.now }
 {
     match sets.first() {
         None => None,
         Some(set) => set.parallel(),
     }
+}
+
+/// The outlines of sets, without the sets that have no point; None where none has one.
+pub fn outlined(alloc: Global, sets: &[ScanSet]) -> Result<Option<Outlines>, FmStop>
+    requires sets { AreScanned sets.now }
+    requires rise { NumbersRise sets.now }
+    ensures found { IfOk result (λ found. MatchOption found (LeavesOut sets.now []) (AreOutlined sets.now)) }
+    ensures stops { IfErr result (StopsScan sets.now) }
+{
+    let outlines = match outlines_of(alloc, sets) {
+        Err(stop) => return Err(stop),
+        Ok(outlines) => outlines,
+    };
+    if outlines.len() == 0 {
+        return Ok(None);
+    }
+    Ok(Some(Outlines {
+        outlines,
+        dimensions: dimensions_in(sets),
+        parameters: parameters_in(sets),
+        parallel: mark_in(sets),
+    }))
 }
 
 /// The tree that visits the points of sets, one set a statement and by rising numbers, in the lexicographic order of
@@ -119,39 +121,17 @@ pub fn mark_in(sets: &[ScanSet]) -> Option<usize>
 pub fn scan(alloc: Global, sets: &[ScanSet]) -> Result<Tree, FmStop>
     requires sets { AreScanned sets.now }
     requires rise { NumbersRise sets.now }
-    ensures exact { IfOk result (λ t. (params : List ℤ) → AreInRange params
-        → Exact (Keys sets.now params) (walk_all (trees_in t) params [])) }
-    ensures iterators { IfOk result (λ t. (params : List ℤ) → AreInRange params
-        → GiveIterators sets.now (walk_all (trees_in t) params [])) }
-    ensures fits { IfOk result (λ t. (params : List ℤ) → AreInRange params → length params ≡ parameters_of sets.now
-        → FitsAll (trees_in t) params []) }
-    ensures small { IfOk result (λ t. TreesAreUpTo (2 ^ 40) (trees_in t)) }
-    ensures numbers { IfOk result (λ t. AreSmallTrees (dimensions_of sets.now) (trees_in t)) }
-    ensures over { IfOk result (λ t. TreesAreOver (parameters_of sets.now) (trees_in t)) }
-    ensures nested { IfOk result (λ t. NestAllTo (dimensions_of sets.now) (trees_in t)) }
-    ensures instances { IfOk result (λ t. AreOfSets sets.now (trees_in t)) }
-    ensures flat { IfOk result (λ t. FlatAll (trees_in t)) }
-    ensures marks { IfOk result (λ t. MarksAll (flags (mark_of sets.now) zero (dimensions_of sets.now)) (trees_in t)) }
-    ensures empty { IfOk result (λ t. sets.now ≡ [] → trees_in t ≡ none) }
+    ensures scan { IfOk result (λ t. IsScan sets.now (trees_in t)) }
     ensures stops { IfErr result (StopsScan sets.now) }
 {
-    let outlines = match outlines_of(alloc, sets) {
-        Err(stop) => return Err(stop),
-        Ok(outlines) => outlines,
-    };
-    if outlines.len() == 0 {
-        return Ok(Tree {
+    match outlined(alloc, sets) {
+        Err(stop) => Err(stop),
+        Ok(None) => Ok(Tree {
             nodes: Vec::new(alloc),
-        });
-    }
-    match scan_outlines(
-        alloc,
-        &outlines,
-        dimensions_in(sets),
-        parameters_in(sets),
-        mark_in(sets),
-    ) {
-        Err(_) => Err(FmStop::NoMemory),
-        Ok(tree) => Ok(tree),
+        }),
+        Ok(Some(all)) => match scan_outlines(alloc, &all) {
+            Err(_) => Err(FmStop::NoMemory),
+            Ok(tree) => Ok(tree),
+        },
     }
 }

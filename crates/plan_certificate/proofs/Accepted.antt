@@ -2,7 +2,7 @@
 use Rattle.scop_syntax.proofs.Common.{◌≡◌, ◌∙◌, ap, sym, refl, subst, ℕ, ◌^◌, ◌<◌, true, List, [], ◌∷◌, ◌++◌, length}
 use Rattle.scop_syntax.proofs.Common.{codes, arith, nat_le, append_assoc, zero-add, Result, Ok, Err, list_all}
 use Rattle.scop_syntax.proofs.Common.{length-map, IsKernel, In, in_guard_of, placed_all, statements_of, Program, guard}
-use Rattle.scop_syntax.proofs.Common.{length-placed}
+use Rattle.scop_syntax.proofs.Common.{length-placed, IsPlaced, Placed, ranks_of}
 use Rattle.std.proofs.lemmas.List.{length-append}
 use Rattle.scop_lexer.specs.Bytes.{Text}
 use Rattle.iteration_domains.specs.Dependence.{Dependence}
@@ -84,10 +84,11 @@ statements_few program kernel =
 pub accepted : PrintedLaws → DerivationLaws → (program : Program) (deps : List Dependence) (blocks : List Block)
     (text : Text) → ((d : Dependence) → In d (conflicts_of (model_of program)) → HasParts (model_of program) d)
     → AreSized (loops_in (model_of program)) blocks → IsKernel program
+    → ((p : Placed) → In p (statements_of program) → IsPlaced (ranks_of program) (length program.parameters) p)
     → IsSchedule (model_of program).parameters (loops_in (model_of program)) deps blocks
     → IsNarrow (model_of program) blocks → length text < 2 ^ 127
     → certificate_of (model_of program) blocks ≡ Ok text → judged program text ≡ Ok true
-accepted printed derivations program deps blocks text parts sized kernel schedule narrow few is =
+accepted printed derivations program deps blocks text parts sized kernel placed schedule narrow few is =
     let model = model_of program in
     let loops = loops_in model in
     let goals = goals_in model (plan_of_blocks blocks) in
@@ -104,7 +105,7 @@ accepted printed derivations program deps blocks text parts sized kernel schedul
     let derived : AreDerived goals = λ d steps among h.
     derivation_derives derivations d steps
     (goals_sized model (plan_of_blocks blocks) d (plan_fits loops blocks sized).0
-    (λ e i. conflict_over program e i (parts e i)) among)
+    (λ e i. conflict_over program e i (parts e i) kernel placed) among)
     h (narrow.lines d steps among h) in
     ap (λ (t : Text). lines_judged model 0 (laying nothing_laid) (lines_of t)) found.2
     ∙ (laid

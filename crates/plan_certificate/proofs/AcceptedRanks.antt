@@ -8,7 +8,8 @@ use Rattle.iteration_domains.specs.Dependence.{Dependence}
 use Rattle.null_space.specs.Narrowing.{against, is_zero, kernel_vectors, narrowed_all, narrowed_by, units_from}
 use Rattle.schedule_rows.specs.Items.{Row, Block, band_rows, closed_by, numbers_of, part_of, rows_in}
 use Rattle.schedule_rows.specs.Posed.{IsFull, coefficients_in, loops_of}
-use Rattle.schedule_rows.specs.Next.{State, Ends, Goes, rows_of}
+use Rattle.schedule_rows.specs.Next.{State, rows_of}
+use Rattle.schedule_rows.specs.steps.Moves.{Ends, Goes}
 use Rattle.schedule_rows.specs.Outcomes.{IsSchedule, Runs}
 use Rattle.schedule_rows.proofs.Measures.{rows_appended, rows_closed, rows_scalar}
 use Rattle.schedule_rows.proofs.NextSteps.{next_ends, next_goes}

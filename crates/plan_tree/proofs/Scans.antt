@@ -1,26 +1,18 @@
--- Trees that scan the sets of a schedule: of no set the empty one, which is over any number of parameters.
-use Rattle.scop_syntax.proofs.Common.{◌≡◌, ◌<◌, ℕ, List, [], ◌∷◌, length, refl, sym, subst, arith}
+-- Trees that scan the sets of a schedule: of no set they are none, which are over any number of parameters.
+use Rattle.scop_syntax.proofs.Common.{◌≡◌, ◌<◌, ℕ, ℤ, List, [], ◌∷◌, length, refl, sym, ◌∙◌, subst, arith}
 use Rattle.integer_sets.specs.Scanned.{Scanned}
-use Rattle.loop_tree.specs.Tree.{Trees, none}
-use Rattle.plain_scan.specs.Scanning.{parameters_of}
-use Rattle.plan_tree.specs.steps.Scanning.{IsScan}
+use Rattle.loop_tree.specs.Fits.{FitsAll}
+use Rattle.loop_tree.specs.Shape.{TreesAreOver}
+use Rattle.loop_tree.specs.Tree.{Trees}
+use Rattle.plain_scan.specs.Alone.{AreInRange}
+use Rattle.plain_scan.specs.Scanning.{IsScan, parameters_of}
 
-none_scans : (p : ℕ) → IsScan p [] none
-none_scans p =
-    record {
-      exact = λ params range. record { rising = tt; none_else = λ v i. absurd i; all = λ r k. absurd k };
-      iterators = λ params range v i. absurd i;
-      fits = λ params range count. tt;
-      flat = tt;
-      marks = tt;
-      small = tt;
-      over = tt;
-      nested = tt;
-      instances = tt;
-    }
+pub own_over : (p : ℕ) (sets : List Scanned) (ts : Trees) → (0 < length sets → parameters_of sets ≡ p)
+    → IsScan sets ts → TreesAreOver p ts
+own_over p [] ts count h = subst (TreesAreOver p) (sym (h.empty refl)) tt
+own_over p (s ∷ sets) ts count h = subst (λ q. TreesAreOver q ts) (count (omega arith)) h.over
 
--- the trees of a scan, where the sets have p parameters, if there is one
-pub own_scans : (p : ℕ) (sets : List Scanned) (ts : Trees) → (0 < length sets → parameters_of sets ≡ p)
-    → (sets ≡ [] → ts ≡ none) → IsScan (parameters_of sets) sets ts → IsScan p sets ts
-own_scans p [] ts count empty h = subst (IsScan p []) (sym (empty refl)) (none_scans p)
-own_scans p (s ∷ sets) ts count empty h = subst (λ q. IsScan q (s ∷ sets) ts) (count (omega arith)) h
+pub own_fits : (p : ℕ) (sets : List Scanned) (ts : Trees) → (0 < length sets → parameters_of sets ≡ p)
+    → IsScan sets ts → (params : List ℤ) → AreInRange params → length params ≡ p → FitsAll ts params []
+own_fits p [] ts count h params range many = subst (λ us. FitsAll us params []) (sym (h.empty refl)) tt
+own_fits p (s ∷ sets) ts count h params range many = h.fits params range (many ∙ sym (count (omega arith)))

@@ -5,11 +5,11 @@ ghost use Rattle.loop_tree.specs.Scans.{Exact};
 ghost use Rattle.loop_tree.specs.Tree.{Trees};
 ghost use Rattle.loop_tree.specs.Walk.{Visit};
 ghost use Rattle.tile_skew.specs.Items.{Block};
-ghost use Rattle.plain_scan.specs.Scanning.{AreScanned, GiveIterators, dimensions_of, parameters_of};
+ghost use Rattle.plain_scan.specs.Scanning.{AreScanned, GiveIterators, IsScan, dimensions_of, parameters_of};
 ghost use Rattle.plain_scan.specs.Sets.{Keys, NumbersRise};
 ghost use Rattle.planned_trees.specs.Trees.{AreTreesOf};
 ghost use Rattle.plan_tree.specs.Schedules.{tiling_of};
-ghost use Rattle.plan_tree.specs.steps.Scanning.{AreVisits, IsScan, IsTiled, sets_of};
+ghost use Rattle.plan_tree.specs.steps.Scanning.{AreVisits, IsTiled, sets_of};
 
 use iteration_domains::domain_laws::domains_hold_the_instances;
 use scop_syntax::walk_laws::statements_are_numbered;
@@ -54,7 +54,7 @@ pub fn visits_are_in_order()
 /// A tree that scans them is one of the tiling.
 pub fn scans_are_trees_of_tilings()
     ensures { (program : Program) (marked : List ℕ) (size : ℕ) (blocks : List Block) (ts : Trees)
-        → IsTiled program marked size blocks → IsScan (length program.parameters) (sets_of program size blocks) ts
+        → IsTiled program marked size blocks → IsScan (sets_of program size blocks) ts
         → AreTreesOf program marked (tiling_of program size blocks) ts }
 {
     scan_sets_can_be_scanned();

@@ -1,6 +1,6 @@
 //! The trees of both kinds of plans.
 
-ghost use Rattle.std.specs.Prelude.{◌≡◌, ◌≤◌, ◌<◌, ◌^◌, [], ℕ, pos, IfErr, IfOk, List};
+ghost use Rattle.std.specs.Prelude.{◌≡◌, ◌≤◌, ◌<◌, ◌^◌, ℕ, pos, IfErr, IfOk, List};
 ghost use Rattle.scop_syntax.specs.Kernel.{IsKernel};
 ghost use Rattle.scop_syntax.specs.Tree.{Program};
 ghost use Rattle.scop_syntax.specs.View.{program_of};
@@ -8,15 +8,13 @@ ghost use Rattle.loop_tree.specs.Fits.{AreSmallTrees};
 ghost use Rattle.loop_tree.specs.Shape.{TreesAreUpTo};
 ghost use Rattle.loop_tree.specs.Source.{source_of};
 ghost use Rattle.loop_tree.specs.Tiling.{kept};
-ghost use Rattle.loop_tree.specs.Tree.{none};
 ghost use Rattle.loop_tree.specs.View.{trees_in};
-ghost use Rattle.plain_scan.specs.Scanning.{AreScanned, StopsScan, dimensions_of, parameters_of};
+ghost use Rattle.plain_scan.specs.Scanning.{AreScanned, IsScan, StopsScan, dimensions_of};
 ghost use Rattle.plain_scan.specs.Sets.{NumbersRise};
 ghost use Rattle.tile_skew.specs.Schedule.{IsScheduled};
 ghost use Rattle.tile_skew.specs.ScanSets.{scan_sets};
 ghost use Rattle.planned_trees.specs.Trees.{AreTreesOf};
 ghost use Rattle.plan_tree.specs.Schedules.{IsScheduleFor, StopsTiled, tiling_of};
-ghost use Rattle.plan_tree.specs.steps.Scanning.{IsScan};
 
 use crate::tiles::{scans_are_trees_of_tilings, sets_can_be_scanned};
 use integer_sets::ScanSet;
@@ -61,9 +59,7 @@ fn tree_of_sets(
 ) -> Result<Tree, FmStop>
     requires scanned { AreScanned sets.now }
     requires rise { NumbersRise sets.now }
-    ensures scan { IfOk result (λ t. IsScan (parameters_of sets.now) sets.now (trees_in t)) }
-    ensures numbers { IfOk result (λ t. AreSmallTrees (dimensions_of sets.now) (trees_in t)) }
-    ensures empty { IfOk result (λ t. sets.now ≡ [] → trees_in t ≡ none) }
+    ensures scan { IfOk result (λ t. IsScan sets.now (trees_in t)) }
     ensures stops { IfErr result (StopsScan sets.now) }
 {
     match budget {

@@ -18,9 +18,9 @@ use plain_scan::scan;
 use std::alloc::Global;
 
 /// Without parameters the tree visits the sets' points, gives their iterators, is over no variable and has numbers that
-/// fit, by `exact`, `iterators`, `over` and `fits` of `scan`. Of no dimension it has no loop, by `numbers`, `nested`
-/// and `marks`; of no set it is empty, by `empty`. It is of small numbers, of the sets' statements and flat, by the
-/// clauses `small`, `instances` and `flat`, and stops as a set does, by `stops`.
+/// fit, by `exact`, `iterators`, `over` and `fits` of `IsScan`, the clause `scan` of `scan`. Of no dimension it has no
+/// loop, by `numbers`, `nested` and `marks`; of no set it is empty, by `empty`. It is of small numbers, of the sets'
+/// statements and flat, by the fields `small`, `instances` and `flat`, and stops as a set does, by the clause `stops`.
 pub fn scanned_tree(alloc: Global, sets: &[ScanSet]) -> Result<Tree, FmStop>
     requires sets { AreScanned sets.now }
     requires rise { NumbersRise sets.now }

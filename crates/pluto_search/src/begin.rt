@@ -1,20 +1,20 @@
 //! Where the search begins.
-ghost use Rattle.std.specs.Prelude.{◌≡◌, ℕ, ◌≤◌, [], All, IfOk, map};
+ghost use Rattle.std.specs.Prelude.{◌≡◌, ℕ, [], IfOk, map};
 ghost use Rattle.null_space.specs.Narrowing.{kernel_vectors};
 ghost use Rattle.schedule_rows.specs.Outcomes.{state};
 ghost use Rattle.pluto_search.specs.Steps.{AreBetween, state_of, IsGood};
 
-use crate::state::Progress;
+use crate::state::{Progress, Search};
 use iteration_domains::Dep;
 use null_space::{Rows, kernel_vectors};
 use std::alloc::{AllocError, Global};
 
 /// The units of each statement's loops.
-fn first_vectors(alloc: Global, loops: &[usize]) -> Result<Vec<Rows>, AllocError>
-    requires { All (λ l. l ≤ 5) loops.now }
+fn first_vectors(alloc: Global, search: &Search) -> Result<Vec<Rows>, AllocError>
     ensures { IfOk result (λ vs. map (λ v. map (λ u. u.items) v.items) vs.items
-        ≡ map (λ l. kernel_vectors l []) loops.now) }
+        ≡ map (λ l. kernel_vectors l []) search.now.loops.now) }
 {
+    let loops = search.loops;
     let mut vectors = Vec::new(alloc);
     for at in 0..loops.len() {
         let units = kernel_vectors(alloc, loops[at], &[])?;
@@ -24,13 +24,12 @@ fn first_vectors(alloc: Global, loops: &[usize]) -> Result<Vec<Rows>, AllocError
 }
 
 /// Nothing is done yet.
-pub fn begin(alloc: Global, loops: &[usize], taken: Vec<Dep>) -> Result<Progress, AllocError>
-    requires { All (λ l. l ≤ 5) loops.now }
+pub fn begin(alloc: Global, search: &Search, taken: Vec<Dep>) -> Result<Progress, AllocError>
     ensures first { IfOk result (λ p. state_of p ≡ state [] [] taken.items) }
-    ensures good { IfOk result (λ p. (m budget : ℕ) → AreBetween m loops.now taken.items
-        → IsGood m loops.now budget p) }
+    ensures good { IfOk result (λ p. (m budget : ℕ) → AreBetween m search.now.loops.now taken.items
+        → IsGood m search.now.loops.now budget p) }
 {
-    let vectors = first_vectors(alloc, loops)?;
+    let vectors = first_vectors(alloc, search)?;
     Ok(Progress {
         closed: Vec::new(alloc),
         rows: Vec::new(alloc),

@@ -1,5 +1,5 @@
 //! The next item, or why there is none.
-ghost use Rattle.std.specs.Prelude.{◌≡◌, true, false, ◌≤◌, ◌++◌, [], All, IfOk, IfErr, length, map, suc, ◌+◌};
+ghost use Rattle.std.specs.Prelude.{◌≡◌, true, false, ◌++◌, [], All, IfOk, IfErr, length, map, suc, ◌+◌};
 ghost use Rattle.scop_syntax.specs.Members.{In};
 ghost use Rattle.iteration_domains.specs.Dependence.{Dependence};
 ghost use Rattle.schedule_rows.specs.Next.{rows_of};
@@ -19,7 +19,7 @@ use crate::ends::{close, items_in, numbered, remaining, shared, uncut, with_scal
 use crate::kept::Kept;
 use crate::restricting::restrict_all;
 use crate::rows::{is_parallel, is_within, narrow_all, row_from};
-use crate::state::{Progress, Step};
+use crate::state::{Progress, Search, Step};
 use crate::stops::{by_rows, by_solver};
 use integer_sets::System;
 use iteration_domains::Dep;
@@ -74,23 +74,17 @@ fn end(alloc: Global, loops: &[usize], closed: Vec<Block>, left: &[Dep]) -> Resu
 }
 
 /// All statements have full rank: the last restriction, and the end.
-fn finish(
-    alloc: Global,
-    parameters: usize,
-    loops: &[usize],
-    progress: Progress,
-    budget: u64,
-) -> Result<Step, Kept>
-    requires good { IsGood parameters loops.now budget progress }
-    requires full { IsFull loops.now (rows_of (state_of progress)) }
-    ensures { Steps parameters loops.now budget (state_of progress) result }
+fn finish(alloc: Global, search: &Search, progress: Progress) -> Result<Step, Kept>
+    requires good { IsGood search.now.parameters search.now.loops.now search.now.budget progress }
+    requires full { IsFull search.now.loops.now (rows_of (state_of progress)) }
+    ensures { Steps search.now.parameters search.now.loops.now search.now.budget (state_of progress) result }
 {
     let deps = match remaining(alloc, &progress) {
         Err(_) => return Err(Kept::NoMemory),
         Ok(deps) => deps,
     };
     let Progress { closed, rows, .. } = progress;
-    let left = match restrict_all(alloc, parameters, &rows, &deps, budget) {
+    let left = match restrict_all(alloc, search.parameters, &rows, &deps, search.budget) {
         Err(kept) => return Err(kept),
         Ok(left) => left,
     };
@@ -98,7 +92,7 @@ fn finish(
         Err(_) => return Err(Kept::NoMemory),
         Ok(blocks) => blocks,
     };
-    match end(alloc, loops, blocks, &left) {
+    match end(alloc, search.loops, blocks, &left) {
         Err(kept) => Err(kept),
         Ok(blocks) => Ok(Step::Ends(blocks)),
     }
@@ -107,22 +101,23 @@ fn finish(
 /// The band is closed.
 fn close_band(
     alloc: Global,
-    parameters: usize,
+    search: &Search,
     closed: Vec<Block>,
     rows: Vec<Marked>,
     deps: Vec<Dep>,
     vectors: Vec<Rows>,
-    budget: u64,
 ) -> Result<Progress, Kept>
     requires tells { (d : Dependence) → In d deps.items
-        → All (λ r. CanTell parameters r.row d) (map marked_of rows.items) }
-    requires parameters { (d : Dependence) → In d deps.items → d.system.parameters ≡ parameters }
-    ensures closed { IfOk result (IsClosed parameters (map block_of closed.items) (map marked_of rows.items) deps.items
-        (map (λ vs. map (λ v. v.items) vs.items) vectors.items)) }
-    ensures answered { IfOk result (λ _. AnswersRestricted parameters (map marked_of rows.items) budget deps.items) }
-    ensures stops { IfErr result (IsStop (StopsRestricted parameters (map marked_of rows.items) budget deps.items)) }
+        → All (λ r. CanTell search.now.parameters r.row d) (map marked_of rows.items) }
+    requires parameters { (d : Dependence) → In d deps.items → d.system.parameters ≡ search.now.parameters }
+    ensures closed { IfOk result (IsClosed search.now.parameters (map block_of closed.items) (map marked_of rows.items)
+        deps.items (map (λ vs. map (λ v. v.items) vs.items) vectors.items)) }
+    ensures answered { IfOk result (λ _.
+        AnswersRestricted search.now.parameters (map marked_of rows.items) search.now.budget deps.items) }
+    ensures stops { IfErr result
+        (IsStop (StopsRestricted search.now.parameters (map marked_of rows.items) search.now.budget deps.items)) }
 {
-    let kept = match restrict_all(alloc, parameters, &rows, &deps, budget) {
+    let kept = match restrict_all(alloc, search.parameters, &rows, &deps, search.budget) {
         Err(kept) => return Err(kept),
         Ok(kept) => kept,
     };
@@ -186,19 +181,12 @@ fn goes(progress: Result<Progress, Kept>) -> Result<Step, Kept>
 }
 
 /// There is no row: the band is closed, or a scalar item drops dependences, or nothing goes on.
-fn lack(
-    alloc: Global,
-    parameters: usize,
-    loops: &[usize],
-    progress: Progress,
-    posed: System,
-    budget: u64,
-) -> Result<Step, Kept>
-    requires good { IsGood parameters loops.now budget progress }
-    requires more { IsFull loops.now (rows_of (state_of progress)) → ⊥ }
-    requires none { FindsNone parameters loops.now budget (state_of progress) }
-    requires posed { IsPosedAt parameters loops.now budget (state_of progress) posed }
-    ensures { Steps parameters loops.now budget (state_of progress) result }
+fn lack(alloc: Global, search: &Search, progress: Progress, posed: System) -> Result<Step, Kept>
+    requires good { IsGood search.now.parameters search.now.loops.now search.now.budget progress }
+    requires more { IsFull search.now.loops.now (rows_of (state_of progress)) → ⊥ }
+    requires none { FindsNone search.now.parameters search.now.loops.now search.now.budget (state_of progress) }
+    requires posed { IsPosedAt search.now.parameters search.now.loops.now search.now.budget (state_of progress) posed }
+    ensures { Steps search.now.parameters search.now.loops.now search.now.budget (state_of progress) result }
 {
     let deps = match remaining(alloc, &progress) {
         Err(_) => return Err(Kept::NoMemory),
@@ -211,9 +199,9 @@ fn lack(
         ..
     } = progress;
     if rows.is_empty() {
-        return goes(cut(alloc, loops, closed, deps, vectors, posed));
+        return goes(cut(alloc, search.loops, closed, deps, vectors, posed));
     }
-    goes(close_band(alloc, parameters, closed, rows, deps, vectors, budget))
+    goes(close_band(alloc, search, closed, rows, deps, vectors))
 }
 
 /// The least row is too large; it would be the next item.
@@ -267,29 +255,26 @@ fn append(
 /// The least row is appended, marked by the questions of `phi_T - phi_S >= 1`; or it is too large.
 fn take(
     alloc: Global,
-    parameters: usize,
-    loops: &[usize],
+    search: &Search,
     progress: Progress,
     numbers: Vec<i128>,
-    budget: u64,
 ) -> Result<Step, Kept>
-    requires loops { All (λ l. l ≤ 5) loops.now }
-    requires good { IsGood parameters loops.now budget progress }
+    requires good { IsGood search.now.parameters search.now.loops.now search.now.budget progress }
     requires ruled { progress.bare.items ≡ [] }
-    requires more { IsFull loops.now (rows_of (state_of progress)) → ⊥ }
-    requires size { length numbers.items ≡ columns_of parameters loops.now }
-    requires least { FindsRow parameters loops.now budget (state_of progress)
-        (row_from parameters loops.now numbers.items) }
-    ensures { Steps parameters loops.now budget (state_of progress) result }
+    requires more { IsFull search.now.loops.now (rows_of (state_of progress)) → ⊥ }
+    requires size { length numbers.items ≡ columns_of search.now.parameters search.now.loops.now }
+    requires least { FindsRow search.now.parameters search.now.loops.now search.now.budget (state_of progress)
+        (row_from search.now.parameters search.now.loops.now numbers.items) }
+    ensures { Steps search.now.parameters search.now.loops.now search.now.budget (state_of progress) result }
 {
-    let row = match row_from(alloc, parameters, loops, &numbers) {
+    let row = match row_from(alloc, search.parameters, search.loops, &numbers) {
         Err(_) => return Err(Kept::NoMemory),
         Ok(row) => row,
     };
     if !is_within(&row) {
         return Err(too_large(&progress));
     }
-    let parallel = match is_parallel(alloc, parameters, &row, &progress.ruled, budget) {
+    let parallel = match is_parallel(alloc, search, &row, &progress.ruled) {
         Err(kept) => return Err(kept),
         Ok(parallel) => parallel,
     };
@@ -350,51 +335,36 @@ fn with_all_rows(alloc: Global, progress: Progress, budget: u64) -> Result<Progr
 
 /// The item that comes next where all dependences that remain have their rows: the least row, or what there is where
 /// the posed set has no point.
-fn next_row(
-    alloc: Global,
-    parameters: usize,
-    loops: &[usize],
-    progress: Progress,
-    budget: u64,
-) -> Result<Step, Kept>
-    requires parameters { parameters ≤ 4 }
-    requires loops { All (λ l. l ≤ 5) loops.now }
-    requires good { IsGood parameters loops.now budget progress }
+fn next_row(alloc: Global, search: &Search, progress: Progress) -> Result<Step, Kept>
+    requires good { IsGood search.now.parameters search.now.loops.now search.now.budget progress }
     requires ruled { progress.bare.items ≡ [] }
-    requires more { IsFull loops.now (rows_of (state_of progress)) → ⊥ }
-    ensures { Steps parameters loops.now budget (state_of progress) result }
+    requires more { IsFull search.now.loops.now (rows_of (state_of progress)) → ⊥ }
+    ensures { Steps search.now.parameters search.now.loops.now search.now.budget (state_of progress) result }
 {
+    let (parameters, loops) = (search.parameters, search.loops);
     let posed = match posed_over(alloc, parameters, loops, &progress.ruled, &progress.vectors) {
         Err(_) => return Err(Kept::NoMemory),
         Ok(posed) => posed,
     };
-    match least_point_in(alloc, &posed, budget) {
+    match least_point_in(alloc, &posed, search.budget) {
         Err(stop) => Err(by_solver(stop)),
-        Ok(None) => lack(alloc, parameters, loops, progress, posed, budget),
-        Ok(Some(numbers)) => take(alloc, parameters, loops, progress, numbers, budget),
+        Ok(None) => lack(alloc, search, progress, posed),
+        Ok(Some(numbers)) => take(alloc, search, progress, numbers),
     }
 }
 
 /// The next item of the determined run, or why there is none. The questions: rows of the dependences that remain, in
 /// order, then the minimum; of a new row whether it is parallel, up to the first dependence at which it rises; where a
 /// band ends the restricted dependences in order.
-pub fn next_item(
-    alloc: Global,
-    parameters: usize,
-    loops: &[usize],
-    progress: Progress,
-    budget: u64,
-) -> Result<Step, Kept>
-    requires parameters { parameters ≤ 4 }
-    requires loops { All (λ l. l ≤ 5) loops.now }
-    requires good { IsGood parameters loops.now budget progress }
-    ensures { Steps parameters loops.now budget (state_of progress) result }
+pub fn next_item(alloc: Global, search: &Search, progress: Progress) -> Result<Step, Kept>
+    requires good { IsGood search.now.parameters search.now.loops.now search.now.budget progress }
+    ensures { Steps search.now.parameters search.now.loops.now search.now.budget (state_of progress) result }
 {
     if is_full(&progress.vectors) {
-        return finish(alloc, parameters, loops, progress, budget);
+        return finish(alloc, search, progress);
     }
-    match with_all_rows(alloc, progress, budget) {
+    match with_all_rows(alloc, progress, search.budget) {
         Err(kept) => Err(kept),
-        Ok(ruled) => next_row(alloc, parameters, loops, ruled, budget),
+        Ok(ruled) => next_row(alloc, search, ruled),
     }
 }

@@ -15,6 +15,7 @@ ghost use Rattle.pluto_search.specs.Stopping.{IsStop};
 
 use crate::kept::Kept;
 use crate::restricting::{above_at, asked};
+use crate::state::Search;
 use iteration_domains::Dep;
 use null_space::{Rows, narrowed_by};
 use pluto_systems::Ruled;
@@ -122,43 +123,37 @@ pub fn narrow_all(alloc: Global, row: &Row, vectors: &[Rows]) -> Result<Vec<Rows
 }
 
 /// Whether a dependence has no pair at which a row rises.
-fn is_level(
-    alloc: Global,
-    parameters: usize,
-    row: &Row,
-    dep: &Dep,
-    budget: u64,
-) -> Result<bool, Kept>
-    requires { CanTell parameters (row_of row.now) dep.now }
-    ensures level { result ≡ Ok true → IsEmptyDep parameters (above_at parameters (row_of row.now) dep.now) }
-    ensures rises { result ≡ Ok false → IsEmptyDep parameters (above_at parameters (row_of row.now) dep.now) → ⊥ }
-    ensures answered { IfOk result (λ level. AnswersMark parameters (row_of row.now) budget level dep.now) }
-    ensures stops { IfErr result (IsStop (StopsEmptiness budget (above_at parameters (row_of row.now) dep.now))) }
+fn is_level(alloc: Global, search: &Search, row: &Row, dep: &Dep) -> Result<bool, Kept>
+    requires { CanTell search.now.parameters (row_of row.now) dep.now }
+    ensures level { result ≡ Ok true
+        → IsEmptyDep search.now.parameters (above_at search.now.parameters (row_of row.now) dep.now) }
+    ensures rises { result ≡ Ok false
+        → IsEmptyDep search.now.parameters (above_at search.now.parameters (row_of row.now) dep.now) → ⊥ }
+    ensures answered { IfOk result (λ level.
+        AnswersMark search.now.parameters (row_of row.now) search.now.budget level dep.now) }
+    ensures stops { IfErr result (IsStop
+        (StopsEmptiness search.now.budget (above_at search.now.parameters (row_of row.now) dep.now))) }
 {
-    match above_at(alloc, parameters, row, dep) {
+    match above_at(alloc, search.parameters, row, dep) {
         Err(_) => Err(Kept::NoMemory),
-        Ok(above) => asked(alloc, parameters, &above, budget),
+        Ok(above) => asked(alloc, search.parameters, &above, search.budget),
     }
 }
 
 /// Whether a row is parallel: the dependences are asked in order, up to the first at which it rises.
-pub fn is_parallel(
-    alloc: Global,
-    parameters: usize,
-    row: &Row,
-    ruled: &[Ruled],
-    budget: u64,
-) -> Result<bool, Kept>
-    requires { (x : RuledDep) → In x ruled.now → CanTell parameters (row_of row.now) x.dep }
+pub fn is_parallel(alloc: Global, search: &Search, row: &Row, ruled: &[Ruled]) -> Result<bool, Kept>
+    requires { (x : RuledDep) → In x ruled.now → CanTell search.now.parameters (row_of row.now) x.dep }
     ensures parallel { result ≡ Ok true → (d : Dependence) → In d (map dep_of ruled.now)
-        → IsEmptyDep parameters (above_at parameters (row_of row.now) d) }
+        → IsEmptyDep search.now.parameters (above_at search.now.parameters (row_of row.now) d) }
     ensures carries { result ≡ Ok false → (d : Dependence) × In d (map dep_of ruled.now)
-        × (IsEmptyDep parameters (above_at parameters (row_of row.now) d) → ⊥) }
-    ensures answered { IfOk result (λ _. AnswersMarks parameters (row_of row.now) budget (map dep_of ruled.now)) }
-    ensures stops { IfErr result (IsStop (StopsMarks parameters (row_of row.now) budget (map dep_of ruled.now))) }
+        × (IsEmptyDep search.now.parameters (above_at search.now.parameters (row_of row.now) d) → ⊥) }
+    ensures answered { IfOk result (λ _.
+        AnswersMarks search.now.parameters (row_of row.now) search.now.budget (map dep_of ruled.now)) }
+    ensures stops { IfErr result
+        (IsStop (StopsMarks search.now.parameters (row_of row.now) search.now.budget (map dep_of ruled.now))) }
 {
     for at in 0..ruled.len() {
-        match is_level(alloc, parameters, row, ruled[at].dep(), budget) {
+        match is_level(alloc, search, row, ruled[at].dep()) {
             Err(kept) => return Err(kept),
             Ok(true) => {}
             Ok(false) => return Ok(false),

@@ -1,5 +1,4 @@
 //! The search, item by item.
-ghost use Rattle.std.specs.Prelude.{◌≤◌, All};
 ghost use Rattle.schedule_rows.specs.Schedule.{loops_in};
 ghost use Rattle.pluto_search.specs.Searching.{Runs, Starts, Searches};
 ghost use Rattle.pluto_search.specs.Steps.{AreBetween};
@@ -8,53 +7,38 @@ use crate::begin::begin;
 use crate::kept::Kept;
 use crate::next::next_item;
 use crate::restricting::restrict_all;
-use crate::state::{Progress, Step};
+use crate::state::{Progress, Search, Step};
 use iteration_domains::{Dep, Model};
 use pluto_systems::loops_in;
 use schedule_rows::{Block, Schedule};
 use std::alloc::Global;
 
 /// The first state: the dependences that have a point.
-fn take_up(
-    alloc: Global,
-    parameters: usize,
-    loops: &[usize],
-    deps: &[Dep],
-    budget: u64,
-) -> Result<Progress, Kept>
-    requires loops { All (λ l. l ≤ 5) loops.now }
-    requires between { AreBetween parameters loops.now deps.now }
-    ensures { Starts parameters loops.now deps.now budget result }
+fn take_up(alloc: Global, search: &Search, deps: &[Dep]) -> Result<Progress, Kept>
+    requires { AreBetween search.now.parameters search.now.loops.now deps.now }
+    ensures { Starts search.now.parameters search.now.loops.now deps.now search.now.budget result }
 {
-    let taken = match restrict_all(alloc, parameters, &[], deps, budget) {
+    let taken = match restrict_all(alloc, search.parameters, &[], deps, search.budget) {
         Err(kept) => return Err(kept),
         Ok(taken) => taken,
     };
-    match begin(alloc, loops, taken) {
+    match begin(alloc, search, taken) {
         Err(_) => Err(Kept::NoMemory),
         Ok(progress) => Ok(progress),
     }
 }
 
 /// The blocks of the determined run, item by item.
-fn run(
-    alloc: Global,
-    parameters: usize,
-    loops: &[usize],
-    deps: &[Dep],
-    budget: u64,
-) -> Result<Vec<Block>, Kept>
-    requires parameters { parameters ≤ 4 }
-    requires loops { All (λ l. l ≤ 5) loops.now }
-    requires between { AreBetween parameters loops.now deps.now }
-    ensures { Runs parameters loops.now deps.now budget result }
+fn run(alloc: Global, search: &Search, deps: &[Dep]) -> Result<Vec<Block>, Kept>
+    requires { AreBetween search.now.parameters search.now.loops.now deps.now }
+    ensures { Runs search.now.parameters search.now.loops.now deps.now search.now.budget result }
 {
-    let mut progress = match take_up(alloc, parameters, loops, deps, budget) {
+    let mut progress = match take_up(alloc, search, deps) {
         Err(kept) => return Err(kept),
         Ok(progress) => progress,
     };
     loop {
-        match next_item(alloc, parameters, loops, progress, budget) {
+        match next_item(alloc, search, progress) {
             Err(kept) => return Err(kept),
             Ok(Step::Ends(blocks)) => return Ok(blocks),
             Ok(Step::Goes(next)) => progress = next,
@@ -77,12 +61,16 @@ pub fn search<'a>(
     requires { AreBetween model.now.parameters (loops_in model.now) deps.now }
     ensures search { Searches model.now deps.now budget result }
 {
-    let parameters = model.parameters();
     let loops = match loops_in(alloc, model) {
         Err(_) => return Err(Kept::NoMemory),
         Ok(loops) => loops,
     };
-    let blocks = match run(alloc, parameters, &loops, deps, budget) {
+    let search = Search {
+        parameters: model.parameters(),
+        loops: &loops,
+        budget,
+    };
+    let blocks = match run(alloc, &search, deps) {
         Err(kept) => return Err(kept),
         Ok(blocks) => blocks,
     };

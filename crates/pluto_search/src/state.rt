@@ -1,8 +1,20 @@
-//! How far a search has come.
+//! What a search is over, and how far it has come.
+ghost use Rattle.std.specs.Prelude.{◌≤◌, All};
+
 use iteration_domains::Dep;
 use null_space::Rows;
 use pluto_systems::Ruled;
 use schedule_rows::{Block, Marked};
+
+/// So many parameters, how many loops stand round each statement, and how many moves each question may make.
+#[derive(Drop)]
+pub struct Search<'a> {
+    pub parameters: usize,
+    pub loops: &'a [usize],
+    pub budget: u64,
+    ghost few: { parameters ≤ 4 },
+    ghost small: { All (λ l. l ≤ 5) loops.now },
+}
 
 /// The blocks that are done, the rows of the open band, and the dependences that remain: first those whose rows by
 /// Farkas's lemma are made, then the others. Of each statement the kernel vectors of all its rows.

@@ -122,16 +122,16 @@ pub record ArePosed (m : ℕ) (loops : List ℕ) (ruled : List RuledDep) (vector
   pub rows : rs ≡ flat_map (rows_for m loops) ruled ++ growth_from m loops 0 vectors
 
 -- made over numbers and lists that are the same
-pub are_posed : (m p : ℕ) (loops k l : List ℕ) (ruled : List RuledDep) (vs ws : List (List (List ℤ)))
-    (es rs : List Affine) → p ≡ m → k ≡ loops → l ≡ loops → ws ≡ vs → es ≡ flat_map (equalities_for p k) ruled
+pub are_posed : (m p : ℕ) (loops k : List ℕ) (ruled : List RuledDep) (vs ws : List (List (List ℤ)))
+    (es rs : List Affine) → p ≡ m → k ≡ loops → ws ≡ vs → es ≡ flat_map (equalities_for p k) ruled
     → rs ≡ flat_map (rows_for p k) ruled
-    → ArePosed m loops ruled vs (columns_of p l) es (rs ++ growth_from p l 0 ws)
-are_posed m p loops k l ruled vs ws es rs a b c d e f =
+    → ArePosed m loops ruled vs (columns_of p k) es (rs ++ growth_from p k 0 ws)
+are_posed m p loops k ruled vs ws es rs a b d e f =
     record {
-      columns = ap₂ columns_of a c;
+      columns = ap₂ columns_of a b;
       equalities = e ∙ ap₂ (λ (i : ℕ) (x : List ℕ). flat_map (equalities_for i x) ruled) a b;
       rows = ap₂ (λ (x y : List Affine). x ++ y) (f ∙ ap₂ (λ (i : ℕ) (x : List ℕ). flat_map (rows_for i x) ruled) a b)
-          (ap₂ (λ (i : ℕ) (x : List ℕ). growth_from i x 0 ws) a c ∙ ap (growth_from m loops 0) d);
+          (ap₂ (λ (i : ℕ) (x : List ℕ). growth_from i x 0 ws) a b ∙ ap (growth_from m loops 0) d);
     }
 
 -- they are sized as its forms are

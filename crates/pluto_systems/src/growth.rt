@@ -6,6 +6,7 @@ ghost use Rattle.whole_numbers.specs.Lists.{sums};
 ghost use Rattle.null_space.specs.Sizes.{IsWithin, AreWithin, AreLong};
 ghost use Rattle.pluto_systems.specs.Posing.{own_form, own_row, added, growth_rows};
 
+use crate::columns::Columns;
 use crate::placing::placed;
 use affine_forms::{Form, push};
 use iteration_domains::{Numbers, form_from, push_zeros};
@@ -22,17 +23,16 @@ fn vector_at(vectors: &[Vec<i128>], at: usize) -> &[i128]
 /// The product of a vector with a statement's coefficients, and a constant, over its own unknowns.
 fn own_form(
     alloc: Global,
-    parameters: usize,
+    columns: &Columns,
     vector: &[i128],
     constant: i128,
 ) -> Result<Form, AllocError>
-    requires parameters { parameters ≤ 4 }
-    ensures { IfOk result (λ f. f ≡ own_form parameters vector.now constant) }
+    ensures { IfOk result (λ f. f ≡ own_form columns.now.parameters vector.now constant) }
 {
     let mut turned = Vec::from_slice(alloc, vector)?;
     turned.reverse();
     let mut coefficients = Numbers::new(alloc);
-    push_zeros(&mut coefficients, parameters + 1)?;
+    push_zeros(&mut coefficients, columns.parameters + 1)?;
     coefficients.extend_from_slice(&turned)?;
     coefficients.push(0)?;
     form_from(alloc, coefficients.as_slice(), constant)
@@ -41,18 +41,15 @@ fn own_form(
 /// The same over all columns, for statement s.
 fn own_row(
     alloc: Global,
-    parameters: usize,
-    loops: &[usize],
+    columns: &Columns,
     s: usize,
     constant: i128,
     vector: &[i128],
 ) -> Result<Form, AllocError>
-    requires parameters { parameters ≤ 4 }
-    requires loops { All (λ l. l ≤ 5) loops.now }
-    ensures { IfOk result (λ f. f ≡ own_row parameters loops.now s constant vector.now) }
+    ensures { IfOk result (λ f. f ≡ own_row columns.now.parameters columns.now.loops.now s constant vector.now) }
 {
-    let form = own_form(alloc, parameters, vector, constant)?;
-    placed(alloc, parameters, s, s, loops, &form)
+    let form = own_form(alloc, columns, vector, constant)?;
+    placed(alloc, columns, s, s, &form)
 }
 
 /// The sum of a vector of at most four times great numbers and one of great numbers.
@@ -99,28 +96,25 @@ fn added_up(alloc: Global, vectors: &[Vec<i128>]) -> Result<Vec<i128>, AllocErro
 pub fn push_growth(
     alloc: Global,
     out: &mut Vec<Form>,
-    parameters: usize,
-    loops: &[usize],
+    columns: &Columns,
     s: usize,
     vectors: &[Vec<i128>],
 ) -> Result<(), AllocError>
-    requires parameters { parameters ≤ 4 }
-    requires loops { All (λ l. l ≤ 5) loops.now }
     requires few { length vectors.now ≤ 5 }
     requires lengths { AreLong (length (slice_index_or (map (λ v. v.items) vectors.now) 0 []))
         (map (λ v. v.items) vectors.now) }
     requires sizes { All (AreWithin (2 ^ 109)) (map (λ v. v.items) vectors.now) }
     ensures { OnOk result (out.new.items ≡ out.old.items
-        ++ growth_rows parameters loops.now s (map (λ v. v.items) vectors.now)) }
+        ++ growth_rows columns.now.parameters columns.now.loops.now s (map (λ v. v.items) vectors.now)) }
 {
     if vectors.is_empty() {
         return Ok(());
     }
     for at in 0..vectors.len() {
-        let row = own_row(alloc, parameters, loops, s, 0, vector_at(vectors, at))?;
+        let row = own_row(alloc, columns, s, 0, vector_at(vectors, at))?;
         push(out, row)?;
     }
     let sum = added_up(alloc, vectors)?;
-    let row = own_row(alloc, parameters, loops, s, -1, &sum)?;
+    let row = own_row(alloc, columns, s, -1, &sum)?;
     push(out, row)
 }

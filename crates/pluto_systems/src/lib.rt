@@ -6,6 +6,7 @@
 //! points that are not negative are exactly the posed rows.
 #![tactic(auto)]
 
+mod columns;
 mod growth;
 mod laws;
 mod placing;

@@ -1,7 +1,8 @@
 //! Forms over the unknowns of a dependence's two statements as forms over all columns of the objective.
-ghost use Rattle.std.specs.Prelude.{◌≡◌, ◌≤◌, ◌++◌, All, IfOk, OnOk, take, drop, map};
+ghost use Rattle.std.specs.Prelude.{◌≡◌, ◌++◌, IfOk, OnOk, take, drop, map};
 ghost use Rattle.pluto_systems.specs.Placing.{is_end, placed_parts, placed};
 
+use crate::columns::Columns;
 use affine_forms::{Form, push};
 use iteration_domains::{Numbers, form_from, push_zeros};
 use std::alloc::{AllocError, Global};
@@ -28,14 +29,15 @@ fn is_one(source: usize, target: usize, s: usize) -> bool
 /// Appends the factors of the columns of all statements: those of the two, and 0 for all others.
 fn place_parts(
     out: &mut Numbers,
+    columns: &Columns,
     source: usize,
     target: usize,
-    loops: &[usize],
     factors: &[i128],
 ) -> Result<(), AllocError>
-    requires loops { All (λ l. l ≤ 5) loops.now }
-    ensures { OnOk result (out.new.items ≡ out.old.items ++ placed_parts source target 0 loops.now factors.now) }
+    ensures { OnOk result (out.new.items ≡ out.old.items
+        ++ placed_parts source target 0 columns.now.loops.now factors.now) }
 {
+    let loops = columns.loops;
     let mut rest = factors;
     for s in 0..loops.len() {
         let count = loops[s] + 1;
@@ -53,20 +55,17 @@ fn place_parts(
 /// The form over all columns.
 pub fn placed(
     alloc: Global,
-    parameters: usize,
+    columns: &Columns,
     source: usize,
     target: usize,
-    loops: &[usize],
     form: &Form,
 ) -> Result<Form, AllocError>
-    requires parameters { parameters ≤ 4 }
-    requires loops { All (λ l. l ≤ 5) loops.now }
-    ensures { IfOk result (λ f. f ≡ placed parameters source target loops.now form.now) }
+    ensures { IfOk result (λ f. f ≡ placed columns.now.parameters source target columns.now.loops.now form.now) }
 {
-    let (front, rest) = cut_at(form.coefficients(), parameters + 1);
+    let (front, rest) = cut_at(form.coefficients(), columns.parameters + 1);
     let mut coefficients = Numbers::new(alloc);
     coefficients.extend_from_slice(front)?;
-    place_parts(&mut coefficients, source, target, loops, rest)?;
+    place_parts(&mut coefficients, columns, source, target, rest)?;
     form_from(alloc, coefficients.as_slice(), form.constant())
 }
 
@@ -74,18 +73,16 @@ pub fn placed(
 pub fn place_all(
     alloc: Global,
     out: &mut Vec<Form>,
-    parameters: usize,
+    columns: &Columns,
     source: usize,
     target: usize,
-    loops: &[usize],
     forms: &[Form],
 ) -> Result<(), AllocError>
-    requires parameters { parameters ≤ 4 }
-    requires loops { All (λ l. l ≤ 5) loops.now }
-    ensures { OnOk result (out.new.items ≡ out.old.items ++ map (placed parameters source target loops.now) forms.now) }
+    ensures { OnOk result (out.new.items ≡ out.old.items
+        ++ map (placed columns.now.parameters source target columns.now.loops.now) forms.now) }
 {
     for form in forms {
-        let placed = placed(alloc, parameters, source, target, loops, form)?;
+        let placed = placed(alloc, columns, source, target, form)?;
         push(out, placed)?;
     }
     Ok(())

@@ -3,8 +3,7 @@
 ghost use Rattle.std.specs.Prelude.{◌≡◌, ◌≤◌, ◌++◌, List, All, IfOk, OnOk, length, map};
 ghost use Rattle.std.specs.List.{flat_map};
 ghost use Rattle.std.specs.Option.{ForSome};
-ghost use Rattle.affine_forms.specs.Parts.{variables_of};
-ghost use Rattle.integer_sets.specs.Constraints.{IsSized, system_of, variables_in};
+ghost use Rattle.integer_sets.specs.Constraints.{IsSized, system_of};
 ghost use Rattle.scop_syntax.specs.Members.{In};
 ghost use Rattle.schedule_rows.specs.Items.{Row};
 ghost use Rattle.pluto_systems.specs.Placing.{columns_of};
@@ -13,6 +12,7 @@ ghost use Rattle.pluto_systems.specs.Posing.{equalities_for, rows_for, growth_fr
 ghost use Rattle.pluto_systems.specs.Posing.{AreVectorsOf, AreSmallVectors, AreCoefficientRows, vectors_for};
 ghost use Rattle.schedule_rows.specs.Schedule.{loops_in};
 
+use crate::columns::Columns;
 use crate::growth::push_growth;
 use crate::laws::{
     kernel_vectors_of_rows_are_small, posed_systems_are_sized, posed_systems_hold_the_posed_rows,
@@ -26,168 +26,100 @@ use iteration_domains::{Dep, Model};
 use null_space::Rows;
 use std::alloc::{AllocError, Global};
 
-/// Appends the equalities of a dependence over all columns.
-fn push_equalities(
+/// Appends the equalities and the rows of a dependence over all columns.
+fn push_forms(
     alloc: Global,
-    out: &mut Vec<Form>,
-    parameters: usize,
-    loops: &[usize],
+    columns: &Columns,
+    equal: &mut Vec<Form>,
+    rows: &mut Vec<Form>,
     dep: &Dep,
     legal: &System,
     bounded: &System,
 ) -> Result<(), AllocError>
-    requires parameters { parameters ≤ 4 }
-    requires loops { All (λ l. l ≤ 5) loops.now }
-    ensures forms { OnOk result (out.new.items ≡ out.old.items
-        ++ equalities_for parameters loops.now (ruled_dep dep.now legal.now bounded.now)) }
-    ensures legal { OnOk result (All (λ f. variables_of f ≡ variables_in legal.now) legal.now.equalities) }
-    ensures bounded { OnOk result (All (λ f. variables_of f ≡ variables_in bounded.now) bounded.now.equalities) }
+    ensures equalities { OnOk result (equal.new.items ≡ equal.old.items
+        ++ equalities_for columns.now.parameters columns.now.loops.now (ruled_dep dep.now legal.now bounded.now)) }
+    ensures rows { OnOk result (rows.new.items ≡ rows.old.items
+        ++ rows_for columns.now.parameters columns.now.loops.now (ruled_dep dep.now legal.now bounded.now)) }
+    ensures sized { OnOk result (HaveSizes (ruled_dep dep.now legal.now bounded.now)) }
 {
     let (source, target) = (dep.source.statement, dep.target.statement);
-    place_all(
-        alloc,
-        out,
-        parameters,
-        source,
-        target,
-        loops,
-        legal.equalities(),
-    )?;
-    place_all(
-        alloc,
-        out,
-        parameters,
-        source,
-        target,
-        loops,
-        bounded.equalities(),
-    )
-}
-
-/// Appends the rows of a dependence over all columns.
-fn push_rows(
-    alloc: Global,
-    out: &mut Vec<Form>,
-    parameters: usize,
-    loops: &[usize],
-    dep: &Dep,
-    legal: &System,
-    bounded: &System,
-) -> Result<(), AllocError>
-    requires parameters { parameters ≤ 4 }
-    requires loops { All (λ l. l ≤ 5) loops.now }
-    ensures forms { OnOk result (out.new.items ≡ out.old.items
-        ++ rows_for parameters loops.now (ruled_dep dep.now legal.now bounded.now)) }
-    ensures legal { OnOk result (All (λ f. variables_of f ≡ variables_in legal.now) legal.now.rows) }
-    ensures bounded { OnOk result (All (λ f. variables_of f ≡ variables_in bounded.now) bounded.now.rows) }
-{
-    let (source, target) = (dep.source.statement, dep.target.statement);
-    place_all(alloc, out, parameters, source, target, loops, legal.rows())?;
-    place_all(
-        alloc,
-        out,
-        parameters,
-        source,
-        target,
-        loops,
-        bounded.rows(),
-    )
+    place_all(alloc, equal, columns, source, target, legal.equalities())?;
+    place_all(alloc, equal, columns, source, target, bounded.equalities())?;
+    place_all(alloc, rows, columns, source, target, legal.rows())?;
+    place_all(alloc, rows, columns, source, target, bounded.rows())
 }
 
 /// The equalities and the rows of dependences over all columns.
 fn forms_over(
     alloc: Global,
-    parameters: usize,
-    loops: &[usize],
+    columns: &Columns,
     ruled: &[Ruled],
 ) -> Result<(Vec<Form>, Vec<Form>), AllocError>
-    requires parameters { parameters ≤ 4 }
-    requires loops { All (λ l. l ≤ 5) loops.now }
-    ensures equalities { IfOk result (λ v. v.0.items ≡ flat_map (equalities_for parameters loops.now) ruled.now) }
-    ensures rows { IfOk result (λ v. v.1.items ≡ flat_map (rows_for parameters loops.now) ruled.now) }
+    ensures equalities { IfOk result (λ v. v.0.items
+        ≡ flat_map (equalities_for columns.now.parameters columns.now.loops.now) ruled.now) }
+    ensures rows { IfOk result (λ v. v.1.items
+        ≡ flat_map (rows_for columns.now.parameters columns.now.loops.now) ruled.now) }
 {
-    let mut equalities = Vec::new(alloc);
+    let mut equal = Vec::new(alloc);
     let mut rows = Vec::new(alloc);
     for one in ruled {
         let (dep, legal, bounded) = (one.dep(), one.legal(), one.bounded());
-        push_equalities(
-            alloc,
-            &mut equalities,
-            parameters,
-            loops,
-            dep,
-            legal,
-            bounded,
-        )?;
-        push_rows(alloc, &mut rows, parameters, loops, dep, legal, bounded)?;
+        push_forms(alloc, columns, &mut equal, &mut rows, dep, legal, bounded)?;
     }
-    Ok((equalities, rows))
+    Ok((equal, rows))
 }
 
 /// The same of dependences whose systems stand beside them.
 fn forms_of(
     alloc: Global,
-    parameters: usize,
-    loops: &[usize],
+    columns: &Columns,
     deps: &[Dep],
     legal: &[System],
     bounded: &[System],
 ) -> Result<(Vec<Form>, Vec<Form>), AllocError>
-    requires parameters { parameters ≤ 4 }
-    requires loops { All (λ l. l ≤ 5) loops.now }
     requires legal { length legal.now ≡ length deps.now }
     requires bounded { length bounded.now ≡ length deps.now }
     ensures equalities { IfOk result (λ v. v.0.items
-        ≡ flat_map (equalities_for parameters loops.now) (ruled_deps deps.now legal.now bounded.now)) }
+        ≡ flat_map (equalities_for columns.now.parameters columns.now.loops.now)
+        (ruled_deps deps.now legal.now bounded.now)) }
     ensures rows { IfOk result (λ v. v.1.items
-        ≡ flat_map (rows_for parameters loops.now) (ruled_deps deps.now legal.now bounded.now)) }
+        ≡ flat_map (rows_for columns.now.parameters columns.now.loops.now)
+        (ruled_deps deps.now legal.now bounded.now)) }
     ensures sized { IfOk result (λ _. (x : RuledDep) → In x (ruled_deps deps.now legal.now bounded.now) → HaveSizes x) }
 {
-    let mut equalities = Vec::new(alloc);
+    let mut equal = Vec::new(alloc);
     let mut rows = Vec::new(alloc);
     for at in 0..deps.len() {
         let (dep, keeps, bounds) = (&deps[at], &legal[at], &bounded[at]);
-        push_equalities(
-            alloc,
-            &mut equalities,
-            parameters,
-            loops,
-            dep,
-            keeps,
-            bounds,
-        )?;
-        push_rows(alloc, &mut rows, parameters, loops, dep, keeps, bounds)?;
+        push_forms(alloc, columns, &mut equal, &mut rows, dep, keeps, bounds)?;
     }
-    Ok((equalities, rows))
+    Ok((equal, rows))
 }
 
 /// Appends the rows of all statements for their kernel vectors.
 fn push_all_growth(
     alloc: Global,
     out: &mut Vec<Form>,
-    parameters: usize,
-    loops: &[usize],
+    columns: &Columns,
     vectors: &[Rows],
 ) -> Result<(), AllocError>
-    requires parameters { parameters ≤ 4 }
-    requires loops { All (λ l. l ≤ 5) loops.now }
-    requires vectors { AreSmallVectors loops.now (map (λ vs. map (λ v. v.items) vs.items) vectors.now) }
+    requires vectors { AreSmallVectors columns.now.loops.now (map (λ vs. map (λ v. v.items) vs.items) vectors.now) }
     ensures { OnOk result (out.new.items ≡ out.old.items
-        ++ growth_from parameters loops.now 0 (map (λ vs. map (λ v. v.items) vs.items) vectors.now)) }
+        ++ growth_from columns.now.parameters columns.now.loops.now 0
+        (map (λ vs. map (λ v. v.items) vs.items) vectors.now)) }
 {
     for s in 0..vectors.len() {
-        push_growth(alloc, out, parameters, loops, s, vectors_at(vectors, s))?;
+        push_growth(alloc, out, columns, s, vectors_at(vectors, s))?;
     }
     Ok(())
 }
 
 /// How many columns there are.
-fn columns(parameters: usize, loops: &[usize]) -> Option<usize>
-    requires parameters { parameters ≤ 4 }
-    requires loops { All (λ l. l ≤ 5) loops.now }
-    ensures { ForSome result (λ n. n ≡ columns_of parameters loops.now) }
+fn count_of(columns: &Columns) -> Option<usize>
+    ensures { ForSome result (λ n. n ≡ columns_of columns.now.parameters columns.now.loops.now) }
 {
-    let mut count = parameters + 1;
+    let loops = columns.loops;
+    let mut count = columns.parameters + 1;
     for at in 0..loops.len() {
         count = count.checked_add(loops[at] + 1)?;
     }
@@ -197,25 +129,25 @@ fn columns(parameters: usize, loops: &[usize]) -> Option<usize>
 /// The system of these equalities, these rows and those of all statements for their kernel vectors.
 fn with_growth(
     alloc: Global,
-    parameters: usize,
-    loops: &[usize],
+    columns: &Columns,
     equalities: Vec<Form>,
     mut rows: Vec<Form>,
     vectors: &[Rows],
 ) -> Result<System, AllocError>
-    requires parameters { parameters ≤ 4 }
-    requires loops { All (λ l. l ≤ 5) loops.now }
-    requires vectors { AreSmallVectors loops.now (map (λ vs. map (λ v. v.items) vs.items) vectors.now) }
-    requires sized { IsSized (columns_of parameters loops.now) equalities.items (rows.items
-        ++ growth_from parameters loops.now 0 (map (λ vs. map (λ v. v.items) vs.items) vectors.now)) }
-    ensures { IfOk result (λ s. s ≡ system_of (columns_of parameters loops.now) 0 equalities.items (rows.items
-        ++ growth_from parameters loops.now 0 (map (λ vs. map (λ v. v.items) vs.items) vectors.now))) }
+    requires vectors { AreSmallVectors columns.now.loops.now (map (λ vs. map (λ v. v.items) vs.items) vectors.now) }
+    requires sized { IsSized (columns_of columns.now.parameters columns.now.loops.now) equalities.items (rows.items
+        ++ growth_from columns.now.parameters columns.now.loops.now 0
+        (map (λ vs. map (λ v. v.items) vs.items) vectors.now)) }
+    ensures { IfOk result (λ s. s
+        ≡ system_of (columns_of columns.now.parameters columns.now.loops.now) 0 equalities.items (rows.items
+        ++ growth_from columns.now.parameters columns.now.loops.now 0
+        (map (λ vs. map (λ v. v.items) vs.items) vectors.now))) }
 {
-    push_all_growth(alloc, &mut rows, parameters, loops, vectors)?;
-    match columns(parameters, loops) {
+    push_all_growth(alloc, &mut rows, columns, vectors)?;
+    match count_of(columns) {
         // So many columns do not fit the memory.
         None => Err(AllocError),
-        Some(columns) => Ok(System::from_parts(columns, 0, equalities, rows)),
+        Some(count) => Ok(System::from_parts(count, 0, equalities, rows)),
     }
 }
 
@@ -244,8 +176,9 @@ pub fn posed_over(
 {
     posed_systems_are_sized();
     posed_systems_hold_the_posed_rows();
-    let (equalities, rows) = forms_over(alloc, parameters, loops, ruled)?;
-    with_growth(alloc, parameters, loops, equalities, rows, vectors)
+    let columns = Columns { parameters, loops };
+    let (equalities, rows) = forms_over(alloc, &columns, ruled)?;
+    with_growth(alloc, &columns, equalities, rows, vectors)
 }
 
 /// The posed set of a row of a schedule of this model: `legal` and `bounded` are the systems by Farkas's lemma of each
@@ -280,9 +213,12 @@ pub fn posed(
     kernel_vectors_of_rows_are_small();
     posed_systems_are_sized();
     posed_systems_hold_the_posed_rows();
-    let parameters = model.parameters();
     let loops = loops_in(alloc, model)?;
-    let vectors = vectors_for(alloc, &loops, rows)?;
-    let (equalities, rules) = forms_of(alloc, parameters, &loops, deps, legal, bounded)?;
-    with_growth(alloc, parameters, &loops, equalities, rules, &vectors)
+    let columns = Columns {
+        parameters: model.parameters(),
+        loops: &loops,
+    };
+    let vectors = vectors_for(alloc, &columns, rows)?;
+    let (equalities, rules) = forms_of(alloc, &columns, deps, legal, bounded)?;
+    with_growth(alloc, &columns, equalities, rules, &vectors)
 }

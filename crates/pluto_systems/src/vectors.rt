@@ -3,6 +3,7 @@ ghost use Rattle.std.specs.Prelude.{◌≡◌, ◌≤◌, ◌<◌, [], All, IfOk
 ghost use Rattle.pluto_systems.specs.Posing.{AreCoefficientRows, vectors_for};
 ghost use Rattle.schedule_rows.specs.Schedule.{loops_in};
 
+use crate::columns::Columns;
 use iteration_domains::Model;
 use null_space::{Rows, kernel_vectors};
 use std::alloc::{AllocError, Global};
@@ -29,12 +30,12 @@ pub fn vectors_at(vectors: &[Rows], s: usize) -> &[Vec<i128>]
 }
 
 /// The kernel vectors of each statement's rows.
-pub fn vectors_for(alloc: Global, loops: &[usize], rows: &[Rows]) -> Result<Vec<Rows>, AllocError>
-    requires loops { All (λ l. l ≤ 5) loops.now }
-    requires rows { AreCoefficientRows loops.now (map (λ vs. map (λ v. v.items) vs.items) rows.now) }
+pub fn vectors_for(alloc: Global, columns: &Columns, rows: &[Rows]) -> Result<Vec<Rows>, AllocError>
+    requires { AreCoefficientRows columns.now.loops.now (map (λ vs. map (λ v. v.items) vs.items) rows.now) }
     ensures { IfOk result (λ vectors. map (λ vs. map (λ v. v.items) vs.items) vectors.items
-        ≡ vectors_for loops.now (map (λ vs. map (λ v. v.items) vs.items) rows.now)) }
+        ≡ vectors_for columns.now.loops.now (map (λ vs. map (λ v. v.items) vs.items) rows.now)) }
 {
+    let loops = columns.loops;
     let mut vectors = Vec::new(alloc);
     for s in 0..loops.len() {
         let own = kernel_vectors(alloc, loops[s], vectors_at(rows, s))?;

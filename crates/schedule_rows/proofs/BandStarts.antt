@@ -7,7 +7,8 @@ use Rattle.iteration_domains.specs.Dependence.{Dependence}
 use Rattle.schedule_rows.specs.Items.{Row, Marked, Block, scalar, band, part_of, closed_by}
 use Rattle.schedule_rows.specs.Dependences.{IsEqualAt}
 use Rattle.schedule_rows.specs.Posed.{IsBounded, loops_of}
-use Rattle.schedule_rows.specs.Next.{State, Restricts, Goes, Ends}
+use Rattle.schedule_rows.specs.Next.{State, Restricts}
+use Rattle.schedule_rows.specs.steps.Moves.{Goes, Ends}
 use Rattle.schedule_rows.specs.Outcomes.{goes, state, Next, Runs, IsSchedule}
 use Rattle.schedule_rows.specs.Reaching.{Path, Reached}
 use Rattle.schedule_rows.specs.Schedule as plain

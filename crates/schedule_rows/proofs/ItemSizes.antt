@@ -8,7 +8,8 @@ use Rattle.iteration_domains.specs.Dependence.{Dependence}
 use Rattle.schedule_rows.specs.Items.{Row, Marked, Block, scalar, band, closed_by}
 use Rattle.schedule_rows.specs.Sized.{IsSmall, IsSizedRow, AreSizedRows, IsSizedBlock, AreSized}
 use Rattle.schedule_rows.specs.Posed.{IsPosed}
-use Rattle.schedule_rows.specs.Next.{State, IsWithin, Goes, Ends}
+use Rattle.schedule_rows.specs.Next.{State, IsWithin}
+use Rattle.schedule_rows.specs.steps.Moves.{Goes, Ends}
 use Rattle.schedule_rows.specs.Outcomes.{Runs, IsSchedule}
 use Rattle.schedule_rows.proofs.NextSteps.{next_goes, next_ends}
 

@@ -6,7 +6,8 @@ use Rattle.schedule_rows.specs.Items.{closed_by}
 use Rattle.iteration_domains.specs.Dependence.{Dependence}
 use Rattle.null_space.specs.Narrowing.{narrowed_by, kernel_vectors, Grows}
 use Rattle.schedule_rows.specs.Posed.{coefficients_in, vectors_of, IsFull, loops_of}
-use Rattle.schedule_rows.specs.Next.{State, rows_of, Restricts, Goes}
+use Rattle.schedule_rows.specs.Next.{State, rows_of, Restricts}
+use Rattle.schedule_rows.specs.steps.Moves.{Goes}
 use Rattle.schedule_rows.proofs.NextSteps.{next_goes}
 use Rattle.schedule_rows.specs.Outcomes.{Runs}
 use Rattle.schedule_rows.specs.Measure.{sum_below, missing, is_open, measure}

@@ -2,7 +2,8 @@
 use Rattle.scop_syntax.proofs.Common.{ℕ, ◌<◌, List, sym, ap, subst, inl, inr, length}
 use Rattle.schedule_rows.specs.Items.{Block}
 use Rattle.iteration_domains.specs.Dependence.{Dependence}
-use Rattle.schedule_rows.specs.Next.{State, Restricts, Goes, Ends, Uncuts}
+use Rattle.schedule_rows.specs.Next.{State, Restricts, Uncuts}
+use Rattle.schedule_rows.specs.steps.Moves.{Goes, Ends}
 use Rattle.schedule_rows.specs.Outcomes.{Outcome, goes, ends, no_row, no_order, large, Next}
 
 abbrev state_in : State → Outcome → State

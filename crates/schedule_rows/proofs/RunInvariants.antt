@@ -9,7 +9,8 @@ use Rattle.schedule_rows.specs.Dependences.{Relates, Suits, equal_at, edge_of, e
 use Rattle.stmt_graph.specs.Graph.{IsNumbering}
 use Rattle.stmt_graph.proofs.Counts.{lt_or_eq}
 use Rattle.schedule_rows.specs.Posed.{loops_of}
-use Rattle.schedule_rows.specs.Next.{State, restricted, Restricts, Uncuts, Appends, Goes, Ends, IsSizedDep}
+use Rattle.schedule_rows.specs.Next.{State, restricted, Restricts, Uncuts, IsSizedDep}
+use Rattle.schedule_rows.specs.steps.Moves.{Appends, Goes, Ends}
 use Rattle.schedule_rows.proofs.NextSteps.{next_goes, next_ends}
 use Rattle.schedule_rows.specs.Outcomes.{Runs, IsSchedule}
 use Rattle.schedule_rows.proofs.Pairs.{equal_from, legal_kept}

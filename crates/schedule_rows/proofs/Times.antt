@@ -11,7 +11,8 @@ use Rattle.schedule_rows.specs.Items.{band_rows, rows_in, closed_by}
 use Rattle.iteration_domains.specs.Dependence.{Dependence}
 use Rattle.schedule_rows.specs.Dependences.{Relates}
 use Rattle.schedule_rows.specs.Posed.{loops_of, IsFull, coefficients_in}
-use Rattle.schedule_rows.specs.Next.{State, IsSizedDep, Ends}
+use Rattle.schedule_rows.specs.Next.{State, IsSizedDep}
+use Rattle.schedule_rows.specs.steps.Moves.{Ends}
 use Rattle.schedule_rows.specs.Outcomes.{IsSchedule, Runs}
 use Rattle.schedule_rows.proofs.BlockOrder.{along_values}
 use Rattle.schedule_rows.proofs.NextSteps.{next_ends}

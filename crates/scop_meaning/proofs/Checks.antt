@@ -1,17 +1,17 @@
 -- What stays true along the items of a row and along the turns of a loop, as they are checked.
 use Rattle.scop_syntax.proofs.Common.{◌≡◌, ℕ, suc, ◌+◌, ◌-◌, ◌<◌, Bool, true, false, List, [], ◌∷◌, ◌++◌, length, drop}
-use Rattle.scop_syntax.proofs.Common.{map, get_or, Option, Some, None, ap, ap₂, subst, sym, ◌∙◌, refl, arith}
-use Rattle.scop_syntax.proofs.Common.{append_assoc, add-one, drop-cons, ℤ, pos, slice_get, if◌then◌else◌, flat_map}
-use Rattle.scop_syntax.proofs.Common.{range_with_len, map-append, Access, Head, Tree, loop, Trees, none, more, items_of}
-use Rattle.scop_syntax.proofs.Common.{condition_at, turn_point, RunsFor, Visit, statements_in, accesses, values}
-use Rattle.scop_syntax.proofs.Common.{Failure, IsHead, condition_falls, loop_turns}
+use Rattle.scop_syntax.proofs.Common.{map, get_or, Some, None, ap, ap₂, subst, sym, ◌∙◌, refl, arith, add-one}
+use Rattle.scop_syntax.proofs.Common.{drop-cons, ℤ, pos, slice_get, if◌then◌else◌, flat_map, range_with_len}
+use Rattle.scop_syntax.proofs.Common.{map-append, Access, Head, Tree, loop, Trees, none, more, items_of, condition_at}
+use Rattle.scop_syntax.proofs.Common.{turn_point, RunsFor, Visit, statements_in, accesses, values, Failure, IsHead}
+use Rattle.scop_syntax.proofs.Common.{condition_falls, get_or_from_slice_get, loop_turns, slice_get_within}
 use Rattle.std.proofs.lemmas.Grind.{flat_map-append}
 use Rattle.scop_syntax.specs.declared.tree.Item.{Item}
 use Rattle.scop_syntax.specs.Walk.{within, walk, walk_all}
 use Rattle.scop_syntax.specs.Failures.{is_within, outside_dimensions, outside_accesses, failures}
 use Rattle.scop_meaning.specs.declared.index.Outside.{Outside}
 use Rattle.scop_meaning.specs.Conditions.{CanCheck}
-use Rattle.scop_meaning.specs.Outside.{outside_of, first_of, FindsFirst}
+use Rattle.scop_meaning.specs.Outside.{outside_of, first_of}
 use Rattle.scop_meaning.proofs.WalkSteps.{walk_first, walk_rest, walk_turn}
 
 -- the first of two lists one behind the other
@@ -51,35 +51,13 @@ pub dimension_fails : (v : Visit) (a i : ℕ) (ss : List ℤ) (es : List ℕ) �
     })
 dimension_fails v a i ss es h k outside = ap first_of (dimension_step v a i ss es h k) ∙ rw outside refl
 
--- of accesses one behind the other
-pub outside_accesses-append : (es : List (List ℕ)) (v : Visit) (a : ℕ) (xs ys : List Access)
-    → outside_accesses es v a (xs ++ ys) ≡ outside_accesses es v a xs ++ outside_accesses es v (a + length xs) ys
-outside_accesses-append es v a [] ys = let e : a ≡ a + 0 = omega arith in ap (λ n. outside_accesses es v n ys) e
-outside_accesses-append es v a (x ∷ xs) ys =
-    let here = outside_dimensions v a 0 (values x.subscripts v.point) (get_or es x.array []) in
-    let e : a + 1 + length xs ≡ a + length (x ∷ xs) = omega arith in
-    ap (λ fs. here ++ fs)
-    (outside_accesses-append es v (a + 1) xs ys
-    ∙ ap (λ n. outside_accesses es v (a + 1) xs ++ outside_accesses es v n ys) e)
-    ∙ sym (append_assoc here (outside_accesses es v (a + 1) xs) (outside_accesses es v (a + length (x ∷ xs)) ys))
-
-pub found_left : (o : Outside) (stmt : ℕ) (point : List ℤ) (es : List (List ℕ)) (a : ℕ) (xs ys : List Access)
-    → FindsFirst (Some o) stmt point es a xs → FindsFirst (Some o) stmt point es a (xs ++ ys)
-found_left o stmt point es a xs ys c = record {
-  found = λ v at.
-      first_here (outside_accesses es v a xs) (outside_accesses es v (a + length xs) ys) o (c.found v at)
-      ∙ ap first_of (sym (outside_accesses-append es v a xs ys));
-}
-
-pub found_right : (r : Option Outside) (stmt : ℕ) (point : List ℤ) (es : List (List ℕ)) (a : ℕ) (xs ys : List Access)
-    → FindsFirst None stmt point es a xs → FindsFirst r stmt point es (a + length xs) ys
-    → FindsFirst r stmt point es a (xs ++ ys)
-found_right r stmt point es a xs ys c d = record {
-  found = λ v at.
-      d.found v at
-      ∙ (sym (first_behind (outside_accesses es v a xs) (outside_accesses es v (a + length xs) ys) (c.found v at))
-      ∙ ap first_of (sym (outside_accesses-append es v a xs ys)));
-}
+-- the accesses from one on are that one and those behind it
+pub accesses_from : (es : List (List ℕ)) (v : Visit) (a : ℕ) (fs : List Access) (f : Access) → slice_get fs a ≡ Some f
+    → outside_accesses es v a (drop a fs)
+    ≡ outside_dimensions v a 0 (values f.subscripts v.point) (get_or es f.array [])
+    ++ outside_accesses es v (a + 1) (drop (a + 1) fs)
+accesses_from es v a fs f at =
+    rw (drop-cons fs a f (slice_get_within fs a f at), get_or_from_slice_get fs a f f at, add-one a) refl
 
 same_if : (b : Bool) (xs ys : List Failure) (f g : Failure) → map outside_of xs ≡ map outside_of ys → outside_of f
     ≡ outside_of g

@@ -5,8 +5,8 @@ pub mod Chains
 mod WalkSteps
 mod Runs
 mod Checks
+mod FittingReads
 mod Kernels
 mod StatementSearch
-pub mod Nodes
 mod Numbering
 pub mod Outside

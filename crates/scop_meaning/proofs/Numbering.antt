@@ -1,8 +1,7 @@
--- How many values are read; the numbers of accesses, and of cells among those of all arrays.
-use Rattle.scop_syntax.proofs.Common.{◌≡◌, ℕ, zero, suc, ◌+◌, ◌-◌, ◌<◌, ◌≤◌, List, [], ◌∷◌, ◌++◌, length, take, get_or}
-use Rattle.scop_syntax.proofs.Common.{ap, ◌∙◌, arith, refl, slice_get, Access, Right, assigned, combined, moved_left}
-use Rattle.scop_syntax.proofs.Common.{moved_right, combined_narrow, moved_left_narrow, reads_with, cell_count}
-use Rattle.scop_syntax.proofs.Common.{total_cells}
+-- How many values are read; the numbers of cells among those of all arrays.
+use Rattle.scop_syntax.proofs.Common.{◌≡◌, ℕ, zero, suc, ◌+◌, ◌<◌, ◌≤◌, List, [], ◌∷◌, length, take, get_or, ap, ◌∙◌}
+use Rattle.scop_syntax.proofs.Common.{arith, refl, Access, Right, assigned, combined, moved_left, moved_right}
+use Rattle.scop_syntax.proofs.Common.{combined_narrow, moved_left_narrow, reads_with, cell_count, total_cells}
 use Rattle.scop_meaning.specs.Instances.{AreExtents, AreLayout, values_wanted}
 
 -- a statement reads as many values as its right side wants
@@ -13,15 +12,6 @@ reads_wanted place (moved_left k) = refl
 reads_wanted place (moved_right k) = refl
 reads_wanted place (combined_narrow op e) = refl
 reads_wanted place (moved_left_narrow k) = refl
-
--- an element of two lists, one behind the other
-pub get_back : {A : Type 0} (xs ys : List A) (i : ℕ) → length xs ≤ i
-    → slice_get (xs ++ ys) i ≡ slice_get ys (i - length xs)
-get_back [] ys i h = let z : i ≡ i - 0 = omega arith in ap (slice_get ys) z
-get_back (x ∷ xs) ys zero h = absurd (omega arith)
-get_back (x ∷ xs) ys (suc i) h =
-    let z : i - length xs ≡ suc i - suc (length xs) = omega arith in
-    get_back xs ys i (omega arith) ∙ ap (slice_get ys) z
 
 -- the cells of one more array
 total_next : (es : List (List ℕ)) (i : ℕ) → i < length es

@@ -20,7 +20,7 @@ pub record IsAt (stmt : ℕ) (point : List ℤ) (v : Visit) : Type 0 where
   pub number : v.number + 1 ≡ stmt
   pub at : v.point ≡ point
 
--- the result is the first failure of these accesses, which are numbered from the given number on
-pub record FindsFirst (result : Option Outside) (stmt : ℕ) (point : List ℤ) (extents : List (List ℕ)) (from : ℕ)
+-- the result is the first failure of these accesses
+pub record FindsFirst (result : Option Outside) (stmt : ℕ) (point : List ℤ) (extents : List (List ℕ))
     (accesses : List Access) : Type 0 where
-  pub found : (v : Visit) → IsAt stmt point v → result ≡ first_of (outside_accesses extents v from accesses)
+  pub found : (v : Visit) → IsAt stmt point v → result ≡ first_of (outside_accesses extents v 0 accesses)

@@ -1,30 +1,30 @@
 //! The index check: the first instance of the walk that has a subscript outside its extent, with its
 //! least access and of that its least dimension.
-ghost use Rattle.std.specs.Prelude.{◌≡◌, ◌+◌, ◌≤◌, ◌∷◌, ◌^◌, [], All, FitsSigned, MatchOption, length, map, pos};
-ghost use Rattle.std.specs.Prelude.{⊤};
+ghost use Rattle.std.specs.Prelude.{◌≡◌, ◌+◌, ◌≤◌, ◌^◌, [], All, FitsSigned, length, map, pos, slice_index_or};
 ghost use Rattle.std.specs.Int.{w64};
 ghost use Rattle.std.specs.Option.{option_map};
 ghost use Rattle.whole_numbers.specs.Affine.{value_of};
-ghost use Rattle.scop_syntax.specs.Cells.{accesses, reads_of, reads_with, values};
+ghost use Rattle.scop_syntax.specs.Cells.{accesses, values};
 ghost use Rattle.scop_syntax.specs.Execution.{layout};
 ghost use Rattle.scop_syntax.specs.Failures.{failures, first_outside as first_failure, is_within, outside_dimensions};
-ghost use Rattle.scop_syntax.specs.Fits.{AccessFits, ExpressionFits, RightFits, StatementFits};
-ghost use Rattle.scop_syntax.specs.Kernel.{IsAccess, IsExpression, IsRight, IsStatement};
+ghost use Rattle.scop_syntax.specs.Fits.{AccessFits, StatementFits};
+ghost use Rattle.scop_syntax.specs.Kernel.{IsAccess, IsStatement};
 ghost use Rattle.scop_syntax.specs.Limits.{WithinLimits};
 ghost use Rattle.scop_syntax.specs.Tree.{loop, more, none};
-ghost use Rattle.scop_syntax.specs.View.{expression_of, items_of, program_of, right_of, statement_of, tree_of};
+ghost use Rattle.scop_syntax.specs.View.{items_of, program_of, statement_of, tree_of};
 ghost use Rattle.scop_syntax.specs.Walk.{Visit, statements_in, statements_in_all, turn_point};
 ghost use Rattle.scop_syntax.specs.Walk.{walk, walk_all, walk_of};
 ghost use Rattle.scop_meaning.specs.Conditions.{CanCheck, CanTurn};
-ghost use Rattle.scop_meaning.specs.Outside.{FindsFirst, first_of, outside_of};
+ghost use Rattle.scop_meaning.specs.Outside.{FindsFirst, IsAt, first_of, outside_of};
 ghost use Rattle.scop_meaning.specs.declared.loops.TheConstants.{ROOM};
 
 use crate::guards::all_hold;
 use crate::loops::{Point, enter_turn, point_at, turns_of};
+use scop_syntax::accesses::{access_at, read_count};
 use scop_syntax::affine_values::exact_at;
 use scop_syntax::arrays::Extents;
 use scop_syntax::limit_laws::numbers_of_runs_fit;
-use scop_syntax::tree::{Access, Aff, Expr, Item, Kernel, Loop, Right, Stmt};
+use scop_syntax::tree::{Access, Aff, Item, Kernel, Loop, Stmt};
 
 /// A subscript outside its extent: of which statement, counted from 1, of which of its accesses,
 /// where 0 is the place written and the reads are counted from 1, and in which dimension, counted
@@ -84,7 +84,8 @@ fn outside_access(
 ) -> Option<Outside>
     requires formed { IsAccess (map length extents.now) (length point.now) access.now }
     requires fits { AccessFits access.now point.now }
-    ensures { FindsFirst result stmt point.now extents.now number (access.now ∷ []) }
+    ensures { (v : Visit) → IsAt stmt point.now v → result ≡ first_of (outside_dimensions v number 0
+        (values access.now.subscripts v.point) (slice_index_or extents.now access.now.array [])) }
 {
     outside_dimension(
         &access.subscripts,
@@ -95,94 +96,7 @@ fn outside_access(
     )
 }
 
-/// The first failure among the reads of `expression`, which are counted from `next` on; without one
-/// `next` goes on behind them.
-fn outside_reads(
-    expression: &Expr,
-    next: &mut usize,
-    extents: &Extents,
-    point: &[i64],
-    stmt: usize,
-) -> Option<Outside>
-    requires formed { IsExpression (map length extents.now) (length point.now) (expression_of expression.now) }
-    requires fits { ExpressionFits (expression_of expression.now) point.now }
-    requires few { next.old + length (reads_of (expression_of expression.now)) ≤ 17 }
-    ensures found { FindsFirst result stmt point.now extents.now next.old (reads_of (expression_of expression.now)) }
-    ensures behind { MatchOption result (next.new ≡ next.old + length (reads_of (expression_of expression.now)))
-        (λ outside. ⊤) }
-{
-    match expression {
-        Expr::Read(access) => {
-            let number = *next;
-            *next += 1;
-            outside_access(access, number, extents, point, stmt)
-        }
-        Expr::Constant(_) => None,
-        Expr::Affine(_) => None,
-        Expr::Negated(operand) => outside_reads(operand, next, extents, point, stmt),
-        Expr::Complemented(operand) => outside_reads(operand, next, extents, point, stmt),
-        Expr::Cast(operand) => outside_reads(operand, next, extents, point, stmt),
-        Expr::Binary(_, left, right) => match outside_reads(left, next, extents, point, stmt) {
-            Some(outside) => Some(outside),
-            None => outside_reads(right, next, extents, point, stmt),
-        },
-        Expr::ShiftedLeft(operand, _) => outside_reads(operand, next, extents, point, stmt),
-        Expr::ShiftedRight(operand, _) => outside_reads(operand, next, extents, point, stmt),
-        Expr::Narrowed(_, operand) => outside_reads(operand, next, extents, point, stmt),
-    }
-}
-
-/// The first failure among the reads of a statement.
-fn outside_right(
-    place: &Access,
-    right: &Right,
-    extents: &Extents,
-    point: &[i64],
-    stmt: usize,
-) -> Option<Outside>
-    requires place { IsAccess (map length extents.now) (length point.now) place.now }
-    requires right { IsRight (map length extents.now) (length point.now) (right_of right.now) }
-    requires fits { AccessFits place.now point.now }
-    requires numbers { RightFits (right_of right.now) point.now }
-    requires few { length (reads_with place.now (right_of right.now)) ≤ 16 }
-    ensures { FindsFirst result stmt point.now extents.now 1 (reads_with place.now (right_of right.now)) }
-{
-    let mut next = 1;
-    match right {
-        Right::Assigned(value) => outside_reads(value, &mut next, extents, point, stmt),
-        Right::Combined(_, value) | Right::CombinedNarrow(_, value) => {
-            next = 2;
-            match outside_access(place, 1, extents, point, stmt) {
-                Some(outside) => Some(outside),
-                None => outside_reads(value, &mut next, extents, point, stmt),
-            }
-        }
-        Right::ShiftedLeft(_) | Right::ShiftedRight(_) | Right::ShiftedLeftNarrow(_) => {
-            outside_access(place, 1, extents, point, stmt)
-        }
-    }
-}
-
-/// The first failure of an assignment: the place that is written is its access 0.
-fn outside_assignment(
-    place: &Access,
-    right: &Right,
-    extents: &Extents,
-    point: &[i64],
-    stmt: usize,
-) -> Option<Outside>
-    requires formed { IsStatement (map length extents.now) (length point.now)
-        (record { place = place.now; right = right_of right.now }) }
-    requires fits { StatementFits (record { place = place.now; right = right_of right.now }) point.now }
-    ensures { FindsFirst result stmt point.now extents.now 0 (place.now ∷ reads_with place.now (right_of right.now)) }
-{
-    match outside_access(place, 0, extents, point, stmt) {
-        Some(outside) => Some(outside),
-        None => outside_right(place, right, extents, point, stmt),
-    }
-}
-
-/// The first failure of a statement.
+/// The first failure of a statement: the place that is written is its access 0.
 fn outside_statement(
     statement: &Stmt,
     extents: &Extents,
@@ -191,9 +105,16 @@ fn outside_statement(
 ) -> Option<Outside>
     requires formed { IsStatement (map length extents.now) (length point.now) (statement_of statement.now) }
     requires fits { StatementFits (statement_of statement.now) point.now }
-    ensures { FindsFirst result stmt point.now extents.now 0 (accesses (statement_of statement.now)) }
+    ensures { FindsFirst result stmt point.now extents.now (accesses (statement_of statement.now)) }
 {
-    outside_assignment(&statement.place, &statement.right, extents, point, stmt)
+    for number in 0..read_count(statement) + 1 {
+        let access = access_at(statement, number);
+        match outside_access(access, number, extents, point, stmt) {
+            Some(outside) => return Some(outside),
+            None => {}
+        }
+    }
+    None
 }
 
 /// How many statements stand in `items`.

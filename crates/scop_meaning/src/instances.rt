@@ -14,10 +14,11 @@ ghost use Rattle.scop_syntax.specs.Walk.{Visit, instance as numbers_of, walk_of}
 ghost use Rattle.scop_meaning.specs.Instances.{CanFind, IsVisitOf, act_at, act_at_all};
 ghost use Rattle.scop_meaning.specs.declared.loops.TheConstants.{ROOM};
 
-use crate::accesses::{access_at, number_of};
+use crate::accesses::number_of;
 use crate::expressions::stored_on;
 use crate::index::count_in;
 use crate::loops::{Point, enter_at, point_at};
+use scop_syntax::accesses::access_at;
 use scop_syntax::arrays::Extents;
 use scop_syntax::instance::Instance;
 use scop_syntax::limit_laws::{cells_lie_within_22_bits, values_lie_within_45_bits};

@@ -5,11 +5,11 @@ ghost use Rattle.scop_syntax.specs.Execution.{IsCell, held, offset_of, performed
 ghost use Rattle.scop_syntax.specs.View.{statement_of};
 ghost use Rattle.scop_meaning.specs.Conditions.{AreCells, IsReady};
 
-use crate::accesses::{access_at, read_count};
 use crate::cells::offset_at;
 use crate::expressions::stored_on;
 use crate::layout::Layout;
 use arrayvec::ArrayVec;
+use scop_syntax::accesses::{access_at, read_count};
 use scop_syntax::arrays::Arrays;
 use scop_syntax::tree::{Access, Stmt};
 

@@ -107,7 +107,7 @@ reads_are rs n place (combined_narrow op e) a at is (inr h) = read_is rs n e a i
 reads_are rs n place (moved_left_narrow k) a at is (inl h) = subst (IsAccess rs n) (sym h) at
 reads_are rs n place (moved_left_narrow k) a at is (inr h) = absurd h
 
-access_is : (rs : List ℕ) (n : ℕ) (s : Statement) (a : Access) → IsStatement rs n s → In a (accesses s)
+pub access_is : (rs : List ℕ) (n : ℕ) (s : Statement) (a : Access) → IsStatement rs n s → In a (accesses s)
     → IsAccess rs n a
 access_is rs n s a is (inl h) = subst (IsAccess rs n) (sym h) is.place
 access_is rs n s a is (inr h) = reads_are rs n s.place s.right a is.place is.right h

@@ -1,5 +1,6 @@
 pub mod Common
 pub mod Views
+pub mod Nodes
 pub mod Members
 pub mod Order
 pub mod Falls

@@ -4,6 +4,7 @@
 //! instances (`Walk`) and what they do to the arrays (`Execution`).
 #![tactic(auto)]
 
+pub mod accesses;
 pub mod affine_values;
 pub mod arrays;
 pub mod cover_laws;

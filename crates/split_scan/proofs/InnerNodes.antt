@@ -1,30 +1,24 @@
 -- From a node to those within its loops.
-use Rattle.scop_syntax.proofs.Common.{◌≡◌, ℕ, zero, suc, ◌+◌, ◌-◌, ◌<◌, Bool, true, false, List, [], ◌∷◌, ◌++◌, length}
-use Rattle.scop_syntax.proofs.Common.{take, get_or, map, refl, sym, ap, subst, ◌∙◌, All, arith, ◌^◌, Option, map-append}
-use Rattle.scop_syntax.proofs.Common.{All-cons, All-head, All-nil, All-tail, Affine}
-use Rattle.integer_sets.specs.Constraints.{variables_in}
+use Rattle.scop_syntax.proofs.Common.{◌≡◌, ℕ, suc, ◌+◌, ◌-◌, ◌<◌, Bool, true, false, List, [], ◌∷◌, ◌++◌, length}
+use Rattle.scop_syntax.proofs.Common.{take, get_or, map, refl, sym, ap, subst, ◌∙◌, All, arith, Option, map-append}
+use Rattle.scop_syntax.proofs.Common.{All-cons, All-head, All-tail, Affine}
 use Rattle.integer_sets.specs.Scanned.{Scanned}
 use Rattle.loop_tree.specs.Tree.{Tree, Trees, loop, more, none}
 use Rattle.loop_tree.specs.View.{trees_of}
 use Rattle.plain_scan.specs.declared.set_outline.Outline.{Outline}
-use Rattle.plain_scan.specs.Hulls.{IsAlike, own_leaf, sets_in}
+use Rattle.plain_scan.specs.Hulls.{IsAlike, sets_in}
 use Rattle.plain_scan.specs.Rows.{low_bounds, high_bounds}
-use Rattle.plain_scan.specs.Sets.{AllAbove, AllAtLeast, NumbersRise, leaves}
+use Rattle.plain_scan.specs.Sets.{AllAbove, AllAtLeast, NumbersRise}
 use Rattle.plain_scan.specs.Sorting.{lows_in, highs_in}
 use Rattle.plain_scan.specs.Pieces.{Piece, loops_of}
-use Rattle.plain_scan.specs.Giving.{HasIterators}
 use Rattle.plain_scan.proofs.CodeBounds.{take_next}
 use Rattle.plain_scan.proofs.Pieces.{append_all}
-use Rattle.plain_scan.proofs.Shape.{flat_leaves, marks_leaves}
-use Rattle.plain_scan.proofs.VisitIterators.{leaves_give}
-use Rattle.plain_scan.proofs.Smallness.{leaves_small}
-use Rattle.plain_scan.proofs.ScannedTrees.{leaves_shaped}
-use Rattle.plain_scan.proofs.HullLoops.{alike_of, dims_in, keys_hold, own_end, sets_are_small}
-use Rattle.plain_scan.proofs.WholeScans.{over_outlines}
+use Rattle.plain_scan.proofs.HullLoops.{alike_of, keys_hold}
+use Rattle.plain_scan.proofs.HullNodes.{over_outlines}
 use Rattle.split_scan.specs.Questions.{AreNatural, IsCut}
 use Rattle.split_scan.specs.Parts.{staying}
 use Rattle.split_scan.specs.Bounding.{AreBars}
-use Rattle.split_scan.specs.Nodes.{IsNode, IsShaped}
+use Rattle.plain_scan.specs.Nodes.{IsNode, IsShaped}
 use Rattle.split_scan.specs.steps.Frames.{AreBodies, Frame, HasBodies, IsFrame, frame_of, high_in, inside_of, low_in}
 use Rattle.split_scan.specs.steps.Frames.{piece_of, pieces_of, tree_at}
 use Rattle.split_scan.specs.declared.part.Part.{Part}
@@ -42,29 +36,6 @@ shaped_alike place left p os shaped some k d inside =
     let s = over_outlines (IsShaped (place + left) p) os shaped k d inside in
     alike_of (left - 1) place p (place + left) (get_or os k d) s.dimensions s.parameters (omega (arith, some))
     (omega (arith, some))
-
-pub few_variables : (place left p : ℕ) (os : List Outline) → All (IsShaped (place + left) p) (sets_in os)
-    → place + left + p < 2 ^ 32 → All (λ o. variables_in o.set.now.system < 2 ^ 32) os
-few_variables place left p os shaped few k d inside =
-    let s = over_outlines (IsShaped (place + left) p) os shaped k d inside in
-    let n = s.dimensions in
-    let q = s.parameters in
-    omega (arith, n, q, few)
-
-pub shaped_of : (n p : ℕ) (os : List Outline) → All (λ o. o.set.now.system.dimensions ≡ n) os
-    → All (λ o. o.set.now.system.parameters ≡ p) os → All (HasIterators n) (sets_in os)
-    → All (IsShaped n p) (sets_in os)
-shaped_of n p [] dims params has = All-nil (IsShaped n p)
-shaped_of n p (o ∷ os) dims params has =
-    let D : Outline → Type 0 = λ q. q.set.now.system.dimensions ≡ n in
-    let Q : Outline → Type 0 = λ q. q.set.now.system.parameters ≡ p in
-    All-cons (IsShaped n p) o.set.now (sets_in os) (record {
-      dimensions = All-head D o os dims;
-      parameters = All-head Q o os params;
-      iterators = All-head (HasIterators n) o.set.now (sets_in os) has;
-    })
-    (shaped_of n p os (All-tail D o os dims) (All-tail Q o os params)
-    (All-tail (HasIterators n) o.set.now (sets_in os) has))
 
 -- the sets that stay
 pub all_staying : (P : Scanned → Type 0) (bs : List Bool) (sets : List Scanned) → All P sets → All P (staying bs sets)
@@ -90,42 +61,6 @@ rise_staying (false ∷ bs) (s ∷ sets) h = rise_staying bs sets h.1
 pub natural_more : (m : ℕ) (inside cuts : List Affine) → AreNatural m inside → AreNatural m (inside ++ cuts)
 natural_more m inside cuts natural params point range size hold =
     natural params point range size (append_all inside cuts (point ++ params) hold).0
-
--- behind the last loop
-pub node_end : (left place p : ℕ) (mark : Option ℕ) (os : List Outline) (context : List Affine) (ts : Trees)
-    → left ≡ 0 → All (IsShaped (place + left) p) (sets_in os) → NumbersRise (sets_in os)
-    → ts ≡ leaves (map own_leaf (sets_in os)) → IsNode left place (place + p) mark (sets_in os) context ts
-node_end left place p mark os context ts end shaped rise is =
-    subst (λ k. IsNode k place (place + p) mark sets context ts) (sym end)
-    (subst (IsNode zero place (place + p) mark sets context) (sym is) (record {
-      serves = λ params outer at. own_end place sets (dims_in place os dims) rise params outer (record {
-        parameters = at.parameters;
-        size = at.size;
-        inside = tt;
-      });
-      turns = leaves_give sets place (λ k d inside. subst (λ m. HasIterators m (get_or sets k d)) same
-          (shaped k d inside).iterators);
-      small = leaves_small sets (sets_are_small os);
-      shaped = leaves_shaped (place + p) os count;
-      flat = flat_leaves sets;
-      marks = marks_leaves (map own_leaf sets);
-    }))
-  where
-    sets : List Scanned
-    sets = sets_in os
-
-    same : place + left ≡ place
-    same = omega (arith, end)
-
-    count : All (λ o. variables_in o.set.now.system ≡ place + p) os
-    count k d inside =
-        let s = over_outlines (IsShaped (place + left) p) os shaped k d inside in
-        let a = s.dimensions in
-        let b = s.parameters in
-        omega (arith, a, b, end)
-
-    dims : All (λ o. o.set.now.system.dimensions ≡ place) os
-    dims k d inside = (over_outlines (IsShaped (place + left) p) os shaped k d inside).dimensions ∙ same
 
 -- the hull's rows make a frame
 pub frame_is : (left place p : ℕ) (mark : Option ℕ) (os : List Outline) (context rows : List Affine)

@@ -28,7 +28,7 @@ use Rattle.plain_scan.proofs.HullLoops.{own_coefficient}
 use Rattle.split_scan.specs.Questions.{IsCut, IsIn}
 use Rattle.split_scan.specs.Parts.{InPart, IsPart, staying}
 use Rattle.split_scan.specs.Ordering.{AreParts, IsBelowAll, Rise}
-use Rattle.split_scan.specs.Nodes.{IsNode}
+use Rattle.plain_scan.specs.Nodes.{IsNode}
 use Rattle.split_scan.specs.steps.Frames.{AreBodies, Frame, IsFrame, high_in, inside_of, low_in, piece_of, pieces_of}
 use Rattle.split_scan.specs.steps.Frames.{rows_in}
 use Rattle.split_scan.specs.declared.part.Part.{Part}

@@ -2,6 +2,5 @@ pub mod Questions
 pub mod Parts
 pub mod Ordering
 pub mod Copies
-pub mod Nodes
 pub mod Bounding
 pub mod steps

@@ -12,7 +12,7 @@ ghost use Rattle.plain_scan.specs.Sets.{NumbersRise};
 ghost use Rattle.plain_scan.specs.Sorting.{lows_in, highs_in};
 ghost use Rattle.split_scan.specs.Questions.{AreNatural, IsCut};
 ghost use Rattle.split_scan.specs.Ordering.{AreParts};
-ghost use Rattle.split_scan.specs.Nodes.{IsNode, IsShaped};
+ghost use Rattle.plain_scan.specs.Nodes.{IsNode, IsShaped};
 
 use crate::bars::{bars, level_of};
 use crate::copies::staying;

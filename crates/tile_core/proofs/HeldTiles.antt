@@ -1,5 +1,5 @@
 -- The tile of a place of the walk is that of its instance.
-use Rattle.scop_syntax.proofs.Common.{◌≡◌, ◌∙◌, ℕ, ◌+◌, [], Some, ap, subst, sym, refl, arith, slice_get, option_map}
+use Rattle.scop_syntax.proofs.Common.{◌≡◌, ◌∙◌, ℕ, ◌+◌, [], Some, ap, subst, sym, arith, slice_get, option_map}
 use Rattle.scop_syntax.proofs.Common.{slice_get-map, slice_get_within, instance_of, Visit, instance, there_is}
 use Rattle.tile_edges.specs.Edges.{IsTileOf}
 use Rattle.tile_core.specs.Plans.{IsPlan, deal_of, places_in, program_in, scan_in, walk_in, walk_shape}

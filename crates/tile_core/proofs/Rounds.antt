@@ -22,7 +22,8 @@ use Rattle.loop_tree.proofs.Visits.{listed_same}
 use Rattle.tile_list.proofs.Stretches.{length-following}
 use Rattle.tile_core.specs.Plans.{IsPlan, deal_of, places_in, program_in, scan_in, walk_shape}
 use Rattle.tile_core.specs.Ranks.{place_in, rank_in}
-use Rattle.tile_core.specs.Stretches.{HasRounds, IsPart, IsWoven, in_round, turns_on}
+use Rattle.tile_list.specs.Stretches.{HasRounds, turns_on}
+use Rattle.tile_core.specs.Stretches.{IsPart, IsWoven, in_round}
 use Rattle.tile_core.specs.Workers.{IsNext}
 use Rattle.tile_core.specs.declared.plan.Plan.{Plan}
 use Rattle.tile_core.specs.declared.worker.Stage.{Stage}

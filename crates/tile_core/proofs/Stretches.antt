@@ -14,7 +14,8 @@ use Rattle.loop_tree.proofs.Visits.{listed_same}
 use Rattle.tile_list.proofs.Stretches.{length-left}
 use Rattle.tile_core.specs.Plans.{IsPlan, deal_of, places_in, program_in, scan_in, walk_shape}
 use Rattle.tile_core.specs.Ranks.{rank_in}
-use Rattle.tile_core.specs.Stretches.{CanPass, IsAhead, IsAlong, IsPart, moved, turns_on}
+use Rattle.tile_list.specs.Stretches.{turns_on}
+use Rattle.tile_core.specs.Stretches.{CanPass, IsAhead, IsAlong, IsPart, moved}
 use Rattle.tile_core.specs.Workers.{IsNext}
 use Rattle.tile_core.specs.declared.plan.Plan.{Plan}
 use Rattle.tile_core.specs.declared.worker.Stage.{Stage}

@@ -1,24 +1,18 @@
 -- Instances of a tile that follow one another by equal steps, or in rounds of a few that do: what a worker has ahead, and
 -- what it may pass by.
-use Rattle.std.specs.Prelude.{◌≡◌, ◌+◌, ◌-◌, ◌*◌, ◌<◌, ◌≤◌, ◌⊎◌, ℕ, zero, suc, ℤ, All, List, Option, Some, slice_get, take}
-use Rattle.whole_numbers.specs.Lists.{sums}
+use Rattle.std.specs.Prelude.{◌≡◌, ◌+◌, ◌-◌, ◌*◌, ◌<◌, ◌≤◌, ◌⊎◌, ℕ, suc, ℤ, List, Option, Some, slice_get, take}
 use Rattle.scop_syntax.specs.Members.{In}
 use Rattle.scop_syntax.specs.View.{instance_of}
 use Rattle.scop_syntax.specs.Walk.{Instance}
 use Rattle.scop_syntax.specs.declared.instance.Instance.{Instance as CodeInstance}
-use Rattle.loop_tree.specs.declared.braid.Braid.{Braid}
 use Rattle.loop_tree.specs.declared.spot.Spot.{Spot}
 use Rattle.loop_tree.specs.declared.stretch.Stretch.{Stretch}
+use Rattle.tile_list.specs.Stretches.{HasRounds, turns_on}
 use Rattle.tile_core.specs.Plans.{places_in, walk_shape}
 use Rattle.tile_core.specs.Ranks.{place_in}
 use Rattle.tile_core.specs.declared.plan.Plan.{Plan}
 use Rattle.tile_core.specs.declared.worker.Stage.{Stage}
 use Rattle.tile_core.specs.declared.worker.Stage.TheVariants.{Working}
-
--- turns that went on by the same steps so many times
-abbrev pub turns_on : List ℤ → List ℤ → ℕ → List ℤ
-turns_on turns steps zero = turns
-turns_on turns steps (suc j) = sums (turns_on turns steps j) steps
 
 -- the instance so many steps behind another
 abbrev pub moved : Instance → List ℤ → ℕ → Instance
@@ -57,11 +51,6 @@ pub record IsAhead (plan : Plan) (stage : Stage) (next : Option CodeInstance) (s
       → place_in (places_in plan) (moved (instance_of instance) (take instance.loops stretch.steps) j)
       ≡ (walk_shape plan).place tile (done + j)
   pub passes : CanPass plan stage stretch count
-
--- so many rounds are left of a braid, the first strand of which is next
-pub record HasRounds (b : Braid) (rounds : ℕ) : Type 0 where
-  pub turn : b.at ≡ 0
-  pub lefts : All (λ s. s.left ≡ rounds) (take b.count b.strands)
 
 -- what a strand gives in a round, where the first round has number 0
 abbrev pub in_round : Stretch → ℕ → Instance

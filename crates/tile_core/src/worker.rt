@@ -4,14 +4,14 @@ ghost use Rattle.std.specs.Prelude.{◌≡◌, ◌+◌, ◌-◌, ◌*◌, ◌<�
 ghost use Rattle.std.specs.Prelude.{MatchOption, Some, drop, length, map, replicate, suc};
 ghost use Rattle.scop_syntax.specs.Members.{In};
 ghost use Rattle.scop_syntax.specs.View.{instance_of};
-ghost use Rattle.loop_tree.specs.Braids.{IsBraid};
 ghost use Rattle.loop_tree.specs.SpotView.{IsSpotOf, to_come};
 ghost use Rattle.loop_tree.specs.Tree.{Trees};
 ghost use Rattle.tile_table.specs.Desks.{HasRoomForAll};
+ghost use Rattle.tile_list.specs.Stretches.{HasRounds};
 ghost use Rattle.tile_events.specs.Core.{idle};
 ghost use Rattle.tile_events.specs.Sound.{Holds};
 ghost use Rattle.tile_core.specs.Plans.{IsPlan, place_of, places_in, shape_of, walk_shape};
-ghost use Rattle.tile_core.specs.Stretches.{CanPass, HasRounds, IsAhead, IsAlong, IsPart, IsWoven};
+ghost use Rattle.tile_core.specs.Stretches.{CanPass, IsAhead, IsAlong, IsPart, IsWoven};
 ghost use Rattle.tile_core.specs.Workers.{HasNoneDue, IsDue, IsReleasing, IsWorker, ReleasesNone, staged, worker_of};
 ghost use Rattle.tile_core.specs.declared.plan.Plan.{Plan as AnyPlan};
 ghost use Rattle.tile_core.specs.declared.worker.Stage.TheVariants as stage_of;
@@ -19,10 +19,11 @@ ghost use Rattle.tile_core.specs.declared.worker.Stage.TheVariants as stage_of;
 use crate::plan::Plan;
 use crate::plan_laws::plans_are_good;
 use arrayvec::ArrayVec;
-use loop_tree::{Braid, Spot, Stretch};
+use loop_tree::{Spot, Stretch};
 use scop_syntax::instance::Instance;
 use std::alloc::{AllocError, Global};
 use tile_list::laws::tiles_stand_one_behind_another;
+use tile_list::rounds_left;
 use tile_table::desk::Desk;
 use tile_table::table::Table;
 
@@ -99,24 +100,6 @@ fn leave(spot: &mut Spot, count: usize)
     if count > 1 {
         spot.stretch.left = 0;
     }
-}
-
-/// How many rounds are left of a braid whose first strand is next, and whose strands have as many left; 0 elsewhere.
-fn rounds_left(braid: &Braid) -> u64
-    requires { IsBraid braid.now }
-    ensures rounds { 0 < result → HasRounds braid.now result }
-    ensures strands { 0 < result → length braid.now.strands ≡ 4 }
-{
-    if braid.at > 0 {
-        return 0;
-    }
-    let rounds = braid.strands[0].left;
-    for strand in &braid.strands[..braid.count] {
-        if strand.left != rounds {
-            return 0;
-        }
-    }
-    rounds
 }
 
 /// So many rounds of so many instances, where these are fewer than `most`; 0 elsewhere.

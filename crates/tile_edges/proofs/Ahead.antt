@@ -1,8 +1,8 @@
 -- Along a stretch: what is left so many instances on, which tile holds them, and how a pass goes on by them.
-use Rattle.scop_syntax.proofs.Common.{◌≡◌, ◌≤◌, ◌<◌, ◌+◌, ◌-◌, ℕ, zero, suc, ℤ, pos, Bool, List, [], ◌∷◌, ◌++◌, ap, ap₂}
-use Rattle.scop_syntax.proofs.Common.{sym, refl, ◌∙◌, subst, Some, inr, arith, length, take, get_or, drop, map, ◌+ℤ◌}
-use Rattle.scop_syntax.proofs.Common.{◌*ℤ◌, All, slice_get, ints, All-tail, slice_get_within, multiples, sums}
-use Rattle.scop_syntax.proofs.Common.{mul_distrib_right, mul_one_left, In, in_front, Program, instance_of, Instance}
+use Rattle.scop_syntax.proofs.Common.{◌≡◌, ◌≤◌, ◌<◌, ◌+◌, ◌-◌, ℕ, zero, suc, ℤ, pos, Bool, List, [], ◌∷◌, ◌++◌, ap}
+use Rattle.scop_syntax.proofs.Common.{sym, refl, ◌∙◌, subst, Some, inr, arith, length, take, get_or, drop, map}
+use Rattle.scop_syntax.proofs.Common.{All, slice_get, All-tail, slice_get_within, multiples, sums}
+use Rattle.scop_syntax.proofs.Common.{In, in_front, Program, instance_of, Instance}
 use Rattle.scop_syntax.proofs.Common.{instance, walk_of}
 use Rattle.std.proofs.lemmas.List.{length-append}
 use Rattle.scop_syntax.specs.declared.instance.Instance.{Instance as CodeInstance}
@@ -17,14 +17,16 @@ use Rattle.loop_tree.specs.declared.spot.Spot.{Spot}
 use Rattle.loop_tree.specs.declared.stretch.Stretch.{Stretch}
 use Rattle.tile_list.specs.Tiles.{HasSize, InOneTile}
 use Rattle.tile_list.specs.declared.list.TileList.{TileList}
-use Rattle.tile_list.specs.steps.Stretching.{AllRowsFit, instance_at, steps_on}
+use Rattle.tile_list.specs.Stretches.{instance_at, steps_on, turns_on}
+use Rattle.tile_list.specs.steps.Stretching.{AllRowsFit}
 use Rattle.tile_list.proofs.Order.{one-sym, one-trans}
-use Rattle.tile_list.proofs.Stretches.{length-following, tile_along}
+use Rattle.tile_list.proofs.Stretches.{first_sums, length-following, steps_more, tile_along}
 use Rattle.tile_table.specs.declared.table.Row.{Row}
 use Rattle.tile_table.specs.declared.table.Table.{Table}
+use Rattle.tile_table.proofs.NextPlaces.{AreSmall, NextPlace, next_place, row_within}
 use Rattle.tile_table.proofs.Visits.{WalkLaws}
 use Rattle.tile_edges.specs.Edges.{IsTileOf}
-use Rattle.tile_edges.specs.steps.Ahead.{LieIn, left_on, moved_on, steps_in, to_come_on, turns_in, turns_on}
+use Rattle.tile_edges.specs.steps.Ahead.{LieIn, left_on, moved_on, steps_in, to_come_on, turns_in}
 use Rattle.tile_edges.specs.steps.Finding.{IsFinder, IsPlaceOf}
 use Rattle.tile_edges.specs.steps.Walks.{CanPass, CanTake, HasTaken, IsOnItsWay, cells_at}
 use Rattle.tile_edges.specs.declared.finding.Finder.{Finder}
@@ -32,36 +34,14 @@ use Rattle.tile_edges.specs.declared.finding.Place.{Place}
 use Rattle.tile_edges.specs.declared.pairing.Pairs.{Pairs}
 use Rattle.tile_edges.specs.declared.touching.Traces.{Traces}
 use Rattle.tile_edges.proofs.FindingTiles.{got_at}
-use Rattle.tile_edges.proofs.PassedPlaces.{AreSmall, NextPlace, can_take, cells_told, is_taken, next_place, row_within, step_on}
-
--- a step once, and once more
-once : (steps : List ℤ) → multiples (pos 1) steps ≡ steps
-once [] = refl
-once (s ∷ steps) = ap₂ (λ (z : ℤ) (zs : List ℤ). z ∷ zs) (mul_one_left s) (once steps)
-
-multiple_more : (k : ℕ) (s : ℤ) → (pos k *ℤ s) +ℤ s ≡ pos (suc k) *ℤ s
-multiple_more k s =
-    let d = mul_distrib_right (pos k) (pos 1) s in
-    let o = mul_one_left s in
-    let e : pos (suc k) ≡ pos k +ℤ pos 1 = omega (arith, ints) in
-    subst (λ (z : ℤ). (pos k *ℤ s) +ℤ s ≡ z *ℤ s) (sym e) (omega (arith, ints, d, o))
-
-on_more : (k : ℕ) (turns steps : List ℤ)
-    → sums (sums turns (multiples (pos k) steps)) steps ≡ sums turns (multiples (pos (suc k)) steps)
-on_more k [] [] = refl
-on_more k [] (s ∷ steps) = ap₂ (λ (z : ℤ) (zs : List ℤ). z ∷ zs) (multiple_more k s) (on_more k [] steps)
-on_more k (t ∷ turns) [] = refl
-on_more k (t ∷ turns) (s ∷ steps) =
-    let e = multiple_more k s in
-    let first : (t +ℤ (pos k *ℤ s)) +ℤ s ≡ t +ℤ (pos (suc k) *ℤ s) = omega (arith, ints, e) in
-    ap₂ (λ (z : ℤ) (zs : List ℤ). z ∷ zs) first (on_more k turns steps)
+use Rattle.tile_edges.proofs.PassedPlaces.{can_take, cells_told, is_taken, step_on}
 
 -- steps taken one by one are steps taken at once
 at_once : (turns steps : List ℤ) (k : ℕ) → 1 ≤ k → turns_on turns steps k ≡ sums turns (multiples (pos k) steps)
 at_once turns steps zero some = absurd (omega (arith, some))
-at_once turns steps (suc zero) some = ap (λ (ss : List ℤ). sums turns ss) (sym (once steps))
+at_once turns steps (suc zero) some = first_sums turns steps
 at_once turns steps (suc (suc k)) some =
-    ap (λ (ts : List ℤ). sums ts steps) (at_once turns steps (suc k) (omega arith)) ∙ on_more (suc k) turns steps
+    ap (λ (ts : List ℤ). sums ts steps) (at_once turns steps (suc k) (omega arith)) ∙ steps_more (suc k) turns steps
 
 -- what is left of a stretch that stands where the instance so many steps on is in front
 pub went_along : (s : Stretch) (here : CodeInstance) (k : ℕ) → 1 ≤ k → instance_of here ≡ instance_at s k
@@ -153,19 +133,18 @@ fit_ahead flow program params ts tiling list table spot kept found can way x i =
 module _ (flow : Bool) (program : Program) (params : List ℤ) (tiling : Tiling) (list : TileList) (table : Table)
     (can : CanPass program params tiling list table) (laws : WalkLaws) (small : AreSmall) (ts : Trees) (spot : Spot) where
   abbrev next_on : (k : ℕ) (kept : Traces) (found : Pairs) → k < spot.stretch.left
-      → IsOnItsWay flow program params tiling list (to_come_on ts params spot k) kept found
-      → NextPlace flow program params tiling list table can (moved_on spot.stretch (suc k))
-      (to_come_on ts params spot (suc k)) kept found
-  next_on k kept found less =
-      next_place flow program params tiling list table can (moved_on spot.stretch (suc k)) (to_come_on ts params spot k)
-      (to_come_on ts params spot (suc k)) kept found (first_left ts params spot k less)
+      → (way : IsOnItsWay flow program params tiling list (to_come_on ts params spot k) kept found)
+      → NextPlace program params way.done (moved_on spot.stretch (suc k)) (to_come_on ts params spot (suc k))
+  next_on k kept found less way =
+      next_place program params way.done (moved_on spot.stretch (suc k)) (to_come_on ts params spot k)
+      (to_come_on ts params spot (suc k)) (first_left ts params spot k less) way.left
 
   pub row_ahead : (kept : Traces) (found : Pairs) → 0 < spot.stretch.left
       → IsOnItsWay flow program params tiling list (to_come_on ts params spot 0) kept found
       → spot.stretch.before.statement < length table.rows.items
   row_ahead kept found some way =
-      row_within flow program params tiling list table can laws small (moved_on spot.stretch 1)
-      (to_come_on ts params spot 1) kept found (next_on 0 kept found some way)
+      row_within program params table can.told laws way.done (moved_on spot.stretch 1) (to_come_on ts params spot 1)
+      (next_on 0 kept found some way)
 
   pub can_ahead : (k : ℕ) (kept : Traces) (found : Pairs) (row : Row) (cells : List ℕ) → k < spot.stretch.left
       → slice_get table.rows.items spot.stretch.before.statement ≡ Some row
@@ -175,9 +154,9 @@ module _ (flow : Bool) (program : Program) (params : List ℤ) (tiling : Tiling)
   can_ahead k kept found row cells less told are way =
       let x = moved_on spot.stretch (suc k) in
       let rest = to_come_on ts params spot (suc k) in
-      let next = next_on k kept found less way in
-      can_take flow program params tiling list table can x rest kept found next cells
-      (are ∙ cells_told flow program params tiling list table can laws small x rest kept found next row told)
+      can_take flow program params tiling list table can way.done kept found cells way.passed
+      (are ∙ cells_told flow program params tiling list table can laws small way.done x rest
+      (next_on k kept found less way) row told)
 
   pub gone_ahead : (k n t : ℕ) (kept kept_then : Traces) (found found_then : Pairs) (row : Row) (cells : List ℕ)
       → k < n → n ≤ spot.stretch.left → LieIn tiling list t spot.stretch n

@@ -1,13 +1,13 @@
 -- A pass over the walk goes on by one place.
-use Rattle.scop_syntax.proofs.Common.{◌≡◌, ◌<◌, ◌≤◌, ◌^◌, ℕ, zero, suc, ℤ, Bool, List, [], ◌∷◌, ◌++◌, Some, ap, ap₂}
-use Rattle.scop_syntax.proofs.Common.{sym, refl, ◌∙◌, subst, arith, length, map, get_or, drop, slice_get, option_map}
-use Rattle.scop_syntax.proofs.Common.{length-map, slice_get-map, slice_get_within, Affine, value_of, Cell, accesses}
-use Rattle.scop_syntax.proofs.Common.{cell_of, reads, IsCell, cell_number, layout, WithinLimits, In, Sorted, Program}
-use Rattle.scop_syntax.proofs.Common.{Statement, wrapped, Instance, Visit, instance, walk_of, in_from_place, in_map}
-use Rattle.scop_syntax.proofs.Common.{there_is}
+use Rattle.scop_syntax.proofs.Common.{◌≡◌, ◌<◌, ℕ, zero, suc, ℤ, Bool, List, [], ◌∷◌, ◌++◌, Some, ap, ap₂}
+use Rattle.scop_syntax.proofs.Common.{sym, refl, ◌∙◌, subst, arith, length, map, get_or, slice_get}
+use Rattle.scop_syntax.proofs.Common.{length-map, slice_get_within, value_of, accesses}
+use Rattle.scop_syntax.proofs.Common.{cell_of, reads, cell_number, layout, In, Sorted, Program}
+use Rattle.scop_syntax.proofs.Common.{wrapped, Instance, Visit, instance, walk_of}
 use Rattle.tile_table.specs.declared.table.Row.{Row}
 use Rattle.tile_table.specs.declared.table.Table.{Table}
-use Rattle.tile_table.proofs.Visits.{HasRow, WalkLaws, cell_told, row_of}
+use Rattle.tile_table.proofs.NextPlaces.{AreSmall, NextPlace, as_many, next_place, next_row, none_left, same_row, told_at}
+use Rattle.tile_table.proofs.Visits.{WalkLaws}
 use Rattle.loop_tree.specs.Tiling.{Tiling}
 use Rattle.tile_list.specs.declared.list.TileList.{TileList}
 use Rattle.tile_events.specs.Flat.{read_by, written_by}
@@ -20,11 +20,6 @@ use Rattle.tile_edges.specs.steps.Walks.{held_by, touched}
 use Rattle.tile_edges.specs.declared.pairing.Pairs.{Pairs}
 use Rattle.tile_edges.specs.declared.touching.Traces.{Traces}
 use Rattle.tile_edges.proofs.Traces.{met_place, none_traced, pairs_more, traced_more}
-
--- the numbers of cells are small
-abbrev pub AreSmall : Type 0
-AreSmall = (program : Program) (params : List ℤ) (c : Cell) → WithinLimits program params
-    → IsCell (layout program params) c → cell_number (layout program params) c < 2 ^ 22
 
 -- two lists that give the same numbers
 mapped_same : {A B : Type 0} (f : A → ℕ) (g : B → ℕ) (xs : List A) (ys : List B) → length xs ≡ length ys
@@ -41,141 +36,71 @@ fused : {A B : Type 0} (f : B → ℕ) (g : A → B) (xs : List A) → map (λ a
 fused f g [] = refl
 fused f g (x ∷ xs) = ap (λ (ns : List ℕ). f (g x) ∷ ns) (fused f g xs)
 
--- what comes next of a list
-next_left : (xs : List Instance) (n : ℕ) (x : Instance) (rest : List Instance) → x ∷ rest ≡ drop n xs
-    → (slice_get xs n ≡ Some x) × (rest ≡ drop (suc n) xs)
-next_left [] zero x rest e = absurd cc
-next_left [] (suc n) x rest e = absurd cc
-next_left (y ∷ xs) zero x rest e =
-    let head : x ≡ y = cc in
-    let tail : rest ≡ xs = cc in
-    (ap Some (sym head), tail)
-next_left (y ∷ xs) (suc n) x rest e = next_left xs n x rest e
-
--- none is left
-none_left : (xs : List Instance) (n : ℕ) → [] ≡ drop n xs → length xs ≤ n
-none_left [] n e = omega arith
-none_left (x ∷ xs) zero e = absurd cc
-none_left (x ∷ xs) (suc n) e = let l = none_left xs n e in omega (arith, l)
-
 module _ (flow : Bool) (program : Program) (params : List ℤ) (tiling : Tiling) (list : TileList) (table : Table)
     (can : CanPass program params tiling list table) where
   abbrev walk : List Visit
   walk = walk_of program params
 
-  -- the place that comes next
-  pub record NextPlace (x : Instance) (rest : List Instance) (kept : Traces) (found : Pairs) : Type 0 where
-    pub n : ℕ
-    pub visit : Visit
-    pub at : slice_get walk n ≡ Some visit
-    pub same : instance visit ≡ x
-    pub passed : HasPassed flow program params tiling list n kept found
-    pub left : rest ≡ drop (suc n) (map instance walk)
-
-  pub next_place : (x : Instance) (all rest : List Instance) (kept : Traces) (found : Pairs) → all ≡ x ∷ rest
-      → IsOnItsWay flow program params tiling list all kept found → NextPlace x rest kept found
-  next_place x all rest kept found is way =
-      let next = next_left (map instance walk) way.done x rest (sym is ∙ way.left) in
-      let less = slice_get_within (map instance walk) way.done x next.0 in
-      let long = length-map walk instance in
-      let there = there_is walk way.done (omega (arith, less, long)) in
-      let both : Some (instance there.0) ≡ Some x =
-      sym (ap (option_map instance) there.1) ∙ (sym (slice_get-map instance walk way.done) ∙ next.0) in
-      record { n = way.done; visit = there.0; at = there.1; same = cc; passed = way.passed; left = next.1 }
-
-  -- it is an instance of the walk
-  pub next_walked : (x : Instance) (rest : List Instance) (kept : Traces) (found : Pairs) → NextPlace x rest kept found
-      → In x (map instance walk)
-  next_walked x rest kept found next =
-      subst (λ y. In y (map instance walk)) next.same
-      (in_map instance next.visit walk (in_from_place walk next.n next.visit next.at))
-
   module _ (laws : WalkLaws) (small : AreSmall) where
-    has_row : (x : Instance) (rest : List Instance) (kept : Traces) (found : Pairs)
-        → (next : NextPlace x rest kept found) → HasRow program params table x next.visit
-    has_row x rest kept found next =
-        row_of laws program params table x next.visit can.told
-        (record { walked = in_from_place walk next.n next.visit next.at; same = next.same })
-
-    pub row_within : (x : Instance) (rest : List Instance) (kept : Traces) (found : Pairs)
-        → NextPlace x rest kept found → x.number < length table.rows.items
-    row_within x rest kept found next =
-        let has = has_row x rest kept found next in
-        slice_get_within table.rows.items x.number has.row has.told
-
     -- the row tells the cells of the place
-    pub cells_told : (x : Instance) (rest : List Instance) (kept : Traces) (found : Pairs)
-        → (next : NextPlace x rest kept found) (row : Row) → slice_get table.rows.items x.number ≡ Some row
-        → cells_at row x.turns ≡ (touched program params).written next.n ∷ (touched program params).read next.n
-    cells_told x rest kept found next row told =
+    pub cells_told : (n : ℕ) (x : Instance) (rest : List Instance) (next : NextPlace program params n x rest)
+        (row : Row) → slice_get table.rows.items x.number ≡ Some row
+        → cells_at row x.turns ≡ (touched program params).written n ∷ (touched program params).read n
+    cells_told n x rest next row told =
         let v = next.visit in
         let extents = layout program params in
-        let has = has_row x rest kept found next in
-        let both : Some row ≡ Some has.row = sym told ∙ has.told in
-        let same : row ≡ has.row = cc in
-        let count = has.fits.forms.count in
-        let body = ap (λ (s : Statement). length (accesses s)) has.body in
+        let has = next_row program params table can.told laws n x rest next in
         let numbers = mapped_same (λ form. wrapped (value_of form x.turns))
         (λ access. cell_number extents (cell_of access v.point)) has.row.cells.items (accesses v.body)
-        (omega (arith, count, body))
-        (λ a form access formed accessed.
-        let inside = can.inside v (in_from_place walk next.n v next.at) access
-        (in_from_place (accesses v.body) a access accessed) in
-        cell_told program params table x v a access (wrapped (value_of form x.turns)) inside
-        (small program params (cell_of access v.point) can.limits inside) has accessed
-        (λ other e. one_form form other (sym formed ∙ e))) in
-        ap (λ (r : Row). cells_at r x.turns) same
+        (as_many program params table can.told laws n x rest next)
+        (λ a form access formed accessed. (told_at program params table can.told laws can.limits can.inside small n x rest
+        next a access form accessed formed).1) in
+        ap (λ (r : Row). cells_at r x.turns) (sym (same_row program params table can.told laws n x rest next row told))
         ∙ (numbers
         ∙ (ap (λ (ns : List ℕ). cell_number extents (cell_of v.body.place v.point) ∷ ns)
         (fused (cell_number extents) (λ access. cell_of access v.point) (reads v.body))
         ∙ sym (ap (λ o. written_by extents o ∷ read_by extents [] o) next.at)))
-      where
-        one_form : (form other : Affine) → Some form ≡ Some other
-            → wrapped (value_of form x.turns) ≡ wrapped (value_of other x.turns)
-        one_form form other e =
-            let same : form ≡ other = cc in ap (λ (f : Affine). wrapped (value_of f x.turns)) same
 
   -- a place can be taken
-  pub can_take : (x : Instance) (rest : List Instance) (kept : Traces) (found : Pairs)
-      → (next : NextPlace x rest kept found) (cells : List ℕ)
-      → cells ≡ (touched program params).written next.n ∷ (touched program params).read next.n
+  pub can_take : (n : ℕ) (kept : Traces) (found : Pairs) (cells : List ℕ)
+      → HasPassed flow program params tiling list n kept found
+      → cells ≡ (touched program params).written n ∷ (touched program params).read n
       → CanTake flow cells kept found
-  can_take x rest kept found next cells are = record {
-    even = next.passed.even;
-    kept_is = next.passed.kept_is;
+  can_take n kept found cells passed are = record {
+    even = passed.even;
+    kept_is = passed.kept_is;
     tiles = λ w rs e t i.
-        let both : w ∷ rs ≡ (touched program params).written next.n ∷ (touched program params).read next.n =
+        let both : w ∷ rs ≡ (touched program params).written n ∷ (touched program params).read n =
         sym e ∙ are in
-        let first : w ≡ (touched program params).written next.n = cc in
-        let others : rs ≡ (touched program params).read next.n = cc in
+        let first : w ≡ (touched program params).written n = cc in
+        let others : rs ≡ (touched program params).read n = cc in
         let met_there = subst (λ c. In t (met_at flow (marks_in kept) (readers_in kept) c
-        ((touched program params).read next.n))) first
+        ((touched program params).read n))) first
         (subst (λ cs. In t (met_at flow (marks_in kept) (readers_in kept) w cs)) others i) in
-        let place = met_place (held_by program params tiling list) (touched program params) next.n (marks_in kept)
-        (readers_in kept) flow next.passed.traces t met_there in
+        let place = met_place (held_by program params tiling list) (touched program params) n (marks_in kept)
+        (readers_in kept) flow passed.traces t met_there in
         let tile = place.2.tile in
         let less = slice_get_within list.tiles.items t tile.tile tile.is in
-        let long = next.passed.long in
+        let long = passed.long in
         omega (arith, less, long);
   }
 
   -- and when it has been, the pass has gone on
-  pub gone_on : (x : Instance) (rest : List Instance) (kept kept_then : Traces) (found found_then : Pairs)
-      → (next : NextPlace x rest kept found) (cells : List ℕ)
-      → cells ≡ (touched program params).written next.n ∷ (touched program params).read next.n
+  pub gone_on : (n : ℕ) (x : Instance) (rest : List Instance) → NextPlace program params n x rest
+      → (kept kept_then : Traces) (found found_then : Pairs) → HasPassed flow program params tiling list n kept found
+      → (cells : List ℕ) → cells ≡ (touched program params).written n ∷ (touched program params).read n
       → IsTaken flow tiling list x cells kept found kept_then found_then
       → IsOnItsWay flow program params tiling list rest kept_then found_then
-  gone_on x rest kept kept_then found found_then next cells are took =
+  gone_on n x rest next kept kept_then found found_then passed cells are took =
       let p = touched program params in
       let H = held_by program params tiling list in
-      let n = next.n in
       let holds : H took.tile n = record {
         visit = next.visit;
         is = next.at;
         tile = subst (IsTileOf tiling list took.tile) (sym next.same) took.is;
       } in
       let gains = took.taken.gains (p.written n) (p.read n) are in
-      let long = next.passed.long in
+      let long = passed.long in
       let same = gains.long in
       let seen = length-map found.rows.items (λ s. s.keys) in
       let seen_then = length-map found_then.rows.items (λ s. s.keys) in
@@ -187,10 +112,10 @@ module _ (flow : Bool) (program : Program) (params : List ℤ) (tiling : Tiling)
         passed = record {
           even = took.taken.even;
           traces = traced_more H p n flow took.tile (marks_in kept) (marks_in kept_then) (readers_in kept)
-              (readers_in kept_then) holds next.passed.traces (took.taken.visited (p.written n) (p.read n) are);
+              (readers_in kept_then) holds passed.traces (took.taken.visited (p.written n) (p.read n) are);
           pairs = pairs_more H p n (marks_in kept) (readers_in kept) flow took.tile (rows_in found) (rows_in found_then)
-              holds next.passed.traces next.passed.pairs gains;
-          rises = gains.rises next.passed.rises;
+              holds passed.traces passed.pairs gains;
+          rises = gains.rises passed.rises;
           kept_is = took.taken.kept_is;
           long = omega (arith, long, same, seen, seen_then);
         };
@@ -233,10 +158,10 @@ module _ (flow : Bool) (program : Program) (params : List ℤ) (tiling : Tiling)
         → IsTaken flow tiling list x (cells_at row x.turns) kept found kept_then found_then)
         → IsOnItsWay flow program params tiling list rest kept_then found_then
     step_on x all rest kept kept_then found found_then is way took =
-        let next = next_place x all rest kept found is way in
-        let has = has_row laws small x rest kept found next in
-        gone_on x rest kept kept_then found found_then next (cells_at has.row x.turns)
-        (cells_told laws small x rest kept found next has.row has.told) (took has.row has.told)
+        let next = next_place program params way.done x all rest is way.left in
+        let has = next_row program params table can.told laws way.done x rest next in
+        gone_on way.done x rest next kept kept_then found found_then way.passed (cells_at has.row x.turns)
+        (cells_told laws small way.done x rest next has.row has.told) (took has.row has.told)
 
 -- rows without numbers
 no_row : (rows : List (List ℕ)) → joined rows ≡ [] → (t : ℕ) → get_or rows t [] ≡ []

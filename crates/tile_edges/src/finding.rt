@@ -5,8 +5,8 @@ ghost use Rattle.std.specs.Int.{w64};
 ghost use Rattle.whole_numbers.specs.Affine.{value_of};
 ghost use Rattle.whole_numbers.specs.Floor.{floor};
 ghost use Rattle.scop_syntax.specs.View.{instance_of};
-ghost use Rattle.loop_tree.specs.Tiling.{coordinates, items_at, wave_sum};
-ghost use Rattle.loop_tree.specs.TilingView.{items_of, tiling_of};
+ghost use Rattle.loop_tree.specs.Tiling.{coordinates, wave_sum};
+ghost use Rattle.loop_tree.specs.TilingView.{tiling_of};
 ghost use Rattle.loop_tree.specs.Conditions.{IsHeld};
 ghost use Rattle.loop_tree.specs.Stretches.{left_of};
 ghost use Rattle.tile_list.specs.Tiles.{HasSize, RowsFit};
@@ -16,13 +16,12 @@ ghost use Rattle.tile_edges.specs.steps.Ahead.{LieIn};
 ghost use Rattle.tile_edges.specs.steps.Finding.{ArePlacesOf, FirstsFit, HasTileOf, IsFinder, IsPlaceOf, Stands};
 ghost use Rattle.tile_edges.specs.steps.Finding.{TilesRise, comes_before};
 
-use crate::stretching::{after, likely_ahead};
-use loop_tree::{Stretch, TileItems, TileRow, Tiling};
-use scop_syntax::affine_values::exact_at;
+use crate::stretching::likely_ahead;
+use loop_tree::{Stretch, TileRow, Tiling};
 use scop_syntax::instance::Instance;
 use std::alloc::{AllocError, Global};
 use std::cmp::Ordering;
-use tile_list::{Tile, TileList};
+use tile_list::{Tile, TileList, after, band_at, coordinate, leading_at};
 
 /// A wave and a tile, as lists of numbers.
 #[derive(Drop)]
@@ -46,28 +45,7 @@ fn whole(number: usize) -> i128
     number as i128
 }
 
-/// A number by another one, rounded down.
-fn floor_of(value: i64, size: u64) -> i64
-    requires { 1 ≤ size }
-    ensures { result ≡ floor value (pos size) }
-{
-    if value >= 0 {
-        (value as u64 / size) as i64
-    } else {
-        -1 - ((-1 - value) as u64 / size) as i64
-    }
-}
-
-/// The value of a row, by the size of the tiles.
-fn coordinate(row: &TileRow, size: u64, turns: &[i64]) -> i64
-    requires size { 1 ≤ size }
-    requires fits { FitsSigned w64 (value_of row.now.form turns.now) }
-    ensures { result ≡ floor (value_of row.now.form turns.now) (pos size) }
-{
-    floor_of(exact_at(&row.form, turns), size)
-}
-
-/// The same in more bits.
+/// The coordinate of a row in more bits.
 fn wide(row: &TileRow, size: u64, turns: &[i64]) -> i128
     requires size { 1 ≤ size }
     requires fits { FitsSigned w64 (value_of row.now.form turns.now) }
@@ -128,26 +106,6 @@ fn push_coordinates(
         list.push(wide(row, size, turns))?;
     }
     Ok(())
-}
-
-/// A statement's leading scalars.
-fn leading_at(statements: &[TileItems], statement: usize) -> &[usize]
-    ensures { result.now ≡ (items_at (map items_of statements.now) statement).leading }
-{
-    match statements.get(statement) {
-        None => &[],
-        Some(items) => &items.leading,
-    }
-}
-
-/// The rows of its first band.
-pub(crate) fn band_at(statements: &[TileItems], statement: usize) -> &[TileRow]
-    ensures { result.now ≡ (items_at (map items_of statements.now) statement).band }
-{
-    match statements.get(statement) {
-        None => &[],
-        Some(items) => &items.band,
-    }
 }
 
 /// Whether two lists of numbers are one.

@@ -1,49 +1,14 @@
 //! Stretches of the walk: how many of the next instances a tile may hold, and going on by many of them at once.
-ghost use Rattle.std.specs.Prelude.{◌≡◌, ◌+ℤ◌, ◌<◌, ◌≤◌, All, FitsSigned, get_or, pos, take};
-ghost use Rattle.std.specs.Int.{w64};
-ghost use Rattle.scop_syntax.specs.View.{instance_of};
-ghost use Rattle.whole_numbers.specs.Lists.{multiples};
+ghost use Rattle.std.specs.Prelude.{◌≡◌, ◌≤◌, All};
 ghost use Rattle.loop_tree.specs.Conditions.{IsHeld};
 ghost use Rattle.loop_tree.specs.Stretches.{left_of};
 ghost use Rattle.loop_tree.specs.TilingView.{tiling_of};
 ghost use Rattle.tile_list.specs.Tiles.{HasSize};
-ghost use Rattle.tile_list.specs.steps.Stretching.{steps_on};
 ghost use Rattle.tile_edges.specs.steps.Ahead.{left_on};
 
-use crate::finding::band_at;
 use loop_tree::{Stretch, TileRow, Tiling};
-use scop_syntax::affine_values::{value_at, with_product};
-use scop_syntax::instance::{Instance, MAX_LOOPS};
-
-/// What a turn is so many steps on, where there is room for it; another number elsewhere.
-fn turn_after(turns: &[i64; MAX_LOOPS], steps: &[i64; MAX_LOOPS], count: u64, place: usize) -> i64
-    requires { place < 5 }
-    ensures { FitsSigned w64 (get_or turns.now place (pos 0) +ℤ get_or (multiples (pos count) steps.now) place (pos 0))
-        → result ≡ get_or turns.now place (pos 0) +ℤ get_or (multiples (pos count) steps.now) place (pos 0) }
-{
-    with_product(turns[place], steps[place], count.cast_signed())
-}
-
-/// The instance so many steps behind another one.
-pub(crate) fn after(before: &Instance, steps: &[i64; MAX_LOOPS], count: u64) -> Instance
-    requires { All (FitsSigned w64) (steps_on before.now.statement (instance_of before.now).turns
-        (take before.now.loops steps.now) count).turns }
-    ensures instance { instance_of result ≡ steps_on before.now.statement (instance_of before.now).turns
-        (take before.now.loops steps.now) count }
-    ensures loops { result.loops ≡ before.now.loops }
-{
-    Instance {
-        statement: before.statement,
-        loops: before.loops,
-        turns: [
-            turn_after(&before.turns, steps, count, 0),
-            turn_after(&before.turns, steps, count, 1),
-            turn_after(&before.turns, steps, count, 2),
-            turn_after(&before.turns, steps, count, 3),
-            turn_after(&before.turns, steps, count, 4),
-        ],
-    }
-}
+use scop_syntax::affine_values::value_at;
+use tile_list::{after, band_at};
 
 /// How far a number stands above the next multiple of the size below it.
 fn offset_in(value: i64, size: u64) -> u64

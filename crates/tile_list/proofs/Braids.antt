@@ -12,7 +12,8 @@ use Rattle.loop_tree.specs.declared.braid.Braid.{Braid}
 use Rattle.loop_tree.specs.declared.stretch.Stretch.{Stretch}
 use Rattle.loop_tree.proofs.Braids.{woven_next, woven_none}
 use Rattle.tile_list.specs.steps.Keys.{IsKeyOf}
-use Rattle.tile_list.specs.steps.Stretching.{AllFit, AllHaveKey, AllRowsFit, HasRounds}
+use Rattle.tile_list.specs.Stretches.{HasRounds}
+use Rattle.tile_list.specs.steps.Stretching.{AllFit, AllHaveKey, AllRowsFit}
 use Rattle.tile_list.specs.declared.keys.Key.{Key}
 use Rattle.tile_list.proofs.Stretches.{length-left}
 

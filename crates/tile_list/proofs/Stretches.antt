@@ -17,7 +17,8 @@ use Rattle.loop_tree.specs.Tiling.{TileRow, Tiling, kept, tiled, coordinates, it
 use Rattle.loop_tree.specs.declared.stretch.Stretch.{Stretch}
 use Rattle.tile_list.specs.Tiles.{HasSize, InOneTile}
 use Rattle.tile_list.specs.steps.Keys.{IsKeyOf}
-use Rattle.tile_list.specs.steps.Stretching.{AllHaveKey, instance_at, steps_on}
+use Rattle.tile_list.specs.Stretches.{instance_at, steps_on}
+use Rattle.tile_list.specs.steps.Stretching.{AllHaveKey}
 use Rattle.tile_list.specs.declared.keys.Key.{Key}
 use Rattle.tile_list.proofs.TellingKeys.{key_tells, tells_key}
 
@@ -35,16 +36,16 @@ one_step_more k s =
     subst (λ (z : ℤ). (pos k *ℤ s) +ℤ s ≡ z *ℤ s) (sym e) (omega (arith, ints, d, o))
 
 -- a step more
-step_on : (k : ℕ) (turns steps : List ℤ)
+pub steps_more : (k : ℕ) (turns steps : List ℤ)
     → sums (sums turns (multiples (pos k) steps)) steps ≡ sums turns (multiples (pos (suc k)) steps)
-step_on k [] [] = refl
-step_on k [] (s ∷ steps) =
-    ap₂ (λ (z : ℤ) (zs : List ℤ). z ∷ zs) (one_step_more k s) (step_on k [] steps)
-step_on k (t ∷ turns) [] = refl
-step_on k (t ∷ turns) (s ∷ steps) =
+steps_more k [] [] = refl
+steps_more k [] (s ∷ steps) =
+    ap₂ (λ (z : ℤ) (zs : List ℤ). z ∷ zs) (one_step_more k s) (steps_more k [] steps)
+steps_more k (t ∷ turns) [] = refl
+steps_more k (t ∷ turns) (s ∷ steps) =
     let e = one_step_more k s in
     let first : (t +ℤ (pos k *ℤ s)) +ℤ s ≡ t +ℤ (pos (suc k) *ℤ s) = omega (arith, ints, e) in
-    ap₂ (λ (z : ℤ) (zs : List ℤ). z ∷ zs) first (step_on k turns steps)
+    ap₂ (λ (z : ℤ) (zs : List ℤ). z ∷ zs) first (steps_more k turns steps)
 
 -- what is left of a stretch is what stands so many steps on
 from_place : (n : ℕ) (turns steps : List ℤ) (j : ℕ) (here : List ℤ) (k : ℕ)
@@ -54,7 +55,7 @@ from_place n turns steps j here zero e y h = absurd h
 from_place n turns steps j here (suc k) e y (inl h) =
     (suc j, omega arith, omega arith, h ∙ ap (λ (ts : List ℤ). record { number = n; turns = ts }) e)
 from_place n turns steps j here (suc k) e y (inr h) =
-    let more = ap (λ (ts : List ℤ). sums ts steps) e ∙ step_on (suc j) turns steps in
+    let more = ap (λ (ts : List ℤ). sums ts steps) e ∙ steps_more (suc j) turns steps in
     let (i, low, high, is) = from_place n turns steps (suc j) (sums here steps) k more y h in
     (i, omega (arith, low), omega (arith, high), is)
 
@@ -69,13 +70,13 @@ at_place n turns steps j here (suc k) e (suc zero) high low =
     inl (ap (λ (m : ℕ). steps_on n turns steps m) (sym same)
     ∙ ap (λ (ts : List ℤ). record { number = n; turns = ts }) (sym e))
 at_place n turns steps j here (suc k) e (suc (suc i)) high low =
-    let more = ap (λ (ts : List ℤ). sums ts steps) e ∙ step_on (suc j) turns steps in
+    let more = ap (λ (ts : List ℤ). sums ts steps) e ∙ steps_more (suc j) turns steps in
     let same : suc j + suc i ≡ j + suc (suc i) = omega arith in
     inr (subst (λ (m : ℕ). In (steps_on n turns steps m) (following n (sums here steps) steps k)) same
     (at_place n turns steps (suc j) (sums here steps) k more (suc i) (omega (arith, high)) (omega arith)))
 
 -- the first of a stretch
-first_sums : (turns steps : List ℤ) → sums turns steps ≡ sums turns (multiples (pos 1) steps)
+pub first_sums : (turns steps : List ℤ) → sums turns steps ≡ sums turns (multiples (pos 1) steps)
 first_sums turns steps = ap (λ (ss : List ℤ). sums turns ss) (sym (once steps))
 
 -- what stands some steps on is left

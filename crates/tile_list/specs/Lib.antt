@@ -1,4 +1,5 @@
 pub mod Tiles
 pub mod TilesView
 pub mod Counting
+pub mod Stretches
 pub mod steps

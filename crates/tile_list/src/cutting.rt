@@ -16,7 +16,8 @@ ghost use Rattle.tile_list.specs.steps.Cutting.{Begins, HasBegun, HasGrown, IsCu
 ghost use Rattle.tile_list.specs.steps.Cutting.{IsNewTile, IsWaveOf, Takes};
 ghost use Rattle.tile_list.specs.steps.Keys.{IsKeyOf};
 ghost use Rattle.tile_list.specs.steps.Placing.{HasCome};
-ghost use Rattle.tile_list.specs.steps.Stretching.{AllFit, AllRowsFit, GoesOn, HasRounds, Passes};
+ghost use Rattle.tile_list.specs.Stretches.{HasRounds};
+ghost use Rattle.tile_list.specs.steps.Stretching.{AllFit, AllRowsFit, GoesOn, Passes};
 
 use crate::keys::Key;
 use crate::list::{Tile, TileList};
@@ -85,9 +86,11 @@ fn times(count: usize, number: usize) -> Result<usize, AllocError>
 }
 
 /// How many rounds are left of a braid whose first strand is next, and whose strands have as many left; 0 elsewhere.
-fn rounds_left(braid: &Braid) -> u64
+#[inline]
+pub fn rounds_left(braid: &Braid) -> u64
     requires { IsBraid braid.now }
-    ensures { 0 < result → HasRounds braid.now result }
+    ensures rounds { 0 < result → HasRounds braid.now result }
+    ensures strands { 0 < result → length braid.now.strands ≡ 4 }
 {
     if braid.at > 0 {
         return 0;

@@ -13,7 +13,8 @@ ghost use Rattle.loop_tree.specs.Tiling.{coordinates, items_at};
 ghost use Rattle.loop_tree.specs.TilingView.{items_of, tiling_of};
 ghost use Rattle.tile_list.specs.Tiles.{HasSize, RowsFit};
 ghost use Rattle.tile_list.specs.steps.Keys.{HaveOneWave, IsKeyAt, IsKeyOf, carried};
-ghost use Rattle.tile_list.specs.steps.Stretching.{AllHaveKey, AllRowsFit, instance_at, steps_on};
+ghost use Rattle.tile_list.specs.Stretches.{instance_at, steps_on};
+ghost use Rattle.tile_list.specs.steps.Stretching.{AllHaveKey, AllRowsFit};
 
 use loop_tree::{Stretch, TileItems, TileRow, Tiling};
 use scop_syntax::affine_values::{exact_at, with_product};
@@ -44,7 +45,7 @@ fn floor_of(value: i64, size: u64) -> i64
 
 /// The value of a row, by the size of the tiles.
 #[inline]
-fn coordinate(row: &TileRow, size: u64, turns: &[i64]) -> i64
+pub fn coordinate(row: &TileRow, size: u64, turns: &[i64]) -> i64
     requires size { 1 ≤ size }
     requires fits { FitsSigned w64 (value_of row.now.form turns.now) }
     ensures { result ≡ floor (value_of row.now.form turns.now) (pos size) }
@@ -144,7 +145,7 @@ fn are_same(left: &[usize], right: &[usize]) -> bool
 
 /// A statement's leading scalars.
 #[inline]
-fn leading_at(statements: &[TileItems], statement: usize) -> &[usize]
+pub fn leading_at(statements: &[TileItems], statement: usize) -> &[usize]
     ensures { result.now ≡ (items_at (map items_of statements.now) statement).leading }
 {
     match statements.get(statement) {
@@ -155,7 +156,7 @@ fn leading_at(statements: &[TileItems], statement: usize) -> &[usize]
 
 /// The rows of its first band.
 #[inline]
-fn band_at(statements: &[TileItems], statement: usize) -> &[TileRow]
+pub fn band_at(statements: &[TileItems], statement: usize) -> &[TileRow]
     ensures { result.now ≡ (items_at (map items_of statements.now) statement).band }
 {
     match statements.get(statement) {
@@ -175,11 +176,13 @@ fn turn_after(turns: &[i64; MAX_LOOPS], steps: &[i64; MAX_LOOPS], count: u64, pl
 }
 
 /// The instance so many steps behind another one.
-fn after(before: &Instance, steps: &[i64; MAX_LOOPS], count: u64) -> Instance
+#[inline]
+pub fn after(before: &Instance, steps: &[i64; MAX_LOOPS], count: u64) -> Instance
     requires { All (FitsSigned w64) (steps_on before.now.statement (instance_of before.now).turns
         (take before.now.loops steps.now) count).turns }
-    ensures { instance_of result ≡ steps_on before.now.statement (instance_of before.now).turns
+    ensures instance { instance_of result ≡ steps_on before.now.statement (instance_of before.now).turns
         (take before.now.loops steps.now) count }
+    ensures loops { result.loops ≡ before.now.loops }
 {
     Instance {
         statement: before.statement,

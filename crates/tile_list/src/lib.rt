@@ -10,6 +10,7 @@ mod list;
 mod offsets;
 mod place;
 
-pub use cutting::tiles;
+pub use cutting::{rounds_left, tiles};
+pub use keys::{after, band_at, coordinate, leading_at};
 pub use list::{Tile, TileList};
 pub use place::Place;

@@ -10,7 +10,8 @@ use Rattle.iteration_domains.specs.Dependence.{Dependence}
 use Rattle.schedule_rows.specs.Dependences.{edges_of}
 use Rattle.schedule_rows.specs.Items.{Row, Marked, Block, scalar, band, part_of, band_rows, rows_in, closed_by}
 use Rattle.schedule_rows.specs.Posed.{vectors_of, IsFull, loops_of}
-use Rattle.schedule_rows.specs.Next.{State, rows_of, Goes, Ends, IsSizedDep}
+use Rattle.schedule_rows.specs.Next.{State, rows_of, IsSizedDep}
+use Rattle.schedule_rows.specs.steps.Moves.{Goes, Ends}
 use Rattle.schedule_rows.specs.Outcomes.{Runs, IsSchedule, items_in}
 use Rattle.schedule_rows.proofs.Measures.{VectorLaws, vectors_more, rows_closed, rows_scalar, rows_appended}
 use Rattle.schedule_rows.proofs.NextSteps.{next_goes, next_ends}

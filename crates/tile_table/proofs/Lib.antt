@@ -11,3 +11,4 @@ pub mod Joins
 pub mod Pairs
 pub mod Tellings
 pub mod Visits
+pub mod NextPlaces

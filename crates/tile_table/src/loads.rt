@@ -7,7 +7,7 @@ ghost use Rattle.scop_syntax.specs.View.{statement_of};
 ghost use Rattle.tile_table.specs.Codes.{loaded};
 ghost use Rattle.tile_table.specs.Tables.{touched};
 
-use scop_meaning::accesses::{access_at, read_count};
+use scop_syntax::accesses::{access_at, read_count};
 use scop_syntax::marks::is_marked;
 use scop_syntax::tree::{Access, Stmt};
 

@@ -1,6 +1,5 @@
--- What a tree that scans the sets of a schedule is, and where its visits stand.
-use Rattle.std.specs.Prelude.{◌≡◌, ℕ, zero, ◌^◌, ◌<◌, ◌≤◌, ℤ, pos, List, [], length, map}
-use Rattle.plain_scan.specs.Alone.{AreInRange}
+-- The scan sets of a schedule, and where visits stand.
+use Rattle.std.specs.Prelude.{◌≡◌, ℕ, ◌<◌, ◌≤◌, ℤ, pos, List, map}
 use Rattle.scop_syntax.specs.Kernel.{IsKernel}
 use Rattle.scop_syntax.specs.Limits.{HasParameters}
 use Rattle.scop_syntax.specs.Members.{In}
@@ -11,13 +10,8 @@ use Rattle.iteration_domains.specs.Dependence.{Dependence}
 use Rattle.iteration_domains.specs.Held.{HoldCovers}
 use Rattle.iteration_domains.specs.Instances.{IsInstanceOf}
 use Rattle.iteration_domains.specs.Model.{Modelled, model_of}
-use Rattle.loop_tree.specs.Fits.{FitsAll}
-use Rattle.loop_tree.specs.Marks.{FlatAll, MarksAll}
 use Rattle.loop_tree.specs.Plans.{AreInOrder}
-use Rattle.loop_tree.specs.Scans.{Exact}
-use Rattle.loop_tree.specs.Shape.{NestAllTo, TreesAreOver, TreesAreUpTo}
-use Rattle.loop_tree.specs.Tree.{Trees}
-use Rattle.loop_tree.specs.Walk.{Visit, given, walk_all}
+use Rattle.loop_tree.specs.Walk.{Visit, given}
 use Rattle.tile_skew.specs.Items.{Block}
 use Rattle.tile_skew.specs.Next.{IsSizedDep}
 use Rattle.tile_skew.specs.Outcomes.{IsSchedule}
@@ -25,9 +19,6 @@ use Rattle.tile_skew.specs.Schedule.{loops_in}
 use Rattle.tile_skew.specs.Places.{place_of}
 use Rattle.tile_skew.specs.ScanSets.{most_iterators, scan_set, scan_sets}
 use Rattle.tile_skew.specs.Tilings.{statement_items}
-use Rattle.plain_scan.specs.Hulls.{flags}
-use Rattle.plain_scan.specs.Scanning.{AreOfSets, GiveIterators, dimensions_of, mark_of}
-use Rattle.plain_scan.specs.Sets.{Keys}
 use Rattle.plan_tree.specs.Schedules.{tiling_of}
 
 -- the blocks are those of a schedule of dependences that hold the covers of the kernel's walk, but for those on marked
@@ -68,16 +59,3 @@ pub record AreVisits (program : Program) (params : List ℤ) (size : ℕ) (block
     : Type 0 where
   pub placed : (v : Visit) → In v vs → IsPlaced program params size blocks v
   pub order : AreInOrder program params (tiling_of program size blocks) (map given vs)
-
--- trees that scan sets over p parameters: they visit the keys in order, give the iterators and are parallel at the
--- mark; their numbers are small and fit, and their instances are those of the sets
-pub record IsScan (p : ℕ) (sets : List Scanned) (ts : Trees) : Type 0 where
-  pub exact : (params : List ℤ) → AreInRange params → Exact (Keys sets params) (walk_all ts params [])
-  pub iterators : (params : List ℤ) → AreInRange params → GiveIterators sets (walk_all ts params [])
-  pub fits : (params : List ℤ) → AreInRange params → length params ≡ p → FitsAll ts params []
-  pub flat : FlatAll ts
-  pub marks : MarksAll (flags (mark_of sets) zero (dimensions_of sets)) ts
-  pub small : TreesAreUpTo (2 ^ 40) ts
-  pub over : TreesAreOver p ts
-  pub nested : NestAllTo (dimensions_of sets) ts
-  pub instances : AreOfSets sets ts

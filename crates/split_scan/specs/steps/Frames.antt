@@ -11,7 +11,7 @@ use Rattle.plain_scan.specs.Pieces.{Piece, loop_of}
 use Rattle.plain_scan.specs.Sorting.{lows_in, highs_in}
 use Rattle.split_scan.specs.Questions.{IsCut}
 use Rattle.split_scan.specs.Parts.{staying}
-use Rattle.split_scan.specs.Nodes.{IsNode}
+use Rattle.plain_scan.specs.Nodes.{IsNode}
 use Rattle.split_scan.specs.declared.part.Part.{Part}
 
 -- the loop's dimension, how many variables its rows have, the two numbers and the other rows of its hull, whether it is

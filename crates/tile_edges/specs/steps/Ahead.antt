@@ -1,6 +1,5 @@
 -- What lies ahead along a stretch.
-use Rattle.std.specs.Prelude.{ℕ, zero, suc, ◌-◌, ◌≤◌, ℤ, Bool, List, [], ◌++◌, take}
-use Rattle.whole_numbers.specs.Lists.{sums}
+use Rattle.std.specs.Prelude.{ℕ, ◌-◌, ◌≤◌, ℤ, Bool, List, [], ◌++◌, take}
 use Rattle.scop_syntax.specs.Tree.{Program}
 use Rattle.scop_syntax.specs.View.{instance_of}
 use Rattle.scop_syntax.specs.Walk.{Instance}
@@ -14,16 +13,12 @@ use Rattle.loop_tree.specs.declared.spot.Spot.{Spot}
 use Rattle.loop_tree.specs.declared.stretch.Stretch.{Stretch}
 use Rattle.tile_table.specs.Desks.{HasRoomForAll}
 use Rattle.tile_table.specs.declared.table.Table.{Table}
+use Rattle.tile_list.specs.Stretches.{turns_on}
 use Rattle.tile_list.specs.declared.list.TileList.{TileList}
 use Rattle.tile_edges.specs.Edges.{IsTileOf}
 use Rattle.tile_edges.specs.steps.Finding.{IsFinder}
 use Rattle.tile_edges.specs.steps.Walks.{IsOnItsWay}
 use Rattle.tile_edges.specs.declared.walking.Pass.{Pass}
-
--- turns that went on by the same steps so many times
-abbrev pub turns_on : List ℤ → List ℤ → ℕ → List ℤ
-turns_on turns steps zero = turns
-turns_on turns steps (suc j) = sums (turns_on turns steps j) steps
 
 -- the steps of a stretch
 abbrev pub steps_in : Stretch → List ℤ

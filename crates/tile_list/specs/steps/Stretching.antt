@@ -1,14 +1,11 @@
--- The instances of a stretch by their places in it, what a key tells of all of them, and braids of whole rounds.
-use Rattle.std.specs.Prelude.{◌≡◌, ◌≤◌, ℕ, ℤ, pos, List, length, take, All}
-use Rattle.whole_numbers.specs.Lists.{multiples, sums}
+-- What holds at all that is left of stretches, and how a spot goes on along them.
+use Rattle.std.specs.Prelude.{◌≤◌, ℤ, List, length}
 use Rattle.scop_syntax.specs.Members.{In}
-use Rattle.scop_syntax.specs.View.{instance_of}
 use Rattle.scop_syntax.specs.Walk.{Instance}
 use Rattle.loop_tree.specs.SpotView.{IsSpotOf, to_come}
 use Rattle.loop_tree.specs.Stretches.{left_of}
 use Rattle.loop_tree.specs.Tiling.{Tiling}
 use Rattle.loop_tree.specs.Tree.{Trees}
-use Rattle.loop_tree.specs.declared.braid.Braid.{Braid}
 use Rattle.loop_tree.specs.declared.spot.Spot.{Spot}
 use Rattle.loop_tree.specs.declared.stretch.Stretch.{Stretch}
 use Rattle.tile_list.specs.Tiles.{RowsFit}
@@ -16,14 +13,6 @@ use Rattle.tile_list.specs.steps.Cutting.{IsCutTo}
 use Rattle.tile_list.specs.steps.Keys.{IsKeyOf}
 use Rattle.tile_list.specs.declared.cutting.Cut.{Cut}
 use Rattle.tile_list.specs.declared.keys.Key.{Key}
-
--- the instance of a statement so many steps behind these turns
-abbrev pub steps_on : ℕ → List ℤ → List ℤ → ℕ → Instance
-steps_on n turns steps k = record { number = n; turns = sums turns (multiples (pos k) steps) }
-
--- that of a stretch
-abbrev pub instance_at : Stretch → ℕ → Instance
-instance_at s k = steps_on s.before.statement (instance_of s.before).turns (take s.before.loops s.steps) k
 
 -- the rows fit at each of these instances
 abbrev pub AllFit : Tiling → List Instance → Type 0
@@ -36,11 +25,6 @@ AllRowsFit tiling s = AllFit tiling (left_of s)
 -- a key is that of each instance that is left of a stretch
 abbrev pub AllHaveKey : Tiling → Key → Stretch → Type 0
 AllHaveKey tiling key s = (y : Instance) → In y (left_of s) → IsKeyOf tiling y key
-
--- so many rounds are left of a braid, the first strand of which is next
-pub record HasRounds (b : Braid) (rounds : ℕ) : Type 0 where
-  pub turn : b.at ≡ 0
-  pub lefts : All (λ s. s.left ≡ rounds) (take b.count b.strands)
 
 -- the spot has gone on, and what it passed is in the tiles
 pub record Passes (tiling : Tiling) (passed spot : Spot) (old new : Cut) : Type 0 where

@@ -16,5 +16,5 @@ decreases-put_body l = weight_all (nodes_of l.body.now) + 3
 
 abbrev pub invariant-put_nodes-loop-node : goal.invariant-put_nodes-loop-node
 invariant-put_nodes-loop-node l = l.out.items
-    ++ nodes_text (program_of l.kernel) l.place.level l.place.loops (nodes_of (drop l.node-index l.nodes))
-    ≡ l.fn.out.items ++ nodes_text (program_of l.kernel) l.place.level l.place.loops (nodes_of l.nodes)
+    ++ nodes_text (program_of l.place.source.now) l.place.level l.place.loops (nodes_of (drop l.node-index l.nodes))
+    ≡ l.fn.out.items ++ nodes_text (program_of l.place.source.now) l.place.level l.place.loops (nodes_of l.nodes)

@@ -12,8 +12,8 @@ use Rattle.c_printer.proofs.read_instances.read_instance.Goals as goal
 pub returns : goal.returns
 returns c =
     let a = c.args in
-    let program = program_of a.kernel.now in
-    let names = map (λ n. n.items) a.names.now in
+    let program = program_of a.place.now.source.now in
+    let names = map (λ n. n.items) a.place.now.names.items in
     let read = c.read_number-number.ensures in
     let m = c.read_number-number.result.0 in
     let counted = c.read_number-number.result.1.now in
@@ -21,6 +21,6 @@ returns c =
     let place : Some k ≡ place_of m = search rules in
     let some : Some c.in-Some-strip.behind.now ≡ strip (codes " */ ") counted = search rules in
     subst (λ (o : Option (Tree × Text)). IfOk c.read_found.result (λ r. node_in r ≡ o))
-    (ap (λ o. when o (λ t. body_at program names a.loops k t (slice_get (standings_of program) k))) some
-    ∙ placed program names a.loops a.text.now counted m k read.number read.behind place)
+    (ap (λ o. when o (λ t. body_at program names a.place.now.loops k t (slice_get (standings_of program) k))) some
+    ∙ placed program names a.place.now.loops a.text.now counted m k read.number read.behind place)
     c.read_found.ensures

@@ -13,7 +13,7 @@ use Rattle.c_printer.proofs.read_nodes.+reading.Goals as goal
 pub read_node-returns-in-Some : goal.read_node-returns-in-Some
 read_node-returns-in-Some t c =
     let a = c.args in
-    let program = program_of a.kernel.now in
+    let program = program_of a.place.now.source.now in
     let text = a.text.now in
     let behind = c.in-Some.behind.now in
     let some : Some behind ≡ strip (codes "#pragma omp parallel for\n") text = search rules in
@@ -24,7 +24,7 @@ read_node-returns-in-Some t c =
 pub read_node-returns-in-Some-strip : goal.read_node-returns-in-Some-strip
 read_node-returns-in-Some-strip t c =
     let a = c.args in
-    let program = program_of a.kernel.now in
+    let program = program_of a.place.now.source.now in
     let text = a.text.now in
     let behind = c.in-Some-strip.behind.now in
     let none : None ≡ strip (codes "#pragma omp parallel for\n") text = search rules in
@@ -36,7 +36,7 @@ read_node-returns-in-Some-strip t c =
 pub read_node-returns-in-Some-strip-2 : goal.read_node-returns-in-Some-strip-2
 read_node-returns-in-Some-strip-2 t c =
     let a = c.args in
-    let program = program_of a.kernel.now in
+    let program = program_of a.place.now.source.now in
     let text = a.text.now in
     let behind = c.in-Some-strip-2.behind.now in
     let none : None ≡ strip (codes "#pragma omp parallel for\n") text = search rules in
@@ -51,7 +51,7 @@ pub read_nodes-returns-in_default : goal.read_nodes-returns-in_default
 read_nodes-returns-in_default t c =
     let l = c.loop-at in
     let a = c.args in
-    let program = program_of a.kernel.now in
+    let program = program_of a.place.now.source.now in
     let level = a.place.now.level in
     let loops = a.place.now.loops in
     let h : l.at < a.steps = search rules in
@@ -63,7 +63,7 @@ pub read_nodes-returns-in-Ok-None : goal.read_nodes-returns-in-Ok-None
 read_nodes-returns-in-Ok-None t c =
     let l = c.loop-at in
     let a = c.args in
-    let program = program_of a.kernel.now in
+    let program = program_of a.place.now.source.now in
     let level = a.place.now.level in
     let loops = a.place.now.loops in
     let left = a.steps - (l.at + 1) in
@@ -78,7 +78,7 @@ pub read_nodes-loop-at-preserved : goal.read_nodes-loop-at-preserved
 read_nodes-loop-at-preserved t c =
     let l = c.loop-at in
     let a = c.args in
-    let program = program_of a.kernel.now in
+    let program = program_of a.place.now.source.now in
     let level = a.place.now.level in
     let loops = a.place.now.loops in
     let left = a.steps - (l.at + 1) in

@@ -23,5 +23,5 @@ decreases-read_guard l = 4 * l.steps + 1
 abbrev pub invariant-read_nodes-loop-at : goal.invariant-read_nodes-loop-at
 invariant-read_nodes-loop-at l =
     nodes_before (map tree_of l.nodes.items)
-    (read_nodes (program_of l.kernel) (l.steps - l.at) l.place.level l.place.loops l.rest)
-    ≡ read_nodes (program_of l.kernel) l.steps l.place.level l.place.loops l.text
+    (read_nodes (program_of l.place.source.now) (l.steps - l.at) l.place.level l.place.loops l.rest)
+    ≡ read_nodes (program_of l.place.source.now) l.steps l.place.level l.place.loops l.text

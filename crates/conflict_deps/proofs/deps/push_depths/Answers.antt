@@ -1,6 +1,6 @@
 use Rattle.scop_syntax.proofs.Common.{◌++◌, map, arith, nat_lt}
 use Rattle.conflict_deps.specs.Conflicts.{afters_of, dep_of}
-use Rattle.conflict_deps.specs.View.{side_of}
+use Rattle.conflict_deps.specs.HeldPairs.{source_of, target_of}
 use Rattle.conflict_deps.proofs.Sides.{common_right}
 use Rattle.conflict_deps.proofs.Shapes.{depths_step}
 use Rattle.conflict_deps.proofs.deps.push_depths.Goals as goal
@@ -30,9 +30,9 @@ push_dep-requires-then-number-clause-equal c =
 
 pub loop-equal-preserved : goal.loop-equal-preserved
 loop-equal-preserved c =
-    let m = c.args.parameters in
-    let s = side_of c.args.source.now in
-    let t = side_of c.args.target.now in
+    let m = c.args.pair.now.parameters in
+    let s = source_of c.args.pair.now in
+    let t = target_of c.args.pair.now in
     depths_step m s t c.common_loops-common.result c.loop-equal.equal (nat_lt s.statement.number t.statement.number)
     c.loop-equal.deps.items c.push_dep.new.deps.items
     (c.args.deps.now.items ++ map (dep_of m s t) (afters_of m s t)) c.loop-equal-test.true c.loop-equal.invariant

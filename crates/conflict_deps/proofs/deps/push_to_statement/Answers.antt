@@ -1,16 +1,22 @@
-use Rattle.scop_syntax.proofs.Common.{◌++◌, flat_map}
+use Rattle.scop_syntax.proofs.Common.{◌++◌, ap, ◌∙◌, flat_map}
+use Rattle.integer_sets.specs.Constraints.{Constraints}
 use Rattle.conflict_deps.specs.Conflicts.{deps_between, sides_from}
 use Rattle.conflict_deps.specs.View.{side_of}
 use Rattle.conflict_deps.proofs.GatheredDependences.{pair_can, sides_step}
 use Rattle.conflict_deps.proofs.deps.push_to_statement.Goals as goal
 
-pub push_between-requires-clause-target : goal.push_between-requires-clause-target
-push_between-requires-clause-target c =
-    pair_can c.args.parameters c.args.statement.now c.loop-number.number _ c.accesses-accesses.result.now
-    c.loops-loops.result.now
-    c.loops-loops.ensures.loops c.loops-loops.ensures.dimensions c.loops-loops.ensures.few c.requires.statement
-    c.accesses-accesses.ensures.narrow
-    c.index-accesses-number.is c.loop-number-test.true
+pub invariant_of-pair : goal.invariant_of-pair
+invariant_of-pair c = record {
+  few = c.requires.few;
+  first = c.requires.source;
+  second = pair_can c.args.parameters c.args.statement.now c.loop-number.number _ c.accesses-accesses.result.now
+      c.loops-loops.result.now c.loops-loops.ensures.loops c.loops-loops.ensures.dimensions
+      c.loops-loops.ensures.few c.requires.statement c.accesses-accesses.ensures.narrow c.index-accesses-number.is
+      c.loop-number-test.true;
+  one = c.requires.one;
+  turns = c.dimensions-loops.ensures ∙ ap (λ (z : Constraints). z.dimensions) c.domain.ensures;
+  other_turns = c.dimensions-others.ensures ∙ ap (λ (z : Constraints). z.dimensions) c.domain-2.ensures;
+}
 
 pub loop-number-preserved : goal.loop-number-preserved
 loop-number-preserved c =

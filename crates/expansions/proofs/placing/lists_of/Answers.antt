@@ -3,7 +3,7 @@ use Rattle.scop_syntax.proofs.Common.{instance_of, program_of}
 use Rattle.loop_tree.specs.Plans.{walked}
 use Rattle.loop_tree.specs.SpotView.{to_come}
 use Rattle.loop_tree.specs.View.{trees_in}
-use Rattle.expansions.proofs.Firsts.{next_left}
+use Rattle.tile_table.proofs.NextPlaces.{next_left}
 use Rattle.expansions.proofs.ListedEntries.{none_listed}
 use Rattle.expansions.proofs.placing.lists_of.Goals as goal
 

@@ -20,5 +20,5 @@ returns c program deps blocks text kernel schedule narrow few is =
       written = c.derivations_are_accepted.ensures.written;
     } in
     accepted printed derivations program deps blocks text (λ d i. c.systems_have_parts.ensures model d one i)
-    (c.schedules_have_small_items.ensures model.parameters (loops_in model) deps blocks schedule) kernel schedule narrow
-    few is
+    (c.schedules_have_small_items.ensures model.parameters (loops_in model) deps blocks schedule) kernel
+    (λ p h. c.statements_are_numbered.ensures.placed program p kernel h) schedule narrow few is

@@ -1,11 +1,9 @@
-use Rattle.scop_syntax.proofs.Common.{◌≡◌, ◌∙◌, ◌<◌, ◌^◌, List, [], sym, subst, length}
+use Rattle.scop_syntax.proofs.Common.{◌≡◌, ◌∙◌, ◌<◌, ◌^◌, List, sym, subst}
 use Rattle.integer_sets.specs.Scanned.{Scanned}
-use Rattle.plain_scan.specs.Scanning.{AreScanned, StopsScan, dimensions_of, parameters_of}
+use Rattle.plain_scan.specs.Scanning.{AreScanned, IsScan, StopsScan, dimensions_of}
 use Rattle.plain_scan.specs.Sets.{NumbersRise}
-use Rattle.loop_tree.specs.Tree.{none}
 use Rattle.loop_tree.specs.View.{trees_in}
-use Rattle.plan_tree.specs.steps.Scanning.{IsScan, sets_of}
-use Rattle.plan_tree.proofs.Scans.{own_scans}
+use Rattle.plan_tree.specs.steps.Scanning.{sets_of}
 use Rattle.plan_tree.proofs.Schedules.{tiled_blocks, tiled_sets_of}
 use Rattle.plan_tree.proofs.trees.scanned_tree.Goals as goal
 
@@ -19,15 +17,11 @@ pub returns-clause-tree : goal.returns-clause-tree
 returns-clause-tree c program marked is s =
     let size = c.args.size in
     let ts = trees_in c.in-Ok-tree_of_sets.tree in
-    let made = c.in-Ok-tree_of_sets.ensures in
     let same : c.deref.result.now ≡ sets_of program size s.blocks =
     c.deref.ensures.value ∙ (c.in-Ok.ensures.sets s ∙ tiled_sets_of program marked size c.args.schedule.now s is) in
     let tiling = tiled_blocks program marked size c.args.schedule.now s c.requires.size.0 c.requires.size.1 is in
-    let there = subst (λ (ss : List Scanned). IsScan (parameters_of ss) ss ts) same made.scan in
-    let empty = subst (λ (ss : List Scanned). ss ≡ [] → ts ≡ none) same made.empty in
     c.scans_are_trees_of_tilings.ensures program marked size s.blocks ts tiling
-    (own_scans (length program.parameters) (sets_of program size s.blocks) ts
-    (c.sets_can_be_scanned.ensures.parameters program marked size s.blocks tiling) empty there)
+    (subst (λ (ss : List Scanned). IsScan ss ts) same c.in-Ok-tree_of_sets.ensures.scan)
 
 pub returns-in-Err-tree_of_sets-clause-stops : goal.returns-in-Err-tree_of_sets-clause-stops
 returns-in-Err-tree_of_sets-clause-stops c s =
@@ -38,4 +32,4 @@ pub returns-clause-small : goal.returns-clause-small
 returns-clause-small c =
     let few = subst (λ (ss : List Scanned). dimensions_of ss < 2 ^ 32) (sym c.deref.ensures.value) c.in-Ok.ensures.few
     in
-    (dimensions_of c.deref.result.now, few, c.in-Ok-tree_of_sets.ensures.numbers)
+    (dimensions_of c.deref.result.now, few, c.in-Ok-tree_of_sets.ensures.scan.numbers)

@@ -7,7 +7,7 @@ use Rattle.pluto_search.proofs.begin.begin.Goals as goal
 
 pub returns-clause-good : goal.returns-clause-good
 returns-clause-good c m budget between =
-    let loops = c.args.loops.now in
+    let loops = c.args.search.now.loops.now in
     good_first m loops budget
     (record {
       closed = c.new.result;

@@ -4,5 +4,6 @@ use Rattle.pluto_search.proofs.begin.first_vectors.Given as goal
 
 abbrev pub invariant-loop-at : goal.invariant-loop-at
 invariant-loop-at l =
-    map (λ v. map (λ u. u.items) v.items) l.vectors.items ++ map (λ n. kernel_vectors n []) (drop l.at l.loops)
-    ≡ map (λ n. kernel_vectors n []) l.loops
+    map (λ v. map (λ u. u.items) v.items) l.vectors.items
+    ++ map (λ n. kernel_vectors n []) (drop l.at l.search.loops.now)
+    ≡ map (λ n. kernel_vectors n []) l.search.loops.now

@@ -9,9 +9,9 @@ use Rattle.pluto_search.proofs.next.close_band.Goals as goal
 
 pub restrict_all-requires-clause-tells : goal.restrict_all-requires-clause-tells
 restrict_all-requires-clause-tells c d i =
-    subst (λ (z : List code.Marked). All (λ (r : Marked). CanTell c.args.parameters r.row d) (map marked_of z))
-    (sym c.deref.ensures.value)
-    (c.requires.tells d (subst (λ (l : List Dependence). In d l) c.deref-2.ensures.value i))
+    let g = c.args.search.now in
+    subst (λ (z : List code.Marked). All (λ (r : Marked). CanTell g.parameters r.row d) (map marked_of z))
+    (sym c.deref.ensures.value) (c.requires.tells d (subst (λ (l : List Dependence). In d l) c.deref-2.ensures.value i))
 
 pub restrict_all-requires-clause-parameters : goal.restrict_all-requires-clause-parameters
 restrict_all-requires-clause-parameters c d i =
@@ -19,7 +19,8 @@ restrict_all-requires-clause-parameters c d i =
 
 pub returns-clause-answered : goal.returns-clause-answered
 returns-clause-answered c =
-    subst (λ (z : List code.Marked). AnswersRestricted c.args.parameters (map marked_of z) c.args.budget
+    let g = c.args.search.now in
+    subst (λ (z : List code.Marked). AnswersRestricted g.parameters (map marked_of z) g.budget
     c.args.deps.items) c.deref.ensures.value
-    (subst (λ (l : List Dependence). AnswersRestricted c.args.parameters (map marked_of c.deref.result.now)
-    c.args.budget l) c.deref-2.ensures.value c.in-Ok.ensures.answered)
+    (subst (λ (l : List Dependence). AnswersRestricted g.parameters (map marked_of c.deref.result.now)
+    g.budget l) c.deref-2.ensures.value c.in-Ok.ensures.answered)

@@ -43,42 +43,49 @@ least_at m loops t s xs h d min =
 
 pub posed_over-requires-clause-between : goal.posed_over-requires-clause-between
 posed_over-requires-clause-between c =
+    let g = c.args.search.now in
     subst (λ (z : List RuledDep). (x : RuledDep) → In x z → IsRuled x
-    × IsBetween c.args.parameters c.args.loops.now x.dep) (sym c.deref.ensures.value)
-    (are_between c.args.parameters c.args.loops.now c.args.budget c.args.progress c.requires.good)
+    × IsBetween g.parameters g.loops.now x.dep) (sym c.deref.ensures.value)
+    (are_between g.parameters g.loops.now g.budget c.args.progress c.requires.good)
 
 pub posed_over-requires-clause-vectors : goal.posed_over-requires-clause-vectors
 posed_over-requires-clause-vectors c =
-    subst (λ (z : List Vectors). AreSmallVectors c.args.loops.now (map shown z)) (sym c.deref-2.ensures.value)
-    (small_vectors c.args.parameters c.args.loops.now c.args.budget c.args.progress c.requires.loops c.requires.good)
+    let g = c.args.search.now in
+    subst (λ (z : List Vectors). AreSmallVectors g.loops.now (map shown z)) (sym c.deref-2.ensures.value)
+    (small_vectors g.parameters g.loops.now g.budget c.args.progress g.small c.requires.good)
 
 -- the system is the state's posed system, and holds its posed rows
-is_posed : (c : In-Ok) → IsPosedAt c.args.parameters c.args.loops.now c.args.budget (state_of c.args.progress)
-    c.in-Ok.posed
+is_posed : (c : In-Ok)
+    → IsPosedAt c.args.search.now.parameters c.args.search.now.loops.now c.args.search.now.budget
+    (state_of c.args.progress) c.in-Ok.posed
 is_posed c =
-    posed_at c.args.parameters c.args.loops.now c.args.budget c.args.progress c.deref.result.now c.deref-2.result.now
+    let g = c.args.search.now in
+    posed_at g.parameters g.loops.now g.budget c.args.progress c.deref.result.now c.deref-2.result.now
     c.in-Ok.posed c.deref.ensures.value c.deref-2.ensures.value c.requires.ruled c.requires.good c.in-Ok.ensures.exact
 
-has : (c : In-Ok) → HasPosed c.args.parameters c.args.loops.now (state_of c.args.progress).remaining
+has : (c : In-Ok)
+    → HasPosed c.args.search.now.parameters c.args.search.now.loops.now (state_of c.args.progress).remaining
     (rows_of (state_of c.args.progress)) c.in-Ok.posed
 has c =
-    has_at c.args.parameters c.args.loops.now c.args.budget c.args.progress c.deref.result.now c.deref-2.result.now
+    let g = c.args.search.now in
+    has_at g.parameters g.loops.now g.budget c.args.progress c.deref.result.now c.deref-2.result.now
     c.in-Ok.posed c.deref.ensures.value c.deref-2.ensures.value c.requires.ruled c.requires.good c.in-Ok.ensures.points
 
-columns : (c : In-Ok) → c.in-Ok.posed.dimensions ≡ columns_of c.args.parameters c.args.loops.now
+columns : (c : In-Ok) → c.in-Ok.posed.dimensions ≡ columns_of c.args.search.now.parameters c.args.search.now.loops.now
 columns c = ap (λ (z : Constraints). z.dimensions) c.in-Ok.ensures.exact
 
 pub lack-requires-clause-none : goal.lack-requires-clause-none
 lack-requires-clause-none c =
+    let g = c.args.search.now in
     let at = (goal.at.lack-requires-clause-none c).In-Ok in
     let s = c.in-Ok.posed in
     let is = c.in-Ok-None.field-0-is in (
       (
         s,
         is_posed at,
-        subst (λ (f : Option (Vec ℤ Global)). Minimizes (Ok f) c.args.budget s) is c.in-Ok-None.ensures.run,
+        subst (λ (f : Option (Vec ℤ Global)). Minimizes (Ok f) g.budget s) is c.in-Ok-None.ensures.run,
       ),
-      none_at c.args.parameters c.args.loops.now (state_of c.args.progress) s (has at) (columns at)
+      none_at g.parameters g.loops.now (state_of c.args.progress) s (has at) (columns at)
           (subst (λ f. IsMinimum s (held f)) is c.in-Ok-None.ensures.minimum),
     )
 
@@ -92,6 +99,7 @@ take-requires-clause-size c =
 
 pub take-requires-clause-least : goal.take-requires-clause-least
 take-requires-clause-least c =
+    let g = c.args.search.now in
     let at = (goal.at.take-requires-clause-least c).In-Ok in
     let s = c.in-Ok.posed in
     let is = c.in-Ok-Some.field-0-is in (
@@ -100,23 +108,21 @@ take-requires-clause-least c =
         (
           s,
           is_posed at,
-          subst (λ (f : Option (Vec ℤ Global)). Minimizes (Ok f) c.args.budget s) is c.in-Ok-Some.ensures.run,
+          subst (λ (f : Option (Vec ℤ Global)). Minimizes (Ok f) g.budget s) is c.in-Ok-Some.ensures.run,
         ),
       ),
-      least_at c.args.parameters c.args.loops.now (state_of c.args.progress) s c.in-Ok-Some.numbers.items (has at)
+      least_at g.parameters g.loops.now (state_of c.args.progress) s c.in-Ok-Some.numbers.items (has at)
           (columns at) (subst (λ f. IsMinimum s (held f)) is c.in-Ok-Some.ensures.minimum),
     )
 
 pub returns-in-Err-least_point_in : goal.returns-in-Err-least_point_in
 returns-in-Err-least_point_in c =
+    let g = c.args.search.now in
     let at = (goal.at.returns-in-Err-least_point_in c).In-Ok in
-    let m = c.args.parameters in
-    let loops = c.args.loops.now in
-    let budget = c.args.budget in
     let t = state_of c.args.progress in
     let s = c.in-Ok.posed in
-    subst (λ (k : kept.the_data). Steps m loops budget t (Err k)) (sym c.by_solver.ensures)
-    (stop_at m loops budget t _
-    (stop_of (StopsMinimum budget s) (StopsAt m loops budget t) _
+    subst (λ (k : kept.the_data). Steps g.parameters g.loops.now g.budget t (Err k)) (sym c.by_solver.ensures)
+    (stop_at g.parameters g.loops.now g.budget t _
+    (stop_of (StopsMinimum g.budget s) (StopsAt g.parameters g.loops.now g.budget t) _
     (λ stop h. inr (c.requires.more, inr (inl (s, is_posed at, h))))
-    (minimum_stops budget s c.in-Err-least_point_in.stop c.in-Err-least_point_in.ensures.run)))
+    (minimum_stops g.budget s c.in-Err-least_point_in.stop c.in-Err-least_point_in.ensures.run)))

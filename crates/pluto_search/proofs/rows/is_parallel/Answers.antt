@@ -26,35 +26,38 @@ asked_among c =
 
 -- it is the first of which P holds, where the row rises on none before
 first_asked : (c : After-dep) (P : Dependence → Type 0) → P c.index-ruled-at.result.dep
-    → IsFirst (AnswersMark c.args.parameters (row_of c.args.row.now) c.args.budget true) P (map dep_of c.args.ruled.now)
+    → IsFirst (AnswersMark c.args.search.now.parameters (row_of c.args.row.now) c.args.search.now.budget true) P
+    (map dep_of c.args.ruled.now)
 first_asked c P h =
-    let Q : Dependence → Type 0 = AnswersMark c.args.parameters (row_of c.args.row.now) c.args.budget true in
+    let g = c.args.search.now in
+    let Q : Dependence → Type 0 = AnswersMark g.parameters (row_of c.args.row.now) g.budget true in
     first_mapped dep_of Q P c.args.ruled.now
     (first_next (λ x. Q x.dep) (λ x. P x.dep) c.args.ruled.now (drop (c.loop-at.at + 1) c.args.ruled.now) c.loop-at.at
     c.index-ruled-at.result (asked_next c) c.loop-at.invariant.1 h)
 
 pub is_level-requires : goal.is_level-requires
 is_level-requires c =
-    subst (λ (d : Dependence). CanTell c.args.parameters (row_of c.args.row.now) d) (sym c.dep.ensures)
+    subst (λ (d : Dependence). CanTell c.args.search.now.parameters (row_of c.args.row.now) d) (sym c.dep.ensures)
     (c.requires c.index-ruled-at.result (asked_among c))
 
 pub returns-in-Err-clause-stops : goal.returns-in-Err-clause-stops
 returns-in-Err-clause-stops c =
-    let m = c.args.parameters in
+    let g = c.args.search.now in
     let r = row_of c.args.row.now in
     let d = c.dep.result.now in
-    let budget = c.args.budget in
-    stop_of (StopsEmptiness budget (above_at m r d)) (StopsMarks m r budget (map dep_of c.args.ruled.now)) c.in-Err.kept
+    stop_of (StopsEmptiness g.budget (above_at g.parameters r d))
+    (StopsMarks g.parameters r g.budget (map dep_of c.args.ruled.now)) c.in-Err.kept
     (λ stop h. first_asked (goal.at.returns-in-Err-clause-stops c).After-dep
-    (λ e. StopsEmptiness budget (above_at m r e) stop)
-    (subst (λ (e : Dependence). StopsEmptiness budget (above_at m r e) stop) c.dep.ensures h))
+    (λ e. StopsEmptiness g.budget (above_at g.parameters r e) stop)
+    (subst (λ (e : Dependence). StopsEmptiness g.budget (above_at g.parameters r e) stop) c.dep.ensures h))
     c.in-Err.ensures.stops
 
 pub returns-in-Ok-false-clause-answered : goal.returns-in-Ok-false-clause-answered
 returns-in-Ok-false-clause-answered c =
-    let P : Dependence → Type 0 = AnswersMark c.args.parameters (row_of c.args.row.now) c.args.budget false in
+    let g = c.args.search.now in
+    let P : Dependence → Type 0 = AnswersMark g.parameters (row_of c.args.row.now) g.budget false in
     inr (first_asked (goal.at.returns-in-Ok-false-clause-answered c).After-dep P
-    (subst P c.dep.ensures (subst (λ (level : Bool). AnswersMark c.args.parameters (row_of c.args.row.now) c.args.budget
+    (subst P c.dep.ensures (subst (λ (level : Bool). AnswersMark g.parameters (row_of c.args.row.now) g.budget
     level c.dep.result.now) c.in-Ok-false.field-0-test c.in-Ok-false.ensures.answered)))
 
 pub returns-in-Ok-false-clause-carries : goal.returns-in-Ok-false-clause-carries
@@ -69,26 +72,27 @@ returns-in-Ok-false-clause-carries c h =
 
 pub loop-at-preserved : goal.loop-at-preserved
 loop-at-preserved c =
-    let m = c.args.parameters in
+    let g = c.args.search.now in
     let r = row_of c.args.row.now in
-    let Q : Dependence → Type 0 = AnswersMark m r c.args.budget true in
-    let own = subst (λ (z : Dependence). IsEmptyDep m (above_at m r z)) c.dep.ensures
+    let Q : Dependence → Type 0 = AnswersMark g.parameters r g.budget true in
+    let own = subst (λ (z : Dependence). IsEmptyDep g.parameters (above_at g.parameters r z)) c.dep.ensures
     (c.in-Ok-true.ensures.level (ap Ok c.in-Ok-true.field-0-test)) in
     let next = asked_next (goal.at.loop-at-preserved c).After-dep in (
       λ h. c.loop-at.invariant.0 (λ d i.
           elim (subst (λ (l : List RuledDep). In d (map dep_of l)) next i) [
-            | inl e ↦ subst (λ (z : Dependence). IsEmptyDep m (above_at m r z)) (sym e) own
+            | inl e ↦ subst (λ (z : Dependence). IsEmptyDep g.parameters (above_at g.parameters r z)) (sym e) own
             | inr j ↦ h d j
           ]),
       taken_more (λ x. Q x.dep) c.args.ruled.now c.loop-at.at c.index-ruled-at.result c.index-ruled-at.result
           (omega (arith, c.loop-at-test.true)) c.index-ruled-at.is
-          (subst Q c.dep.ensures (subst (λ (level : Bool). AnswersMark m r c.args.budget level c.dep.result.now)
+          (subst Q c.dep.ensures (subst (λ (level : Bool). AnswersMark g.parameters r g.budget level c.dep.result.now)
           c.in-Ok-true.field-0-test c.in-Ok-true.ensures.answered)) c.loop-at.invariant.1,
     )
 
 pub returns-clause-answered : goal.returns-clause-answered
 returns-clause-answered c =
-    let Q : Dependence → Type 0 = AnswersMark c.args.parameters (row_of c.args.row.now) c.args.budget true in
+    let g = c.args.search.now in
+    let Q : Dependence → Type 0 = AnswersMark g.parameters (row_of c.args.row.now) g.budget true in
     inl (All-map Q dep_of c.args.ruled.now
     (all_taken (λ x. Q x.dep) c.args.ruled.now c.loop-at.at (omega (arith, c.loop-at-test.false))
     c.loop-at.invariant.1))

@@ -8,7 +8,8 @@ use Rattle.pluto_search.proofs.rows.is_parallel.Given as goal
 
 abbrev pub invariant-loop-at : goal.invariant-loop-at
 invariant-loop-at l =
-    (((d : Dependence) → In d (map dep_of (drop l.at l.ruled)) → IsEmptyDep l.parameters
-    (above_at l.parameters (row_of l.row) d))
-    → (d : Dependence) → In d (map dep_of l.ruled) → IsEmptyDep l.parameters (above_at l.parameters (row_of l.row) d))
-    × All (λ x. AnswersMark l.parameters (row_of l.row) l.budget true x.dep) (take l.at l.ruled)
+    (((d : Dependence) → In d (map dep_of (drop l.at l.ruled)) → IsEmptyDep l.search.parameters
+    (above_at l.search.parameters (row_of l.row) d))
+    → (d : Dependence) → In d (map dep_of l.ruled)
+    → IsEmptyDep l.search.parameters (above_at l.search.parameters (row_of l.row) d))
+    × All (λ x. AnswersMark l.search.parameters (row_of l.row) l.search.budget true x.dep) (take l.at l.ruled)

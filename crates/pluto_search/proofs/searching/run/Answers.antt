@@ -7,33 +7,34 @@ use Rattle.pluto_search.proofs.searching.run.Goals as goal
 
 pub returns-in-Err : goal.returns-in-Err
 returns-in-Err c =
-    stop_first c.args.parameters c.args.loops.now c.args.deps.now c.args.budget c.in-Err.kept c.in-Err.ensures
+    let g = c.args.search.now in
+    stop_first g.parameters g.loops.now c.args.deps.now g.budget c.in-Err.kept c.in-Err.ensures
 
 pub returns-in-Err-next_item : goal.returns-in-Err-next_item
 returns-in-Err-next_item c =
-    keeps c.args.parameters c.args.loops.now c.args.deps.now c.args.budget (state_of c.loop-kept.progress)
-    c.in-Err-next_item.kept
+    let g = c.args.search.now in
+    keeps g.parameters g.loops.now c.args.deps.now g.budget (state_of c.loop-kept.progress) c.in-Err-next_item.kept
     c.loop-kept.invariant.1 c.in-Err-next_item.ensures
 
 pub loop-kept-smaller : goal.loop-kept-smaller
 loop-kept-smaller c =
-    let m = c.args.parameters in
-    let loops = c.args.loops.now in
+    let g = c.args.search.now in
     let s = state_of c.loop-kept.progress in
-    let steps : Steps m loops c.args.budget s (Ok (step.Goes c.in-Ok-Goes.next)) =
-    subst (λ r. Steps m loops c.args.budget s r) (c.in-Ok-Goes.is ∙ ap Ok c.in-Ok-Goes.field-0-is) c.next_item.ensures
-    in
-    falls m loops s (state_of c.in-Ok-Goes.next) steps.1
+    let steps : Steps g.parameters g.loops.now g.budget s (Ok (step.Goes c.in-Ok-Goes.next)) =
+    subst (λ r. Steps g.parameters g.loops.now g.budget s r) (c.in-Ok-Goes.is ∙ ap Ok c.in-Ok-Goes.field-0-is)
+    c.next_item.ensures in
+    falls g.parameters g.loops.now s (state_of c.in-Ok-Goes.next) steps.1
 
 pub loop-kept-preserved : goal.loop-kept-preserved
 loop-kept-preserved c =
-    let m = c.args.parameters in
-    let loops = c.args.loops.now in
+    let g = c.args.search.now in
     let s = state_of c.loop-kept.progress in
-    let steps : Steps m loops c.args.budget s (Ok (step.Goes c.in-Ok-Goes.next)) =
-    subst (λ r. Steps m loops c.args.budget s r) (c.in-Ok-Goes.is ∙ ap Ok c.in-Ok-Goes.field-0-is) c.next_item.ensures
+    let steps : Steps g.parameters g.loops.now g.budget s (Ok (step.Goes c.in-Ok-Goes.next)) =
+    subst (λ r. Steps g.parameters g.loops.now g.budget s r) (c.in-Ok-Goes.is ∙ ap Ok c.in-Ok-Goes.field-0-is)
+    c.next_item.ensures
     in (
       steps.2,
-      answered_more m loops c.args.budget c.args.deps.now s (state_of c.in-Ok-Goes.next) c.loop-kept.invariant.1 steps.0
+      answered_more g.parameters g.loops.now g.budget c.args.deps.now s (state_of c.in-Ok-Goes.next)
+          c.loop-kept.invariant.1 steps.0
           steps.1,
     )

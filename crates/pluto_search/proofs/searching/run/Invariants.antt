@@ -5,8 +5,8 @@ use Rattle.pluto_search.proofs.searching.run.Given as goal
 
 abbrev pub invariant-loop-kept : goal.invariant-loop-kept
 invariant-loop-kept l =
-    IsGood l.parameters l.loops l.budget l.progress
-    × Answered l.parameters l.loops l.budget l.deps (state_of l.progress)
+    IsGood l.search.parameters l.search.loops.now l.search.budget l.progress
+    × Answered l.search.parameters l.search.loops.now l.search.budget l.deps (state_of l.progress)
 
 abbrev pub decreases-loop-kept : goal.decreases-loop-kept
-decreases-loop-kept l = measure l.loops (state_of l.progress)
+decreases-loop-kept l = measure l.search.loops.now (state_of l.progress)

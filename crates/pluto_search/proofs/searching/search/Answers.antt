@@ -7,11 +7,11 @@ use Rattle.pluto_search.proofs.RunSteps.{comes_schedule, comes_found}
 use Rattle.pluto_search.proofs.searching.search.Goals as goal
 use Rattle.pluto_search.proofs.searching.search.Goals.{In-Ok-run}
 
-pub run-requires-clause-between : goal.run-requires-clause-between
-run-requires-clause-between c =
+pub run-requires : goal.run-requires
+run-requires c =
     let model = c.args.model.now in
     let deps = c.args.deps.now in
-    subst (λ (m : ℕ). AreBetween m c.deref.result.now deps) (sym c.parameters-parameters.ensures.parameters)
+    subst (λ (m : ℕ). AreBetween m c.deref.result.now deps) (sym c.parameters.ensures.parameters)
     (subst (λ (loops : List ℕ). AreBetween model.parameters loops deps)
     (sym (c.deref.ensures.value ∙ c.in-Ok.ensures.loops)) c.requires)
 
@@ -23,8 +23,8 @@ comes c =
     let deps = c.args.deps.now in
     let blocks = map block_of c.in-Ok-run.blocks.items in
     subst (λ (m : ℕ). ComesAnswered m (loops_in model) c.args.budget deps (ends blocks))
-    c.parameters-parameters.ensures.parameters
-    (subst (λ (loops : List ℕ). ComesAnswered c.parameters-parameters.result loops c.args.budget deps (ends blocks))
+    c.parameters.ensures.parameters
+    (subst (λ (loops : List ℕ). ComesAnswered c.parameters.result loops c.args.budget deps (ends blocks))
     (c.deref.ensures.value ∙ c.in-Ok.ensures.loops)
     c.in-Ok-run.ensures)
 

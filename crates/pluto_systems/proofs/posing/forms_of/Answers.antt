@@ -1,12 +1,12 @@
 use Rattle.scop_syntax.proofs.Common.{◌≡◌, ◌+◌, ◌∷◌, arith}
-use Rattle.pluto_systems.specs.Posing.{HaveSizes, ruled_dep, ruled_deps, equalities_for, rows_for}
+use Rattle.pluto_systems.specs.Posing.{ruled_dep, ruled_deps, equalities_for, rows_for}
 use Rattle.pluto_systems.proofs.DependenceSystems.{rest, rest_step, rest_end, forms_step, sized_step, sized_end}
 use Rattle.pluto_systems.proofs.posing.forms_of.Goals as goal
 
 pub loop-at-preserved : goal.loop-at-preserved
 loop-at-preserved c =
-    let m = c.args.parameters in
-    let loops = c.args.loops.now in
+    let m = c.args.columns.now.parameters in
+    let loops = c.args.columns.now.loops.now in
     let ds = c.args.deps.now in
     let ls = c.args.legal.now in
     let bs = c.args.bounded.now in
@@ -18,23 +18,13 @@ loop-at-preserved c =
     let step : here ≡ one ∷ more =
     rest_step ds ls bs i _ _ _ c.index-deps-at.result c.index-legal-at.result c.index-bounded-at.result
     c.index-deps-at.is
-    c.index-legal-at.is c.index-bounded-at.is c.loop-at-test.true c.requires.legal c.requires.bounded in
-    let sizes : HaveSizes one = record {
-      legal = record {
-        equalities_sized = c.in_ok-push_equalities.ensures.legal;
-        rows_sized = c.in_ok-push_rows.ensures.legal;
-      };
-      bounded = record {
-        equalities_sized = c.in_ok-push_equalities.ensures.bounded;
-        rows_sized = c.in_ok-push_rows.ensures.bounded;
-      };
-    } in (
-      forms_step (equalities_for m loops) c.loop-at.equalities.items c.push_equalities.new.out.items one more here
+    c.index-legal-at.is c.index-bounded-at.is c.loop-at-test.true c.requires.legal c.requires.bounded in (
+      forms_step (equalities_for m loops) c.loop-at.equal.items c.push_forms.new.equal.items one more here
           whole
-          step c.in_ok-push_equalities.ensures.forms c.loop-at.invariant.0,
-      forms_step (rows_for m loops) c.loop-at.rows.items c.push_rows.new.out.items one more here whole
-          step c.in_ok-push_rows.ensures.forms c.loop-at.invariant.1,
-      sized_step whole here more one step sizes c.loop-at.invariant.2,
+          step c.in_ok-push_forms.ensures.equalities c.loop-at.invariant.0,
+      forms_step (rows_for m loops) c.loop-at.rows.items c.push_forms.new.rows.items one more here whole
+          step c.in_ok-push_forms.ensures.rows c.loop-at.invariant.1,
+      sized_step whole here more one step c.in_ok-push_forms.ensures.sized c.loop-at.invariant.2,
     )
 
 pub returns-clause-sized : goal.returns-clause-sized

@@ -4,7 +4,7 @@ use Rattle.pluto_systems.proofs.posing.forms_over.Given as goal
 
 abbrev pub invariant-loop-one : goal.invariant-loop-one
 invariant-loop-one l =
-    (l.equalities.items ++ flat_map (equalities_for l.parameters l.loops) (drop l.one-index l.ruled)
-    ≡ flat_map (equalities_for l.parameters l.loops) l.ruled)
-    × (l.rows.items ++ flat_map (rows_for l.parameters l.loops) (drop l.one-index l.ruled)
-    ≡ flat_map (rows_for l.parameters l.loops) l.ruled)
+    (l.equal.items ++ flat_map (equalities_for l.columns.parameters l.columns.loops.now) (drop l.one-index l.ruled)
+    ≡ flat_map (equalities_for l.columns.parameters l.columns.loops.now) l.ruled)
+    × (l.rows.items ++ flat_map (rows_for l.columns.parameters l.columns.loops.now) (drop l.one-index l.ruled)
+    ≡ flat_map (rows_for l.columns.parameters l.columns.loops.now) l.ruled)

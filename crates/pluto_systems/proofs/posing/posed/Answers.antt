@@ -9,7 +9,7 @@ use Rattle.pluto_systems.specs.Posing.{posed_system, ruled_deps, vectors_for, Ar
 use Rattle.schedule_rows.specs.Schedule.{loops_in}
 use Rattle.pluto_systems.proofs.DependenceSystems.{ArePosed, are_posed, posed_sizes, posed_is, is_ruled, ruled_alone}
 use Rattle.pluto_systems.proofs.posing.posed.Goals as goal
-use Rattle.pluto_systems.proofs.posing.posed.Goals.{In_ok-equalities, After-deref-4}
+use Rattle.pluto_systems.proofs.posing.posed.Goals.{In_ok-equalities, After-deref-2}
 
 -- the vectors as plain lists
 abbrev views : List (Vec (Vec ℤ Global) Global) → List (List (List ℤ))
@@ -22,23 +22,23 @@ ruled c x i =
     let f = c.requires.farkas x i in
     (is_ruled x f.0 (c.in_ok-equalities.ensures.sized x i), f.1)
 
-parts : (c : After-deref-4)
+parts : (c : After-deref-2)
     → ArePosed c.args.model.now.parameters (loops_in c.args.model.now)
     (ruled_deps c.args.deps.now c.args.legal.now c.args.bounded.now) (vectors_for (loops_in c.args.model.now)
     (views c.args.rows.now))
-    (columns_of c.parameters-parameters.result c.deref-3.result.now) c.in_ok-equalities.equalities.items
+    (columns_of c.parameters.result c.deref.result.now) c.in_ok-equalities.equalities.items
     (c.in_ok-equalities.rules.items
-    ++ growth_from c.parameters-parameters.result c.deref-3.result.now 0 (views c.deref-4.result.now))
+    ++ growth_from c.parameters.result c.deref.result.now 0 (views c.deref-2.result.now))
 parts c =
     let m = c.args.model.now.parameters in
     let loops = loops_in c.args.model.now in
     let rows = views c.args.rows.now in
     let is = c.in_ok-loops.ensures.loops in
-    are_posed m c.parameters-parameters.result loops c.deref-2.result.now c.deref-3.result.now
+    are_posed m c.parameters.result loops c.deref.result.now
     (ruled_deps c.args.deps.now c.args.legal.now c.args.bounded.now) (vectors_for loops rows)
-    (views c.deref-4.result.now) c.in_ok-equalities.equalities.items c.in_ok-equalities.rules.items
-    c.parameters-parameters.ensures.parameters (c.deref-2.ensures.value ∙ is) (c.deref-3.ensures.value ∙ is)
-    (ap views c.deref-4.ensures.value
+    (views c.deref-2.result.now) c.in_ok-equalities.equalities.items c.in_ok-equalities.rules.items
+    c.parameters.ensures.parameters (c.deref.ensures.value ∙ is)
+    (ap views c.deref-2.ensures.value
     ∙ (c.in_ok-vectors.ensures ∙ ap (λ (l : List ℕ). vectors_for l rows) (c.deref.ensures.value ∙ is)))
     c.in_ok-equalities.ensures.equalities c.in_ok-equalities.ensures.rows
 
@@ -51,10 +51,10 @@ with_growth-requires-clause-sized c =
     let five = subst (All (λ (l : ℕ). l ≤ 5)) c.in_ok-loops.ensures.loops c.in_ok-loops.ensures.few in
     let small : AreSmallVectors loops vs =
     c.kernel_vectors_of_rows_are_small.ensures loops (views c.args.rows.now) five c.requires.rows in
-    posed_sizes m loops all vs (columns_of c.parameters-parameters.result c.deref-3.result.now)
+    posed_sizes m loops all vs (columns_of c.parameters.result c.deref.result.now)
     c.in_ok-equalities.equalities.items
     (c.in_ok-equalities.rules.items
-    ++ growth_from c.parameters-parameters.result c.deref-3.result.now 0 (views c.deref-4.result.now))
+    ++ growth_from c.parameters.result c.deref.result.now 0 (views c.deref-2.result.now))
     (parts c) (c.posed_systems_are_sized.ensures m loops all vs (ruled
     (goal.at.with_growth-requires-clause-sized c).In_ok-equalities) small)
 
@@ -65,16 +65,16 @@ returns-clause-points c =
     let deps = c.args.deps.now in
     let all = ruled_deps deps c.args.legal.now c.args.bounded.now in
     let vs = vectors_for loops (views c.args.rows.now) in
-    let n = columns_of c.parameters-parameters.result c.deref-3.result.now in
+    let n = columns_of c.parameters.result c.deref.result.now in
     let es = c.in_ok-equalities.equalities.items in
     let rs = c.in_ok-equalities.rules.items
-    ++ growth_from c.parameters-parameters.result c.deref-3.result.now 0 (views c.deref-4.result.now) in
+    ++ growth_from c.parameters.result c.deref.result.now 0 (views c.deref-2.result.now) in
     let alone = ruled_alone deps c.args.legal.now c.args.bounded.now c.requires.legal c.requires.bounded in
     IfOk-weaker c.with_growth.result (λ s. s ≡ system_of n 0 es rs)
     (λ s. (before : List Row) → AreVectorsOf loops before vs → HasPosed m loops deps before s)
     (λ s e before v.
     subst (λ (t : Constraints). HasPosed m loops deps before t)
-    (sym (posed_is m loops all vs n es rs s (parts (goal.at.returns-clause-points c).After-deref-4) e))
+    (sym (posed_is m loops all vs n es rs s (parts (goal.at.returns-clause-points c).After-deref-2) e))
     (subst (λ (ds : List Dependence). HasPosed m loops ds before (posed_system m loops all vs)) alone
     (c.posed_systems_hold_the_posed_rows.ensures m loops all before vs (ruled
     (goal.at.returns-clause-points c).In_ok-equalities) v)))

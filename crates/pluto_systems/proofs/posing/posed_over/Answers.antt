@@ -16,9 +16,9 @@ parts : (c : In_ok-equalities)
     (columns_of c.args.parameters c.args.loops.now) c.in_ok-equalities.equalities.items
     (c.in_ok-equalities.rows.items ++ growth_from c.args.parameters c.args.loops.now 0 (views c.args.vectors.now))
 parts c =
-    are_posed c.args.parameters c.args.parameters c.args.loops.now c.args.loops.now c.args.loops.now c.args.ruled.now
+    are_posed c.args.parameters c.args.parameters c.args.loops.now c.args.loops.now c.args.ruled.now
     (views c.args.vectors.now) (views c.args.vectors.now) c.in_ok-equalities.equalities.items
-    c.in_ok-equalities.rows.items refl refl refl refl c.in_ok-equalities.ensures.equalities
+    c.in_ok-equalities.rows.items refl refl refl c.in_ok-equalities.ensures.equalities
     c.in_ok-equalities.ensures.rows
 
 pub with_growth-requires-clause-sized : goal.with_growth-requires-clause-sized
@@ -28,7 +28,8 @@ with_growth-requires-clause-sized c =
     let ruled = c.args.ruled.now in
     let vs = views c.args.vectors.now in
     posed_sizes m loops ruled vs (columns_of m loops) c.in_ok-equalities.equalities.items
-    (c.in_ok-equalities.rows.items ++ growth_from m loops 0 vs) (parts c)
+    (c.in_ok-equalities.rows.items ++ growth_from m loops 0 vs)
+    (parts (goal.at.with_growth-requires-clause-sized c).In_ok-equalities)
     (c.posed_systems_are_sized.ensures m loops ruled vs c.requires.between c.requires.vectors)
 
 pub returns-clause-points : goal.returns-clause-points

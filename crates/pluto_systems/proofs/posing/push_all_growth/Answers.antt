@@ -14,7 +14,7 @@ small c =
     let n = length-map c.args.vectors.now (λ (vs : Vec (Vec ℤ Global) Global). map (λ
     (v : Vec ℤ Global). v.items) vs.items) in
     let t = c.loop-s-test.true in
-    small_at c.args.loops.now (views c.args.vectors.now) c.loop-s.s
+    small_at c.args.columns.now.loops.now (views c.args.vectors.now) c.loop-s.s
     (map (λ (v : Vec ℤ Global). v.items) c.vectors_at.result.now) c.requires.vectors (omega arith) c.vectors_at.ensures
 
 pub push_growth-requires-clause-few : goal.push_growth-requires-clause-few
@@ -31,8 +31,8 @@ push_growth-requires-clause-sizes c = (small (goal.at.push_growth-requires-claus
 
 pub loop-s-preserved : goal.loop-s-preserved
 loop-s-preserved c =
-    let m = c.args.parameters in
-    let loops = c.args.loops.now in
+    let m = c.args.columns.now.parameters in
+    let loops = c.args.columns.now.loops.now in
     let vs = views c.args.vectors.now in
     let own = map (λ (v : Vec ℤ Global). v.items) c.vectors_at.result.now in
     let i = c.loop-s.s in

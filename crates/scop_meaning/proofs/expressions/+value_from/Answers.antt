@@ -1,6 +1,7 @@
 use Rattle.scop_syntax.proofs.Common.{length, ap, ◌∙◌, arith, refl, Expression, reads_of, expression_of, operator_of}
-use Rattle.scop_meaning.proofs.Chains.{chained, chained_end, chained_value, expression_read}
-use Rattle.scop_meaning.proofs.Nodes.{negation, complement, conversion, left_shift, right_shift, narrowing}
+use Rattle.scop_syntax.proofs.Nodes.{chained, complement, conversion, expression_read, left_shift, narrowing, negation}
+use Rattle.scop_syntax.proofs.Nodes.{right_shift}
+use Rattle.scop_meaning.proofs.Chains.{chained_end, chained_value}
 use Rattle.scop_meaning.proofs.expressions.+value_from.Goals as goal
 
 pub bounds-reads-at : goal.bounds-reads-at

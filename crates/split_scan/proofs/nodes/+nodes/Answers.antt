@@ -7,16 +7,17 @@ use Rattle.plain_scan.specs.Hulls.{IsAlike, sets_in}
 use Rattle.plain_scan.specs.Sets.{NumbersRise}
 use Rattle.plain_scan.specs.Pieces.{loops_of}
 use Rattle.plain_scan.proofs.CodeBounds.{take_all}
+use Rattle.plain_scan.proofs.HullNodes.{few_variables, node_end}
 use Rattle.split_scan.specs.Questions.{AreNatural, IsCut}
 use Rattle.split_scan.specs.Ordering.{AreParts}
-use Rattle.split_scan.specs.Nodes.{IsNode, IsShaped}
+use Rattle.plain_scan.specs.Nodes.{IsNode, IsShaped}
 use Rattle.split_scan.specs.Parts.{IsPart, staying}
 use Rattle.split_scan.specs.declared.part.Part.{Part}
 use Rattle.split_scan.specs.steps.Frames.{HasBodies, frame_of, inside_of, pieces_of}
 use Rattle.split_scan.proofs.PartLoops.{node_of}
 use Rattle.split_scan.proofs.OutlineCopies.{sets_count}
-use Rattle.split_scan.proofs.InnerNodes.{all_staying, bodies_next, few_variables, frame_is, natural_more, node_end}
-use Rattle.split_scan.proofs.InnerNodes.{rise_staying, shaped_alike, shaped_dims, trees_are}
+use Rattle.split_scan.proofs.InnerNodes.{all_staying, bodies_next, frame_is, natural_more, rise_staying, shaped_alike}
+use Rattle.split_scan.proofs.InnerNodes.{shaped_dims, trees_are}
 use Rattle.split_scan.proofs.nodes.+nodes.Goals as goal
 use Rattle.split_scan.proofs.nodes.+nodes.Goals.{After-deref-in-loop-part-5}
 

@@ -1,16 +1,35 @@
-use Rattle.scop_syntax.proofs.Common.{◌≡◌, ◌+◌, subst, All, arith}
+use Rattle.scop_syntax.proofs.Common.{◌≡◌, zero, ◌+◌, ◌<◌, [], length, sym, subst, All, arith}
+use Rattle.loop_tree.specs.View.{nodes_of}
 use Rattle.plain_scan.specs.Hulls.{sets_in}
-use Rattle.split_scan.specs.Nodes.{IsShaped}
-use Rattle.split_scan.proofs.InnerNodes.{shaped_of}
+use Rattle.plain_scan.specs.Nodes.{IsNode, IsShaped}
+use Rattle.plain_scan.specs.Sets.{NumbersRise}
 use Rattle.split_scan.proofs.tree.scan_outlines.Goals as goal
+
+pub nodes-requires-clause-some : goal.nodes-requires-clause-some
+nodes-requires-clause-some c = subst (λ os. 0 < length os) (sym c.deref.ensures.value) c.args.all.now.some
+
+pub nodes-requires-clause-few : goal.nodes-requires-clause-few
+nodes-requires-clause-few c = let few = c.args.all.now.few in omega (arith, few)
 
 pub nodes-requires-clause-sets : goal.nodes-requires-clause-sets
 nodes-requires-clause-sets c =
-    let p = c.args.shape.now.parameters in
-    let same : c.args.dimensions ≡ 0 + c.args.dimensions = omega arith in
-    subst (λ n. All (IsShaped n p) (sets_in c.args.outlines.now)) same
-    (shaped_of c.args.dimensions p c.args.outlines.now c.requires.dimensions c.requires.parameters
-    c.requires.iterators)
+    let all = c.args.all.now in
+    let same : all.dimensions ≡ 0 + all.dimensions = omega arith in
+    subst (λ n. All (IsShaped n all.parameters) (sets_in c.deref.result.now)) same
+    (subst (λ os. All (IsShaped all.dimensions all.parameters) (sets_in os)) (sym c.deref.ensures.value) all.sets)
+
+pub nodes-requires-clause-rise : goal.nodes-requires-clause-rise
+nodes-requires-clause-rise c = subst (λ os. NumbersRise (sets_in os)) (sym c.deref.ensures.value) c.requires
 
 pub nodes-requires-clause-natural : goal.nodes-requires-clause-natural
 nodes-requires-clause-natural c t params point range size hold k d inside = absurd (omega (arith, size, inside))
+
+pub returns : goal.returns
+returns c =
+    let all = c.args.all.now in
+    let p = all.parameters in
+    let ts = nodes_of c.in_ok-nodes.nodes.items in
+    let same : 0 + p ≡ p = omega arith in
+    subst (λ n. IsNode all.dimensions zero n all.parallel (sets_in all.outlines.items) [] ts) same
+    (subst (λ os. IsNode all.dimensions zero (0 + p) all.parallel (sets_in os) [] ts) c.deref.ensures.value
+    c.in_ok-nodes.ensures)

@@ -1,7 +1,8 @@
 use Rattle.scop_syntax.proofs.Common.{rules, ◌≡◌, ◌≤◌, ◌∙◌, ◌+◌, ℕ, List, ap, arith, length, subst, suc}
 use Rattle.tile_table.specs.Joins.{IsJoinAt}
 use Rattle.tile_core.specs.Plans.{plain_shape}
-use Rattle.tile_core.specs.Stretches.{moved, turns_on}
+use Rattle.tile_list.specs.Stretches.{turns_on}
+use Rattle.tile_core.specs.Stretches.{moved}
 use Rattle.tile_core.specs.steps.Acts.{after_instances, after_place}
 use Rattle.tile_core.proofs.Joins.{all_within}
 use Rattle.tile_core.proofs.joining.do_joins.Goals as goal

@@ -2,7 +2,7 @@ use Rattle.scop_syntax.proofs.Common.{◌≡◌, ℕ, ℤ, List, Instance}
 use Rattle.tile_table.specs.Joins.{IsJoinAt}
 use Rattle.tile_table.specs.declared.table.Row.{Row}
 use Rattle.tile_core.specs.Plans.{plain_shape}
-use Rattle.tile_core.specs.Stretches.{turns_on}
+use Rattle.tile_list.specs.Stretches.{turns_on}
 use Rattle.tile_core.specs.declared.plan.Plan.{Plan}
 use Rattle.tile_core.specs.steps.Acts.{after_instances}
 use Rattle.tile_core.specs.steps.Joins.{AreJoinedFrom}

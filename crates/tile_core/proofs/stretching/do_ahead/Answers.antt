@@ -4,7 +4,8 @@ use Rattle.tile_table.specs.Desks.{IsLaid}
 use Rattle.tile_table.proofs.Desks.{room_stays, same_room_chain}
 use Rattle.tile_table.specs.Joins.{IsJoinAt}
 use Rattle.tile_core.specs.Plans.{plain_shape}
-use Rattle.tile_core.specs.Stretches.{moved, turns_on}
+use Rattle.tile_list.specs.Stretches.{turns_on}
+use Rattle.tile_core.specs.Stretches.{moved}
 use Rattle.tile_core.specs.declared.worker.Worker.{Worker}
 use Rattle.tile_core.specs.steps.Acts.{after_instances, after_place}
 use Rattle.tile_core.specs.steps.Desks.{IsDeskAt}

@@ -2,7 +2,7 @@ use Rattle.scop_syntax.proofs.Common.{◌≡◌, ℕ, Some, take, instance_of}
 use Rattle.scop_syntax.specs.declared.instance.Instance.{Instance}
 use Rattle.tile_table.specs.Desks.{HasSameRoom, IsLaid}
 use Rattle.tile_core.specs.Plans.{plain_shape}
-use Rattle.tile_core.specs.Stretches.{turns_on}
+use Rattle.tile_list.specs.Stretches.{turns_on}
 use Rattle.tile_core.specs.declared.worker.Stage.TheVariants.{Working}
 use Rattle.tile_core.specs.steps.Acts.{after_instances}
 use Rattle.tile_core.proofs.stretching.do_ahead.Given as goal

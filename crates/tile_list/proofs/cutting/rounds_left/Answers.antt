@@ -8,8 +8,8 @@ loop-strand-preserved c =
     all_next (λ s. s.left ≡ rounds) (take b.count b.strands) c.loop-strand.strand-index c.strand-item.result
     c.strand-item.is c.loop-strand-test.true c.loop-strand.invariant c.if-strand-rounds.false
 
-pub returns : goal.returns
-returns c some =
+pub returns-clause-rounds : goal.returns-clause-rounds
+returns-clause-rounds c some =
     let b = c.args.braid.now in
     let rounds = (get_or b.strands 0 c.index-braid-0.result).left in
     let first = c.if-braid-gt0.false in

@@ -5,8 +5,8 @@ use Rattle.loop_tree.proofs.Stretches.{each_of_five, sums_front}
 use Rattle.tile_list.proofs.Stretches.{take-multiples}
 use Rattle.tile_list.proofs.keys.after.Goals as goal
 
-pub returns : goal.returns
-returns c =
+pub returns-clause-instance : goal.returns-clause-instance
+returns-clause-instance c =
     let i = c.args.before.now in
     let xs = i.turns in
     let ys = multiples (pos c.args.count) c.args.steps.now in

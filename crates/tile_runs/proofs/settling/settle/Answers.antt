@@ -3,7 +3,7 @@ use Rattle.scop_syntax.proofs.Common.{subst, sym, length-map, slice_get_within, 
 use Rattle.scop_syntax.proofs.Common.{instance, in_from_place}
 use Rattle.loop_tree.specs.SpotView.{to_come}
 use Rattle.loop_tree.specs.View.{trees_in}
-use Rattle.expansions.proofs.Firsts.{next_left, none_left}
+use Rattle.tile_table.proofs.NextPlaces.{next_left, none_left}
 use Rattle.tile_core.specs.Plans.{extents_in, places_in, program_in, walk_in}
 use Rattle.tile_runs.proofs.SettledCells.{IsSettled, all_settled, cell_within, none_settled, one_settled, visit_there}
 use Rattle.tile_runs.proofs.settling.settle.Goals as goal

@@ -2,8 +2,9 @@ use Rattle.scop_syntax.proofs.Common.{◌∙◌, ap, refl, ℕ, ◌-◌, ◌*◌
 use Rattle.scop_syntax.proofs.Common.{negated, complemented, shifted_left, shifted_right, narrowed, expression_of}
 use Rattle.scop_syntax.proofs.Common.{operator_of}
 use Rattle.scop_syntax.specs.View.{narrowing_of}
-use Rattle.scop_meaning.proofs.Chains.{chained, chained_end, expression_constant, expression_read}
-use Rattle.scop_meaning.proofs.Nodes.{negation, complement, left_shift, right_shift, narrowing}
+use Rattle.scop_syntax.proofs.Nodes.{chained, complement, expression_constant, expression_read, left_shift, narrowing}
+use Rattle.scop_syntax.proofs.Nodes.{negation, right_shift}
+use Rattle.scop_meaning.proofs.Chains.{chained_end}
 use Rattle.tile_table.specs.declared.code.Step.TheVariants.{Negated, Complemented, Binary, ShiftedLeft, ShiftedRight}
 use Rattle.tile_table.specs.declared.code.Step.TheVariants.{Narrowed}
 use Rattle.tile_table.specs.steps.Codes.{IsPut}

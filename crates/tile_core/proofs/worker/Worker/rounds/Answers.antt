@@ -1,7 +1,8 @@
 use Rattle.scop_syntax.proofs.Common.{arith, rules, ◌+◌, ◌<◌, refl, subst, sym}
 use Rattle.tile_events.specs.Sound.{Holds}
 use Rattle.tile_core.specs.Plans.{deal_of, walk_shape}
-use Rattle.tile_core.specs.Stretches.{HasRounds, IsWoven}
+use Rattle.tile_list.specs.Stretches.{HasRounds}
+use Rattle.tile_core.specs.Stretches.{IsWoven}
 use Rattle.tile_core.specs.Workers.{IsNext, staged}
 use Rattle.tile_core.proofs.Rounds.{woven_is}
 use Rattle.tile_core.proofs.worker.Worker.rounds.Goals as goal

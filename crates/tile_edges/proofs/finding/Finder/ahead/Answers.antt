@@ -1,7 +1,7 @@
 use Rattle.scop_syntax.proofs.Common.{arith, subst, sym, slice_get_within}
 use Rattle.loop_tree.specs.TilingView.{tiling_of}
 use Rattle.tile_list.specs.Tiles.{RowsFit}
-use Rattle.tile_list.specs.steps.Stretching.{instance_at}
+use Rattle.tile_list.specs.Stretches.{instance_at}
 use Rattle.tile_list.proofs.Stretches.{at_left, held_at}
 use Rattle.tile_edges.proofs.Ahead.{tile_ahead}
 use Rattle.tile_edges.proofs.finding.Finder.ahead.Goals as goal

@@ -10,7 +10,7 @@ pub is_of_strands-requires-clause-held : goal.is_of_strands-requires-clause-held
 is_of_strands-requires-clause-held c =
     let rounds = c.rounds_left-rounds.result in
     let some = c.if-rounds-eq0.false in
-    strands_held c.args.spot.now.braid rounds (c.rounds_left-rounds.ensures (omega (arith, some)))
+    strands_held c.args.spot.now.braid rounds (c.rounds_left-rounds.ensures.rounds (omega (arith, some)))
     c.requires.braid.held
 
 pub is_of_strands-requires-clause-fits : goal.is_of_strands-requires-clause-fits
@@ -18,7 +18,7 @@ is_of_strands-requires-clause-fits c =
     let rounds = c.rounds_left-rounds.result in
     let some = c.if-rounds-eq0.false in
     strands_fit (tiling_of c.args.tiling.now) c.args.spot.now.braid rounds
-    (c.rounds_left-rounds.ensures (omega (arith, some))) c.requires.fits
+    (c.rounds_left-rounds.ensures.rounds (omega (arith, some))) c.requires.fits
 
 pub returns : goal.returns
 returns c =
@@ -27,7 +27,7 @@ returns c =
     let b = c.args.spot.now.braid in
     let rounds = c.rounds_left-rounds.result in
     let some = c.if-rounds-eq0.false in
-    let has = c.rounds_left-rounds.ensures (omega (arith, some)) in
+    let has = c.rounds_left-rounds.ensures.rounds (omega (arith, some)) in
     let all : length b.strands ≡ 4 = search rules in
     let few = c.requires.braid.few in
     let taken = length-take b.count b.strands in

@@ -1,10 +1,12 @@
-use Rattle.scop_syntax.proofs.Common.{◌-◌, ◌<◌, ◌≤◌, length, ap, sym, ◌∙◌, arith, slice_get, Expression, reads_of}
-use Rattle.scop_syntax.proofs.Common.{expression_of, expression_binary}
-use Rattle.whole_numbers.proofs.Entries.{get_front}
+use Rattle.whole_numbers.proofs.Common.{◌+◌, ◌-◌, ◌++◌, ◌<◌, ◌≡◌, length, ap, sym, ◌∙◌, arith, slice_get}
+use Rattle.whole_numbers.proofs.Entries.{get_behind, get_front}
+use Rattle.scop_syntax.specs.Cells.{reads_of}
+use Rattle.scop_syntax.specs.Tree.{Expression}
+use Rattle.scop_syntax.specs.View.{expression_of}
 use Rattle.scop_syntax.specs.declared.tree.Expr.{Expr}
-use Rattle.scop_meaning.proofs.Numbering.{get_back}
-use Rattle.scop_meaning.proofs.Nodes.{negation, complement, conversion, left_shift, right_shift, narrowing}
-use Rattle.scop_meaning.proofs.accesses.+read_at.Goals as goal
+use Rattle.scop_syntax.proofs.Nodes.{complement, conversion, left_shift, narrowing, negation, right_shift}
+use Rattle.scop_syntax.proofs.Views.{expression_binary}
+use Rattle.scop_syntax.proofs.accesses.+read_at.Goals as goal
 
 pub returns-then-number-before : goal.returns-then-number-before
 returns-then-number-before t c =
@@ -29,12 +31,13 @@ returns-else-number-before t c =
     ∙ expression_binary c.in-Binary.field-0 c.in-Binary.left c.in-Binary.right in
     let left = ap (λ (x : Expr). reads_of (expression_of x)) c.deref-in-Binary.ensures in
     let count = c.count_reads-before.ensures ∙ ap length left in
-    let h : length (reads_of e) ≤ n = omega (arith, c.if-number-before.false) in
+    let on : n ≡ length (reads_of e) + (n - length (reads_of e)) = omega (arith, c.if-number-before.false) in
     let again = ap (λ (x : Expr). slice_get (reads_of (expression_of x)) (n - c.count_reads-before.result))
     c.deref-else-number-before.ensures in
     ap (λ (x : Expression). slice_get (reads_of x) n) is
-    ∙ (get_back (reads_of e) (reads_of f) n h
-    ∙ (ap (λ k. slice_get (reads_of f) (n - k)) (sym count) ∙ (sym again ∙ c.read_at-else-number-before.ensures)))
+    ∙ (ap (slice_get (reads_of e ++ reads_of f)) on
+    ∙ (get_behind (reads_of e) (reads_of f) (n - length (reads_of e))
+    ∙ (ap (λ k. slice_get (reads_of f) (n - k)) (sym count) ∙ (sym again ∙ c.read_at-else-number-before.ensures))))
 
 pub returns-in-Negated : goal.returns-in-Negated
 returns-in-Negated t c =

@@ -1,7 +1,9 @@
-use Rattle.scop_syntax.proofs.Common.{length, ap, arith, length-append, Expression, reads_of, expression_of}
-use Rattle.scop_meaning.proofs.Chains.{chained}
-use Rattle.scop_meaning.proofs.Nodes.{negation, complement, conversion, left_shift, right_shift, narrowing}
-use Rattle.scop_meaning.proofs.accesses.+count_reads.Goals as goal
+use Rattle.whole_numbers.proofs.Common.{length, ap, arith, length-append}
+use Rattle.scop_syntax.specs.Cells.{reads_of}
+use Rattle.scop_syntax.specs.Tree.{Expression}
+use Rattle.scop_syntax.specs.View.{expression_of}
+use Rattle.scop_syntax.proofs.Nodes.{chained, complement, conversion, left_shift, narrowing, negation, right_shift}
+use Rattle.scop_syntax.proofs.accesses.+count_reads.Goals as goal
 
 pub returns-in-Negated : goal.returns-in-Negated
 returns-in-Negated t c =

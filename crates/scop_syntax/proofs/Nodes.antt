@@ -1,15 +1,36 @@
--- The code's nodes of one part, which is read through a reference.
-use Rattle.scop_syntax.proofs.Common.{◌≡◌, ℕ, ap, sym, ◌∙◌, Box, Expression, negated, complemented, cast, shifted_left}
-use Rattle.scop_syntax.proofs.Common.{shifted_right, narrowed, expression_of}
-use Rattle.scop_syntax.specs.View.{expression_step, narrowing_of}
+-- The expressions that the code's nodes stand for, their parts read through references.
+use Rattle.whole_numbers.proofs.Common.{◌≡◌, ℕ, ap, ap₂, sym, ◌∙◌, Box}
+use Rattle.scop_syntax.specs.Tree.{Access, Expression, read, constant, negated, complemented, cast, binary, shifted_left}
+use Rattle.scop_syntax.specs.Tree.{shifted_right, narrowed}
+use Rattle.scop_syntax.specs.View.{expression_of, expression_step, narrowing_of, operator_of}
+use Rattle.scop_syntax.specs.declared.tree.Operator.{Operator as Code}
 use Rattle.scop_syntax.specs.declared.tree.Narrowing.{Narrowing}
 use Rattle.scop_syntax.specs.declared.tree.Expr.{Expr}
-use Rattle.scop_syntax.specs.declared.tree.Expr.TheVariants.{Negated, Complemented, Cast, ShiftedLeft, ShiftedRight}
-use Rattle.scop_syntax.specs.declared.tree.Expr.TheVariants.{rolls-Negated, rolls-Complemented, rolls-Cast}
-use Rattle.scop_syntax.specs.declared.tree.Expr.TheVariants.{Narrowed, rolls-ShiftedLeft, rolls-ShiftedRight}
-use Rattle.scop_syntax.specs.declared.tree.Expr.TheVariants.{rolls-Narrowed}
+use Rattle.scop_syntax.specs.declared.tree.Expr.TheVariants.{Binary, Cast, Complemented, Constant, Narrowed, Negated}
+use Rattle.scop_syntax.specs.declared.tree.Expr.TheVariants.{Read, ShiftedLeft, ShiftedRight, rolls-Cast}
+use Rattle.scop_syntax.specs.declared.tree.Expr.TheVariants.{rolls-Complemented, rolls-Constant, rolls-Narrowed}
+use Rattle.scop_syntax.specs.declared.tree.Expr.TheVariants.{rolls-Negated, rolls-Read, rolls-ShiftedLeft}
+use Rattle.scop_syntax.specs.declared.tree.Expr.TheVariants.{rolls-ShiftedRight}
 use Rattle.scop_syntax.specs.declared.tree.Expr.TheFolds.{fold-roll-Expr}
 use Rattle.scop_syntax.specs.declared.tree.Expr.TheOpen.{Expr-F}
+use Rattle.scop_syntax.proofs.Views.{expression_binary}
+
+-- a node of two parts stands for that of its parts
+pub chained : (whole : Expr) (op : Code) (left right : Box Expr) (l r : Expr) → whole ≡ Binary op left right
+    → l ≡ left.value → r ≡ right.value
+    → expression_of whole ≡ binary (operator_of op) (expression_of l) (expression_of r)
+chained whole op left right l r is first second =
+    ap expression_of is
+    ∙ (expression_binary op left right
+    ∙ ap₂ (λ (x y : Expr). binary (operator_of op) (expression_of x) (expression_of y)) (sym first) (sym second))
+
+pub expression_read : (a : Access) → expression_of (Read a) ≡ read a
+expression_read a =
+    ap expression_of (sym (rolls-Read a)) ∙ fold-roll-Expr Expression expression_step (Expr-F.Read a)
+
+pub expression_constant : (c : ℕ) → expression_of (Constant c) ≡ constant c
+expression_constant c =
+    ap expression_of (sym (rolls-Constant c)) ∙ fold-roll-Expr Expression expression_step (Expr-F.Constant c)
 
 -- a negation stands for that of its part
 pub negation : (whole part : Expr) (operand : Box Expr) → whole ≡ Negated operand → part ≡ operand.value
