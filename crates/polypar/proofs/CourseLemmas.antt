@@ -19,7 +19,7 @@ use Rattle.plan_search.specs.ReadSource.TheVariants as source
 use Rattle.plan_search.specs.Trees.{AreFlowTreesOf, AreTreesOf}
 use Rattle.polypar.specs.Expanding.{CanExpand, GoesBy, GoesIf, first_unresolved}
 use Rattle.polypar.specs.Expanding.{marks_by}
-use Rattle.polypar.specs.declared.expanding.Course.{Course}
+use Rattle.polypar.specs.declared.expansion.Course.{Course}
 use Rattle.polypar.specs.steps.Courses.{HasNoCopies, IsCourse}
 
 -- where none is the first that is not told, all are

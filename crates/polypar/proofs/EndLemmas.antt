@@ -21,7 +21,7 @@ use Rattle.polypar.specs.Runs.{IsSummaryText}
 use Rattle.polypar.specs.Deserves.{IsReadBy}
 use Rattle.polypar.specs.Promises.{AnswersCommand, AnswersFor, AnswersTold, AnswersWords, Ends, IsReadOn, ReadsKernel}
 use Rattle.polypar.specs.Answered.{NamesOf}
-use Rattle.polypar.specs.declared.run.Ending.{Ending}
+use Rattle.polypar.specs.declared.input.Ending.{Ending}
 use Rattle.polypar.proofs.AnswerLemmas.{some_input}
 use Rattle.polypar.proofs.RunLemmas.{summary_answers, untouched}
 

@@ -12,9 +12,9 @@ ghost use Rattle.polypar.specs.KernelText.{IsTextFor};
 ghost use Rattle.command_line.specs.Command.{IsSized};
 ghost use Rattle.polypar.specs.Promises.{AnswersMade, AnswersProgram, WritesTold, CutsTold};
 
-use crate::certifying::certificate_told;
-use crate::loops::loops_told;
-use crate::sources::sources_told;
+use crate::certify::certificate_told;
+use crate::deps::sources_told;
+use crate::emit::loops_told;
 use crate::told::Told;
 use command_line::KernelCommand;
 use io_ports::{Failed, Sink, write_whole};

@@ -9,29 +9,29 @@
 //! it was given is good for tiles of every size and all parameters, and each status comes from its cause alone.
 #![tactic(auto)]
 
-mod certifying;
-mod checking;
+mod call;
+mod certify;
+mod check;
 mod cut;
-mod executing;
-mod expanding;
-mod generating;
-mod in_memory;
+mod deps;
+mod emit;
+mod expansion;
+mod generate;
 mod index_check;
+mod input;
 mod kernel;
 mod laws;
-mod loops;
-mod plain;
+mod memory;
 mod run;
-mod sources;
 mod told;
 
-pub use in_memory::command_in_memory;
+pub use call::{command_by, deserved_once, plain_command, polypar};
+pub use input::LONGEST_INPUT;
 pub use laws::{
     only_plans_have_lines, printed_arrays_are_data, printed_loops_are_read_back,
     printed_loops_run_the_kernel, printed_sources_tell_last_writes,
 };
-pub use plain::{command_by, deserved_once, plain_command, polypar};
-pub use run::LONGEST_INPUT;
+pub use memory::command_in_memory;
 
 // Passed on: what goes with this crate's contracts.
 pub use plan_search::{

@@ -1,251 +1,193 @@
-//! What a command that reads an input does: the source is read to its end and cut into a kernel and its data. For `run`
-//! the data's case is run by the kernel's plan, and the final arrays are printed; for the other commands see `kernel` and
-//! `checking`.
+//! The run of a case by the plan of its kernel, and what is told of that plan on lines.
 
-ghost use Rattle.std.specs.Prelude.{◌≡◌, MatchResult, Some, option_map};
-ghost use Rattle.io_ports.specs.Writes.{Writes};
-ghost use Rattle.scop_syntax.specs.View.{program_of};
-ghost use Rattle.scop_syntax.specs.Kernel.{IsKernel};
-ghost use Rattle.scop_syntax.specs.Execution.{layout, IsInside, IsShaped};
+ghost use Rattle.std.specs.Prelude.{◌≡◌, ◌++◌, [], IfOk, if◌then◌else◌};
+ghost use Rattle.scop_syntax.specs.Execution.{IsInside, IsShaped, exec, layout};
 ghost use Rattle.scop_syntax.specs.Limits.{WithinLimits};
-ghost use Rattle.data_text.specs.ArrayText.{array_text};
-ghost use Rattle.polypar.specs.Case.{IsShort};
-ghost use Rattle.polypar.specs.Deserves.{too_long};
-ghost use Rattle.polypar.specs.Promises.{AnswersCase, AnswersData, AnswersKernel, AnswersFor, AnswersCommand};
-ghost use Rattle.polypar.specs.Told.{lines_and_arrays};
-ghost use Rattle.polypar.specs.Promises.{CutsTold, Ends, ReadsKernel, WritesTold};
-ghost use Rattle.command_line.specs.Command.{AreSized, HasSize};
-ghost use Rattle.polypar.specs.Answered.{NamesOf};
+ghost use Rattle.scop_syntax.specs.View.{program_of};
+ghost use Rattle.command_line.specs.Command.{AreSized};
+ghost use Rattle.plan_search.specs.TilesText.{tiles_text};
+ghost use Rattle.polypar.specs.Expanding.{marks_by};
+ghost use Rattle.polypar.specs.Runs.{IsPlanTold, are_released, edges_line, release_line, unexpanded_line};
 
-use crate::checking::check;
-use crate::cut::cut;
-use crate::executing::run_planned;
-use crate::index_check::outside_in;
-use crate::kernel::print_asked;
-use command_line::{Command, RunOptions};
-use data_text::{Case, DataStop, read_data, write_arrays};
-use io_ports::{Failed, ReadError, Sink, Source, read_to_end, write_whole};
-use plan_search::{Refusal, RefusalKind, Status};
-use scop_parser::reader::{ReadKernelError, read_kernel};
-use scop_syntax::failure_laws::failures_are_the_first;
-use scop_syntax::limit_laws::accesses_have_the_ranks_of_arrays;
+use crate::expansion::{Course, course_of};
+use command_line::{RunOptions, Sync};
+use data_text::Case;
+use plan_search::{
+    UnexpandedLine, edges_text, tiles_text, unexpanded_text, waves_edges_text, waves_reduce_text,
+};
+use scop_syntax::marking::marked_arrays;
+use scop_syntax::reduction_laws::marks_are_the_reduced_arrays;
 use scop_syntax::tree::Kernel;
-use std::alloc::Global;
-use tile_runs::Workers;
+use std::alloc::{AllocError, Global};
+use tile_runs::{Counts, Workers, run_case};
 
-/// The longest input that is read, in bytes.
-pub const LONGEST_INPUT: usize = 1 << 27;
-
-/// How a run ended, and the kernel that it read: the line of the status has its names.
+/// What a run leaves to tell: the lines of its plan, and how many tiles and waves that has, and how many pairs of tiles.
 #[derive(Drop)]
-pub(crate) struct Ending {
-    pub(crate) status: Status,
-    pub(crate) kernel: Option<Kernel>,
+pub(crate) struct Ran {
+    pub(crate) lines: Vec<u8>,
+    pub(crate) counts: Counts,
 }
 
-impl Ending {
-    /// The end of a run that read no kernel.
-    pub(crate) fn of(status: Status) -> Ending
-        ensures { result ≡ record { status = status; kernel = None } }
-    {
-        Ending {
-            status,
-            kernel: None,
-        }
+/// The arrays that are marked: where sums may be made in any order, those that the kernel's statements only add to.
+fn marks_by(alloc: Global, kernel: &Kernel, options: RunOptions) -> Result<Vec<usize>, AllocError>
+    ensures { IfOk result (λ v. v.items ≡ marks_by options (program_of kernel.now)) }
+{
+    if options.reduce {
+        return marked_arrays(alloc, kernel);
+    }
+    Ok(Vec::new(alloc))
+}
+
+/// Whether tiles begin when those that they wait for have released them: where it is asked for, and no array is marked.
+fn are_released(sync: Sync, unmarked: bool) -> bool
+    ensures { result ≡ are_released sync unmarked }
+{
+    match sync {
+        Sync::Waves => false,
+        Sync::Tiles => unmarked,
     }
 }
 
-/// Reads the source to its end, and prints what the command asks for.
-pub(crate) fn run<W: Workers, S: Source, O: Sink, E: Sink>(
-    by: &W,
+/// The first line: why no instance has a copy of its own, where that was asked for.
+fn unexpanded_line(alloc: Global, line: Option<UnexpandedLine>) -> Result<Vec<u8>, AllocError>
+    ensures { IfOk result (λ text. text.items ≡ unexpanded_line line) }
+{
+    match line {
+        Some(line) => unexpanded_text(alloc, line),
+        None => Ok(Vec::new(alloc)),
+    }
+}
+
+/// The next line: that tiles begin by waves, where it was asked for otherwise.
+fn release_line(
     alloc: Global,
-    command: Command,
-    source: &mut S,
-    out: &mut O,
-    err: &mut E,
-) -> Ending
-    requires ready { W.ready by.now }
-    requires size { HasSize command }
-    requires reads { ReadsKernel command }
-    ensures { Ends (AnswersCommand command result.status (S.shows source.old) (S.shows source.new)
-        (O.shows out.old) (O.shows out.new) (E.shows err.old) (E.shows err.new))
-        result.status (option_map program_of result.kernel) (S.shows source.old) (S.shows source.new) }
+    sync: Sync,
+    unmarked: bool,
+    edges: Option<u64>,
+) -> Result<Vec<u8>, AllocError>
+    ensures { IfOk result (λ text. text.items ≡ release_line sync unmarked edges) }
 {
-    match read_to_end(alloc, source, LONGEST_INPUT) {
-        Ok(input) => run_input(by, alloc, command, &input, out, err),
-        Err(ReadError::Failed) => Ending::of(Status::ReadFault),
-        Err(ReadError::TooLong) => Ending::of(too_long()),
-        Err(ReadError::NoMemory) => Ending::of(Status::NoMemory),
+    match (sync, unmarked, edges) {
+        (Sync::Tiles, false, _) => waves_reduce_text(alloc),
+        (Sync::Tiles, true, None) => waves_edges_text(alloc),
+        _ => Ok(Vec::new(alloc)),
     }
 }
 
-/// The refusal of an input that is too long, which stands at its first byte.
-fn too_long() -> Status
-    ensures { result ≡ too_long }
+/// The last line of a report: how many pairs of tiles there are, where they were counted.
+fn edges_line(alloc: Global, edges: Option<u64>) -> Result<Vec<u8>, AllocError>
+    ensures { IfOk result (λ text. text.items ≡ edges_line edges) }
 {
-    Status::Refused(Refusal {
-        kind: RefusalKind::TooLong,
-        line: 1,
-        column: 1,
+    match edges {
+        Some(edges) => edges_text(alloc, edges),
+        None => Ok(Vec::new(alloc)),
+    }
+}
+
+/// The last lines of a report: how many tiles, waves and workers there are, and how many pairs of tiles.
+fn counts_lines(alloc: Global, counts: Counts, workers: u64) -> Result<Vec<u8>, AllocError>
+    ensures { IfOk result (λ text. text.items
+        ≡ tiles_text counts.tiles counts.waves workers ++ edges_line counts.edges) }
+{
+    let mut text = tiles_text(alloc, counts.tiles, counts.waves, workers)?;
+    let last = edges_line(alloc, counts.edges)?;
+    text.extend_from_slice(&last)?;
+    Ok(text)
+}
+
+/// What is told of a run behind the line that tells why it has no copies: first that tiles begin by waves, where it was
+/// asked for otherwise, then the lines of its plan, and behind them the numbers of a report, where one is asked for.
+fn plan_lines(
+    alloc: Global,
+    lines: &[u8],
+    counts: Counts,
+    unmarked: bool,
+    options: RunOptions,
+) -> Result<Vec<u8>, AllocError>
+    ensures { IfOk result (λ text. text.items ≡ release_line options.sync unmarked counts.edges
+        ++ (lines.now ++ (if options.report
+        then tiles_text counts.tiles counts.waves options.workers ++ edges_line counts.edges
+        else []))) }
+{
+    let mut told = release_line(alloc, options.sync, unmarked, counts.edges)?;
+    told.extend_from_slice(lines)?;
+    if options.report {
+        let last = counts_lines(alloc, counts, options.workers)?;
+        told.extend_from_slice(&last)?;
+    }
+    Ok(told)
+}
+
+/// What is told of a run: why it has no copies, where they were asked for, and then the lines of its plan.
+fn run_lines(
+    alloc: Global,
+    unexpanded: Option<UnexpandedLine>,
+    lines: Vec<u8>,
+    counts: Counts,
+    unmarked: bool,
+    options: RunOptions,
+) -> Result<Ran, AllocError>
+    ensures lines { IfOk result (λ ran. ran.lines.items ≡ unexpanded_line unexpanded
+        ++ (release_line options.sync unmarked counts.edges ++ (lines.items ++ (if options.report
+        then tiles_text counts.tiles counts.waves options.workers ++ edges_line counts.edges
+        else [])))) }
+    ensures counts { IfOk result (λ ran. ran.counts ≡ counts) }
+{
+    let mut told = unexpanded_line(alloc, unexpanded)?;
+    let behind = plan_lines(alloc, &lines, counts, unmarked, options)?;
+    told.extend_from_slice(&behind)?;
+    Ok(Ran {
+        lines: told,
+        counts,
     })
 }
 
-/// Reads the kernel of an input, and goes on with what the command asks.
-fn run_input<W: Workers, O: Sink, E: Sink>(
-    by: &W,
-    alloc: Global,
-    command: Command,
-    input: &[u8],
-    out: &mut O,
-    err: &mut E,
-) -> Ending
-    requires ready { W.ready by.now }
-    requires short { IsShort input.now }
-    requires size { HasSize command }
-    requires reads { ReadsKernel command }
-    ensures answer { AnswersFor command result.status input.now (O.shows out.old) (O.shows out.new) (E.shows err.old)
-        (E.shows err.new) }
-    ensures names { NamesOf (Some input.now) result.status (option_map program_of result.kernel) }
-{
-    let parts = cut(input);
-    match read_kernel(alloc, parts.kernel) {
-        Ok(kernel) => {
-            let status = run_command(by, alloc, command, &kernel, parts.case, out, err);
-            Ending {
-                status,
-                kernel: Some(kernel),
-            }
-        }
-        Err(ReadKernelError::Refused(refusal)) => Ending::of(Status::Refused(refusal)),
-        Err(ReadKernelError::NoMemory) => Ending::of(Status::NoMemory),
-    }
-}
-
-/// Goes on with what the command asks of a kernel; `text` is what stands behind it.
-fn run_command<W: Workers, O: Sink, E: Sink>(
-    by: &W,
-    alloc: Global,
-    command: Command,
-    kernel: &Kernel,
-    text: &[u8],
-    out: &mut O,
-    err: &mut E,
-) -> Status
-    requires ready { W.ready by.now }
-    requires kernel { IsKernel (program_of kernel.now) }
-    requires size { HasSize command }
-    requires reads { ReadsKernel command }
-    ensures { AnswersKernel command result (program_of kernel.now) text.now (O.shows out.old) (O.shows out.new)
-        (E.shows err.old) (E.shows err.new) }
-{
-    match command {
-        Command::Run(options) => run_kernel(by, alloc, kernel, text, options, out, err),
-        Command::OfKernel(asked) => print_asked(alloc, kernel, asked, out, err),
-        Command::Check => check(alloc, kernel, text, out),
-        Command::Gen { .. } => unreachable!(),
-    }
-}
-
-/// Reads the data of a kernel, and goes on with the case that it says.
-fn run_kernel<W: Workers, O: Sink, E: Sink>(
-    by: &W,
-    alloc: Global,
-    kernel: &Kernel,
-    text: &[u8],
-    options: RunOptions,
-    out: &mut O,
-    err: &mut E,
-) -> Status
-    requires ready { W.ready by.now }
-    requires kernel { IsKernel (program_of kernel.now) }
-    requires options { AreSized options }
-    ensures { AnswersData options result (program_of kernel.now) text.now (O.shows out.old) (O.shows out.new)
-        (E.shows err.old) (E.shows err.new) }
-{
-    match read_data(alloc, kernel, text) {
-        Ok(mut case) => run_case(by, alloc, kernel, &mut case, options, out, err),
-        Err(DataStop::Refused(refusal)) => Status::BadData(refusal),
-        Err(DataStop::NoMemory) => Status::NoMemory,
-    }
-}
-
-/// Checks the subscripts of a case, and runs it where all lie in their extents.
-fn run_case<W: Workers, O: Sink, E: Sink>(
+/// Plans a kernel and runs a case of it, whose subscripts are all inside, by that plan.
+///
+/// # Errors
+/// `AllocError` alone.
+pub(crate) fn run_planned<W: Workers>(
     by: &W,
     alloc: Global,
     kernel: &Kernel,
     case: &mut Case,
     options: RunOptions,
-    out: &mut O,
-    err: &mut E,
-) -> Status
+) -> Result<Ran, AllocError>
     requires ready { W.ready by.now }
     requires limits { WithinLimits (program_of kernel.now) case.old.params.items }
-    requires shape { IsShaped case.old.extents case.old.arrays }
     requires extents { case.old.extents ≡ layout (program_of kernel.now) case.old.params.items }
-    requires options { AreSized options }
-    ensures { AnswersCase options result (program_of kernel.now) case.old.params.items case.old.arrays (O.shows out.old)
-        (O.shows out.new) (E.shows err.old) (E.shows err.new) }
-{
-    accesses_have_the_ranks_of_arrays();
-    failures_are_the_first();
-    match outside_in(alloc, kernel, &case.params, &case.extents) {
-        Some(outside) => Status::Outside(outside),
-        None => run_inside(by, alloc, kernel, case, options, out, err),
-    }
-}
-
-/// Runs a case whose subscripts all lie in their extents by the kernel's plan, and prints its lines and the arrays.
-fn run_inside<W: Workers, O: Sink, E: Sink>(
-    by: &W,
-    alloc: Global,
-    kernel: &Kernel,
-    case: &mut Case,
-    options: RunOptions,
-    out: &mut O,
-    err: &mut E,
-) -> Status
-    requires ready { W.ready by.now }
-    requires limits { WithinLimits (program_of kernel.now) case.old.params.items }
     requires shape { IsShaped case.old.extents case.old.arrays }
-    requires extents { case.old.extents ≡ layout (program_of kernel.now) case.old.params.items }
     requires inside { IsInside (program_of kernel.now) case.old.params.items }
     requires options { AreSized options }
-    ensures { AnswersCase options result (program_of kernel.now) case.old.params.items case.old.arrays (O.shows out.old)
-        (O.shows out.new) (E.shows err.old) (E.shows err.new) }
+    ensures arrays { IfOk result (λ _. case.new.arrays
+        ≡ exec (program_of kernel.now) case.old.params.items case.old.arrays) }
+    ensures shape { IfOk result (λ _. IsShaped case.new.extents case.new.arrays) }
+    ensures extents { IfOk result (λ _. case.new.extents ≡ case.old.extents) }
+    ensures told { IfOk result (λ ran. IsPlanTold options (program_of kernel.now) case.old.params.items
+        ran.counts.tiles ran.counts.waves ran.lines.items) }
 {
-    match run_planned(by, alloc, kernel, case, options) {
-        Ok(ran) => match print_run(kernel, case, &ran.lines, out, err) {
-            Ok(()) => Status::Done,
-            Err(Failed) => Status::WriteFault,
-        },
-        Err(_) => Status::NoMemory,
+    marks_are_the_reduced_arrays();
+    let marks = marks_by(alloc, kernel, options)?;
+    let marked = marks.as_slice();
+    let unmarked = marked.is_empty();
+    let Course {
+        plan,
+        sources,
+        unexpanded,
+    } = course_of(alloc, kernel, case, marked, options)?;
+    match run_case(
+        by,
+        alloc,
+        kernel,
+        case,
+        &plan.tree,
+        &plan.tiling,
+        plan.added(marked),
+        sources,
+        are_released(options.sync, unmarked),
+        options.workers,
+    ) {
+        Ok(counts) => Ok(run_lines(alloc, unexpanded, plan.lines, counts, unmarked, options)?),
+        Err(_) => Err(AllocError),
     }
-}
-
-/// Writes the text of a case's arrays, and flushes it.
-#[tactic(auto, using(io_ports::proofs::PutTexts::flushed))]
-fn print_arrays<O: Sink>(kernel: &Kernel, case: &Case, out: &mut O) -> Result<(), Failed>
-    ensures { Writes (O.shows out.old) (O.shows out.new) (array_text (program_of kernel.now) case.now.arrays) result }
-{
-    match write_arrays(kernel, case, out) {
-        Ok(()) => out.flush(),
-        Err(failed) => Err(failed),
-    }
-}
-
-/// Writes the lines of a run to `err`, and then the text of its arrays to `out`, which is flushed.
-fn print_run<O: Sink, E: Sink>(
-    kernel: &Kernel,
-    case: &Case,
-    lines: &[u8],
-    out: &mut O,
-    err: &mut E,
-) -> Result<(), Failed>
-    ensures { MatchResult result
-        (λ _. WritesTold (lines_and_arrays (program_of kernel.now) case.now.arrays lines.now) (O.shows out.old) (O.shows out.new) (E.shows err.old) (E.shows err.new))
-        (λ _. CutsTold (lines_and_arrays (program_of kernel.now) case.now.arrays lines.now) (O.shows out.old) (O.shows out.new) (E.shows err.old) (E.shows err.new)) }
-{
-    write_whole(err, lines)?;
-    print_arrays(kernel, case, out)
 }

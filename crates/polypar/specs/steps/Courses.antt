@@ -15,9 +15,9 @@ use Rattle.plan_search.specs.ReadSource.{ReadSource}
 use Rattle.plan_search.specs.Trees.{AreFlowTreesOf, AreTreesOf}
 use Rattle.plan_search.specs.Tiles.{CanTile}
 use Rattle.polypar.specs.Expanding.{GoesBy, IsSetAside, first_unresolved, line_of_stop, marks_by}
-use Rattle.polypar.specs.declared.expanding.Course.{Course}
-use Rattle.polypar.specs.declared.expanding.Expansion.{Expansion}
-use Rattle.polypar.specs.declared.expanding.Expansion.TheVariants as expansion
+use Rattle.polypar.specs.declared.expansion.Course.{Course}
+use Rattle.polypar.specs.declared.expansion.Expansion.{Expansion}
+use Rattle.polypar.specs.declared.expansion.Expansion.TheVariants as expansion
 
 -- the line is that of the first source that is not told; without one all are
 abbrev pub IsFirstLine : List ReadSource → Option UnexpandedLine → Type 0
