@@ -3,13 +3,13 @@
 # two-dimensional Jacobi sweep, an LU decomposition, a sweep of Gauss and Seidel over a line, a triangle, a guard,
 # strides 2 and 3, and `gen product 7 256`, in one run. Prints of each the seconds by the clock, the shortest of several
 # rounds, less those of a start on a tiny case, nanoseconds an instance, the ratios of one worker to the others and to
-# gcc, and which parts of one run are planning, listing tiles, running them and writing, by the clock of bench_runs.
+# gcc, and which parts of one run are planning, listing tiles, running them and writing, by the clock of bench_cases.
 # usage: bench/workers.sh [ROUNDS], at least 5
 set -eu
 root=$(CDPATH= cd -- "$(dirname -- "$0")/.." && pwd)
 work=$(mktemp -d)
 trap 'rm -rf "$work"' EXIT
 "$root/polypar" run <"$root/examples/copy.c" >/dev/null
-(cd "$root/crates/bench_runs" && rt run -- run <"$root/examples/copy.c" >/dev/null 2>"$work/log") || { cat "$work/log" >&2; exit 1; }
-python3 -B "$root/bench/workers.py" "$root/crates/polypar_main/out/polypar_main" "$root/crates/bench_runs/out/bench_runs" \
+(cd "$root/crates/bench_cases" && rt run -- run <"$root/examples/copy.c" >/dev/null 2>"$work/log") || { cat "$work/log" >&2; exit 1; }
+python3 -B "$root/bench/workers.py" "$root/crates/polypar_main/out/polypar_main" "$root/crates/bench_cases/out/bench_cases" \
   "$root" "$work" "$@"

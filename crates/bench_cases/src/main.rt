@@ -1,13 +1,16 @@
-//! Repeats what the benches time, and prints what it leaves: the program of `bench/forms.sh` and `bench/farkas.sh`.
+//! What the benches time: the program of `bench/forms.sh`, `bench/farkas.sh` and `bench/workers.sh`.
 //!
-//! `bench_cases CASE ROUNDS` does a case so many times. `multiply_add`, `multiply_add_wide`, `value_at` and
+//! `bench_cases CASE ROUNDS` does a case so many times and prints what it leaves. `multiply_add`, `multiply_add_wide`, `value_at` and
 //! `row_operation` are the planner's innermost steps; `conflicts`, `legal` and `bounded` are the planner's calls on the
-//! kernel on standard input; `all` is each in turn.
+//! kernel on standard input; `all` is each in turn. With any other words it does what `polypar` does, and tells the time.
 #![tactic(auto)]
 
+mod clocked;
 mod rows;
 mod steps;
 
+use crate::clocked::clocked;
+use io_ports::{StdSink, StdSource};
 use std::io::Read;
 use std::process::ExitCode;
 use std::rt::Env;
@@ -46,21 +49,34 @@ fn repeat_each(rt: &HostRuntime, rounds: u64, text: &[u8]) -> io::Result<bool> {
     Ok(true)
 }
 
-/// Does what the words of the command line ask for; false where they ask for nothing known.
-fn run_words(rt: &HostRuntime) -> io::Result<bool> {
-    let words: Vec<String> = env::args(rt)?.collect(rt.alloc())?;
-    if words.len() != 3 {
-        return Ok(false);
-    }
-    let Ok(rounds) = words[2].as_str().parse::<u64>() else {
-        return Ok(false);
-    };
+/// Does a case, or every one, on standard input; false where there is no such case, or the kernel does not serve.
+fn repeat_named(rt: &HostRuntime, case: &str, rounds: u64) -> io::Result<bool> {
     let mut text = Vec::new(rt.alloc());
     let _count = rt.stdin().read_to_end(&mut text)?;
-    match words[1].as_str() {
+    match case {
         "all" => repeat_each(rt, rounds, &text),
-        case => repeat(rt, case, rounds, &text),
+        _ => repeat(rt, case, rounds, &text),
     }
+}
+
+/// Does what `polypar` does over standard input, output and error, and tells the time.
+fn run_clocked(rt: &HostRuntime, words: &[String]) -> io::Result<()> {
+    let mut source = StdSource::of(rt.stdin());
+    let mut out = StdSink::of(rt.stdout());
+    let mut err = StdSink::of(rt.stderr());
+    clocked(rt, rt.alloc(), words, &mut source, &mut out, &mut err)
+}
+
+/// Does what the words of the command line ask for: a case where they are a name and a number.
+fn run_words(rt: &HostRuntime) -> io::Result<bool> {
+    let words: Vec<String> = env::args(rt)?.collect(rt.alloc())?;
+    if words.len() == 3 {
+        if let Ok(rounds) = words[2].as_str().parse::<u64>() {
+            return repeat_named(rt, words[1].as_str(), rounds);
+        }
+    }
+    run_clocked(rt, &words)?;
+    Ok(true)
 }
 
 fn main(rt: HostRuntime) -> ExitCode {
