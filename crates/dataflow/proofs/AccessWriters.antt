@@ -2,7 +2,9 @@
 use Rattle.scop_syntax.proofs.Common.{◌≡◌, ℕ, true, ℤ, List, length, Option, Some, None, inl, inr, ◌⊎◌, ap, ap₂, subst}
 use Rattle.scop_syntax.proofs.Common.{sym, ◌∙◌, refl, slice_get, NotNegative, get_map, Program, In, Placed}
 use Rattle.scop_syntax.proofs.Common.{statements_of, Visit, walk_of, Cell, written, writes, in_from_place, place_of}
-use Rattle.scop_syntax.proofs.Common.{cell_same, same_cells}
+use Rattle.scop_syntax.proofs.Common.{cell_same, same_cells, All, Before, HasParameters, IsKernel, IsPlaced, Runs, Scope}
+use Rattle.scop_syntax.proofs.Common.{pos, ranks_of, visit_of, ◌<◌, ◌<ℤ◌, ◌≤ℤ◌, ◌^◌, ◌↔◌}
+use Rattle.scop_syntax.proofs.Common.{loops_in as loops_of_scopes}
 use Rattle.quast_trees.specs.Tree.{Tree}
 use Rattle.quast_trees.specs.Tree as tree
 use Rattle.quast_trees.specs.Leaf.{Leaf}
@@ -29,6 +31,48 @@ pub record Laws (program : Program) (params : List ℤ) : Type 0 where
   pub once : (i k : ℕ) (u v : Visit) → slice_get (walk_of program params) i ≡ Some u
       → slice_get (walk_of program params) k ≡ Some v → u.number ≡ v.number → u.turns ≡ v.turns → i ≡ k
   pub number : (k : ℕ) (p : Placed) → slice_get (statements_of program) k ≡ Some p → p.number ≡ k
+
+-- the same, from what laws say of all programs
+pub laws_of : (program : Program) (params : List ℤ) → IsKernel program → length params ≡ length program.parameters
+    → ((q : Program) (ps : List ℤ) (v : Visit) → In v (walk_of q ps)
+    → (p : Placed) × (xs : List ℤ) × In p (statements_of q) × Runs p.scopes ps xs × (v ≡ visit_of p ps xs))
+    → ((q : Program) (ps : List ℤ) (p : Placed) (xs : List ℤ) → IsKernel q → length ps ≡ length q.parameters
+    → In p (statements_of q) → Runs p.scopes ps xs → In (visit_of p ps xs) (walk_of q ps))
+    → ((scopes : List Scope) (ps xs : List ℤ) → Runs scopes ps xs → length xs ≡ loops_of_scopes scopes)
+    → ((q : Program) (k : ℕ) (p : Placed) → slice_get (statements_of q) k ≡ Some p → p.number ≡ k)
+    → ((q : Program) (p r : Placed) → In p (statements_of q) → In r (statements_of q) → p.number ≡ r.number → p ≡ r)
+    → ((q : Program) (p : Placed) → In p (statements_of q) → length p.loops ≡ loops_of_scopes p.scopes)
+    → ((q : Program) (p : Placed) → IsKernel q → In p (statements_of q)
+    → IsPlaced (ranks_of q) (length q.parameters) p)
+    → ((q : Program) (ps : List ℤ) (i k : ℕ) (v w : Visit) → slice_get (walk_of q ps) i ≡ Some v
+    → slice_get (walk_of q ps) k ≡ Some w → (i < k) ↔ Before v w)
+    → ((q : Program) (ps : List ℤ) (i k : ℕ) (v w : Visit) → slice_get (walk_of q ps) i ≡ Some v
+    → slice_get (walk_of q ps) k ≡ Some w → v.number ≡ w.number → v.turns ≡ w.turns → i ≡ k)
+    → Laws program params
+laws_of program params is count found stands turns number same loops placed order once =
+    record {
+      places = record {
+        walk = record { found = found program params; turns = turns; same = same program };
+        order = order program params;
+        loops = loops program;
+      };
+      kernel = record {
+        stands = λ p xs h runs. stands program params p xs is count h runs;
+        placed = λ p h. placed program p is h;
+      };
+      once = once program params;
+      number = number program;
+    }
+
+-- a visit's turns are small
+pub small_turns : (program : Program) (params : List ℤ) → HasParameters program params → Laws program params
+    → ((q : Program) (ps xs : List ℤ) (p : Placed) → HasParameters q ps → In p (statements_of q) → Runs p.scopes ps xs
+    → All (λ x. (pos 0 ≤ℤ x) × (x <ℤ pos (2 ^ 46))) xs)
+    → (v : Visit) → In v (walk_of program params) → All (λ x. (pos 0 ≤ℤ x) × (x <ℤ pos (2 ^ 46))) v.turns
+small_turns program params has laws small v walked =
+    let f = laws.places.walk.found v walked in
+    subst (λ (z : Visit). All (λ x. (pos 0 ≤ℤ x) × (x <ℤ pos (2 ^ 46))) z.turns) (sym f.4)
+    (small program params f.1 f.0 has f.2 f.3)
 
 -- a walk is in order
 pub walk_ordered : (program : Program) (params : List ℤ) → PlaceLaws program params → IsOrdered (walk_of program params)

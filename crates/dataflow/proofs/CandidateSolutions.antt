@@ -24,7 +24,7 @@ use Rattle.conflict_deps.specs.Parts.{HasParts}
 use Rattle.conflict_deps.proofs.Orders.{value_of-source, value_of-target}
 use Rattle.dataflow.specs.Flips.{flipped}
 use Rattle.dataflow.specs.Candidates.{IsWanted}
-use Rattle.dataflow.specs.Sources.{writer_end, reader_end, IsCandidate, IsWritePoint}
+use Rattle.dataflow.specs.Sources.{writer_end, reader_end, writer_side, reader_side, IsCandidate, IsWritePoint}
 use Rattle.dataflow.specs.Problems.{top, turned, moved, flat, own, own_rows, own_equalities_of, own_rows_of, all_below}
 use Rattle.dataflow.specs.Problems.{posed_rows, posed_context, turned_leaf, writer_turns}
 use Rattle.dataflow.proofs.Maxima.{length-turns, turns_twice, wanted_from_min}
@@ -34,16 +34,7 @@ use Rattle.dataflow.proofs.ProblemPoints.{zero_parts, up-append, up_parts, zero_
 use Rattle.dataflow.proofs.ProblemPoints.{up_unmapped, flat_up, up_flat, up_rows, rows_up, pair_point, turned-value}
 use Rattle.dataflow.proofs.ProblemPoints.{moved-value, below_up, own_is, own_rows_is}
 
--- the side of a conflict that writes, and the other
-abbrev pub writer_of : Way → Side → Side → Side
-writer_of Later s t = s
-writer_of Earlier s t = t
-
-abbrev pub reader_of : Way → Side → Side → Side
-reader_of Later s t = t
-reader_of Earlier s t = s
-
--- forms of these over the variables of the pair
+-- forms of a pair's sides over the variables of the pair
 abbrev writer_form : Way → Side → Side → Affine → Affine
 writer_form Later s t = source_form (loops_of s) (loops_of t)
 writer_form Earlier s t = target_form (loops_of s)
@@ -54,19 +45,19 @@ reader_form Earlier s t = source_form (loops_of s) (loops_of t)
 
 -- the parts of a conflict's system: what the writer's domain gives, the reader's, and what belongs to the pair
 abbrev WE : Way → Side → Side → List Affine
-WE way s t = map (writer_form way s t) (writer_of way s t).statement.domain.equalities
+WE way s t = map (writer_form way s t) (writer_side way s t).statement.domain.equalities
 
 abbrev RE : Way → Side → Side → List Affine
-RE way s t = map (reader_form way s t) (reader_of way s t).statement.domain.equalities
+RE way s t = map (reader_form way s t) (reader_side way s t).statement.domain.equalities
 
 abbrev PE : Side → Side → After → List Affine
 PE s t a = equalities_in (cell_rows s t) ++ equalities_in a.rows
 
 abbrev WR : Way → Side → Side → List Affine
-WR way s t = map (writer_form way s t) (writer_of way s t).statement.domain.rows
+WR way s t = map (writer_form way s t) (writer_side way s t).statement.domain.rows
 
 abbrev RR : Way → Side → Side → List Affine
-RR way s t = map (reader_form way s t) (reader_of way s t).statement.domain.rows
+RR way s t = map (reader_form way s t) (reader_side way s t).statement.domain.rows
 
 abbrev V : ℕ → Side → Side → List Affine
 V m s t = variables (pair_size m s t) (loops_of s + loops_of t) m
@@ -164,7 +155,7 @@ hold_parts Earlier program dep p x h =
 
 -- a system's forms but those of the reader's domain
 own_equalities : (way : Way) (program : Program) (dep : Dependence) (p : HasParts (model_of program) dep)
-    → own_equalities_of way (writer_of way p.from p.to).statement (reader_of way p.from p.to).statement dep
+    → own_equalities_of way (writer_side way p.from p.to).statement (reader_side way p.from p.to).statement dep
     ≡ WE way p.from p.to ++ PE p.from p.to p.order
 own_equalities Later program dep p =
     let s = p.from in
@@ -184,7 +175,7 @@ own_equalities Earlier program dep p =
 
 own_rows_are : (way : Way) (program : Program) (dep : Dependence) (p : HasParts (model_of program) dep) (m : ℕ)
     → m ≡ length program.parameters
-    → own_rows_of way (writer_of way p.from p.to).statement (reader_of way p.from p.to).statement m dep
+    → own_rows_of way (writer_side way p.from p.to).statement (reader_side way p.from p.to).statement m dep
     ≡ WR way p.from p.to ++ rows_in p.order.rows
 own_rows_are Later program dep p m count =
     let s = p.from in
@@ -213,13 +204,13 @@ own_rows_are Earlier program dep p m count =
 -- the rows of the problem by the parts
 posed_is : (way : Way) (program : Program) (dep : Dependence) (p : HasParts (model_of program) dep) (m : ℕ)
     → m ≡ length program.parameters
-    → posed_rows way (writer_of way p.from p.to).statement (reader_of way p.from p.to).statement m dep
-    ≡ flat (map (turned way (loops_of (writer_of way p.from p.to)) m (loops_of (reader_of way p.from p.to)))
+    → posed_rows way (writer_side way p.from p.to).statement (reader_side way p.from p.to).statement m dep
+    ≡ flat (map (turned way (loops_of (writer_side way p.from p.to)) m (loops_of (reader_side way p.from p.to)))
     (WE way p.from p.to ++ PE p.from p.to p.order))
-    ++ map (turned way (loops_of (writer_of way p.from p.to)) m (loops_of (reader_of way p.from p.to)))
+    ++ map (turned way (loops_of (writer_side way p.from p.to)) m (loops_of (reader_side way p.from p.to)))
     (WR way p.from p.to ++ rows_in p.order.rows)
 posed_is way program dep p m count =
-    let h = turned way (loops_of (writer_of way p.from p.to)) m (loops_of (reader_of way p.from p.to)) in
+    let h = turned way (loops_of (writer_side way p.from p.to)) m (loops_of (reader_side way p.from p.to)) in
     ap₂ (λ (xs ys : List Affine). flat (map h xs) ++ map h ys) (own_equalities way program dep p)
     (own_rows_are way program dep p m count)
 
@@ -230,8 +221,8 @@ pub record Reads (params ys : List ℤ) (t : Modelled) : Type 0 where
   pub up : NotNegative params
 
 -- what a form of the reader's domain is worth at a point of the pair, and where the parameters stand there
-reader_value : (way : Way) (s t : Side) (xs ys params : List ℤ) (f : Affine) → length xs ≡ loops_of (writer_of way s t)
-    → length ys ≡ loops_of (reader_of way s t)
+reader_value : (way : Way) (s t : Side) (xs ys params : List ℤ) (f : Affine) → length xs ≡ loops_of (writer_side way s t)
+    → length ys ≡ loops_of (reader_side way s t)
     → value_of (reader_form way s t f) (pair_point way xs ys params) ≡ value_of f (ys ++ params)
 reader_value Later s t xs ys params f h k = value_of-target (loops_of s) f xs (ys ++ params) h
 reader_value Earlier s t xs ys params f h k = value_of-source (loops_of s) (loops_of t) f ys xs params k h
@@ -248,8 +239,8 @@ parameters_at us vs params k e =
       omega arith,
     )
 
-parameters_in : (way : Way) (s t : Side) (xs ys params : List ℤ) → length xs ≡ loops_of (writer_of way s t)
-    → length ys ≡ loops_of (reader_of way s t)
+parameters_in : (way : Way) (s t : Side) (xs ys params : List ℤ) → length xs ≡ loops_of (writer_side way s t)
+    → length ys ≡ loops_of (reader_side way s t)
     → GoesOn (pair_point way xs ys params) (loops_of s + loops_of t) params
     × (loops_of s + loops_of t + length params ≡ length (pair_point way xs ys params))
 parameters_in Later s t xs ys params h k =
@@ -260,9 +251,9 @@ parameters_in Earlier s t xs ys params h k =
 -- a point of the problem, turned back, is one of the system
 pub turned_back : (way : Way) (program : Program) (params ys : List ℤ) (dep : Dependence)
     (p : HasParts (model_of program) dep)
-    → length params ≡ length program.parameters → Reads params ys (reader_of way p.from p.to).statement
-    → (xs : List ℤ) → IsProblemPoint (problem_of (loops_of (writer_of way p.from p.to))
-    (posed_rows way (writer_of way p.from p.to).statement (reader_of way p.from p.to).statement (length params) dep))
+    → length params ≡ length program.parameters → Reads params ys (reader_side way p.from p.to).statement
+    → (xs : List ℤ) → IsProblemPoint (problem_of (loops_of (writer_side way p.from p.to))
+    (posed_rows way (writer_side way p.from p.to).statement (reader_side way p.from p.to).statement (length params) dep))
     (params ++ ys) xs
     → Satisfies dep.system (pair_point way (writer_turns way xs) ys params)
 turned_back way program params ys dep p count reads xs point =
@@ -270,8 +261,8 @@ turned_back way program params ys dep p count reads xs point =
     let t = p.to in
     let m = length params in
     let M = length program.parameters in
-    let writer = writer_of way s t in
-    let reader = reader_of way s t in
+    let writer = writer_side way s t in
+    let reader = reader_side way s t in
     let h = turned way (loops_of writer) m (loops_of reader) in
     let zs = writer_turns way xs in
     let x = pair_point way zs ys params in
@@ -309,18 +300,18 @@ turned_back way program params ys dep p count reads xs point =
 -- and a point of the system, turned, is one of the problem
 pub turned_to : (way : Way) (program : Program) (params ys : List ℤ) (dep : Dependence)
     (p : HasParts (model_of program) dep)
-    → length params ≡ length program.parameters → length ys ≡ loops_of (reader_of way p.from p.to)
-    → (xs : List ℤ) → length xs ≡ loops_of (writer_of way p.from p.to) → NotNegative (writer_turns way xs)
+    → length params ≡ length program.parameters → length ys ≡ loops_of (reader_side way p.from p.to)
+    → (xs : List ℤ) → length xs ≡ loops_of (writer_side way p.from p.to) → NotNegative (writer_turns way xs)
     → Satisfies dep.system (pair_point way xs ys params)
-    → IsProblemPoint (problem_of (loops_of (writer_of way p.from p.to))
-    (posed_rows way (writer_of way p.from p.to).statement (reader_of way p.from p.to).statement (length params) dep))
+    → IsProblemPoint (problem_of (loops_of (writer_side way p.from p.to))
+    (posed_rows way (writer_side way p.from p.to).statement (reader_side way p.from p.to).statement (length params) dep))
     (params ++ ys) (writer_turns way xs)
 turned_to way program params ys dep p count wide xs size up holds =
     let s = p.from in
     let t = p.to in
     let m = length params in
-    let writer = writer_of way s t in
-    let reader = reader_of way s t in
+    let writer = writer_side way s t in
+    let reader = reader_side way s t in
     let h = turned way (loops_of writer) m (loops_of reader) in
     let x = pair_point way xs ys params in
     let zs = writer_turns way xs in
@@ -376,15 +367,15 @@ unknowns_up Earlier xs all = up_turns xs all
 -- a point of a candidate, either way
 point_holds : (way : Way) (program : Program) (params : List ℤ) (dep : Dependence) (p : HasParts (model_of program) dep)
     (xs ys : List ℤ) → IsWritePoint way program params dep xs ys
-    → (length xs ≡ loops_of (writer_of way p.from p.to)) × Satisfies dep.system (pair_point way xs ys params)
+    → (length xs ≡ loops_of (writer_side way p.from p.to)) × Satisfies dep.system (pair_point way xs ys params)
 point_holds Later program params dep p xs ys q =
     (q.source ∙ ap (λ (d : Dependence). d.source.loops) p.is, q.holds)
 point_holds Earlier program params dep p xs ys q =
     (q.target ∙ ap (λ (d : Dependence). d.target.loops) p.is, q.holds)
 
 is_point : (way : Way) (program : Program) (params : List ℤ) (dep : Dependence) (p : HasParts (model_of program) dep)
-    (xs ys : List ℤ) → In dep (conflicts_of (model_of program)) → length xs ≡ loops_of (writer_of way p.from p.to)
-    → length ys ≡ loops_of (reader_of way p.from p.to) → Satisfies dep.system (pair_point way xs ys params)
+    (xs ys : List ℤ) → In dep (conflicts_of (model_of program)) → length xs ≡ loops_of (writer_side way p.from p.to)
+    → length ys ≡ loops_of (reader_side way p.from p.to) → Satisfies dep.system (pair_point way xs ys params)
     → IsWritePoint way program params dep xs ys
 is_point Later program params dep p xs ys among h k holds =
     record {
@@ -408,17 +399,17 @@ answer_wanted : (way : Way) (program : Program) (params : List ℤ) (j : ℕ) (w
     → ((k : ℕ) (u : Visit) → slice_get (walk_of program params) k ≡ Some u
     → All (λ x. (pos 0 ≤ℤ x) × (x <ℤ pos (2 ^ 46))) u.turns)
     → TouchesAt program params j w b c → IsCandidate way program w b dep
-    → Reads params w.turns (reader_of way p.from p.to).statement
-    → IsAnswer (problem_of (loops_of (writer_of way p.from p.to))
-    (posed_rows way (writer_of way p.from p.to).statement (reader_of way p.from p.to).statement (length params) dep))
+    → Reads params w.turns (reader_side way p.from p.to).statement
+    → IsAnswer (problem_of (loops_of (writer_side way p.from p.to))
+    (posed_rows way (writer_side way p.from p.to).statement (reader_side way p.from p.to).statement (length params) dep))
     (params ++ w.turns) l
     → IsWanted way number loops (λ xs. IsWritePoint way program params dep xs w.turns) (turned_leaf way number loops l)
 answer_wanted way program params j w b c dep p number loops l laws count small touches cand reads answer =
     by_leaf l answer
   where
     problem : Problem
-    problem = problem_of (loops_of (writer_of way p.from p.to))
-        (posed_rows way (writer_of way p.from p.to).statement (reader_of way p.from p.to).statement (length params) dep)
+    problem = problem_of (loops_of (writer_side way p.from p.to))
+        (posed_rows way (writer_side way p.from p.to).statement (reader_side way p.from p.to).statement (length params) dep)
 
     Point : List ℤ → Type 0
     Point xs = IsWritePoint way program params dep xs w.turns
@@ -440,7 +431,7 @@ answer_wanted way program params j w b c dep p number loops l laws count small t
         → IsWanted way number loops Point (turned_leaf way number loops l)
     by_leaf initial none = λ xs q. none (writer_turns way xs) (to xs q)
     by_leaf (found o x) least =
-        let m = wanted_from_min way (loops_of (writer_of way p.from p.to)) Point
+        let m = wanted_from_min way (loops_of (writer_side way p.from p.to)) Point
         (λ xs. IsProblemPoint problem (params ++ w.turns) xs) x to of (λ ys q. q.size) least.inside
         (λ ys q less. least.least ys q.size q less) in
         (refl, m.0, m.1)
@@ -473,19 +464,19 @@ pub minimum_wanted : (way : Way) (program : Program) (params : List ℤ) (j : �
     → ((k : ℕ) (u : Visit) → slice_get (walk_of program params) k ≡ Some u
     → All (λ x. (pos 0 ≤ℤ x) × (x <ℤ pos (2 ^ 46))) u.turns)
     → TouchesAt program params j w b c → IsCandidate way program w b dep
-    → (length w.turns ≡ loops_of (reader_of way p.from p.to))
-    × Satisfies (reader_of way p.from p.to).statement.domain (w.turns ++ params)
-    → ((q : List ℤ) → length q ≡ length params + loops_of (reader_of way p.from p.to) → NotNegative q
-    → NotNegative (row_values (posed_context (reader_of way p.from p.to).statement (length params)) q)
-    → IsAnswer (problem_of (loops_of (writer_of way p.from p.to)) (posed_rows way (writer_of way p.from p.to).statement
-    (reader_of way p.from p.to).statement (length params) dep)) q (value t q))
+    → (length w.turns ≡ loops_of (reader_side way p.from p.to))
+    × Satisfies (reader_side way p.from p.to).statement.domain (w.turns ++ params)
+    → ((q : List ℤ) → length q ≡ length params + loops_of (reader_side way p.from p.to) → NotNegative q
+    → NotNegative (row_values (posed_context (reader_side way p.from p.to).statement (length params)) q)
+    → IsAnswer (problem_of (loops_of (writer_side way p.from p.to)) (posed_rows way (writer_side way p.from p.to).statement
+    (reader_side way p.from p.to).statement (length params) dep)) q (value t q))
     → IsWanted way number loops (λ xs. IsWritePoint way program params dep xs w.turns)
     (turned_leaf way number loops (value t (params ++ w.turns)))
 minimum_wanted way program params j w b c dep p number loops t laws count bounds small touches cand inside least =
-    let reader = (reader_of way p.from p.to).statement in
+    let reader = (reader_side way p.from p.to).statement in
     let up = up_bounded (pos 65536) params bounds in
     let reads : Reads params w.turns reader = record { size = inside.0; holds = inside.1; up = up } in
-    let long : length (params ++ w.turns) ≡ length params + loops_of (reader_of way p.from p.to) =
+    let long : length (params ++ w.turns) ≡ length params + loops_of (reader_side way p.from p.to) =
     (let a = length-append params w.turns in let e = inside.0 in omega arith) in
     answer_wanted way program params j w b c dep p number loops
     (value t (params ++ w.turns)) laws count small touches cand reads
@@ -495,18 +486,18 @@ minimum_wanted way program params j w b c dep p number loops t laws count bounds
 -- both sides are statements of the model
 pub writer_slot : (way : Way) (program : Program) (dep : Dependence) (p : HasParts (model_of program) dep)
     → slice_get (model_of program).statements (writer_end way dep).statement
-    ≡ Some (writer_of way p.from p.to).statement
+    ≡ Some (writer_side way p.from p.to).statement
 writer_slot Later program dep p = p.source
 writer_slot Earlier program dep p = p.target
 
 pub reader_slot : (way : Way) (program : Program) (dep : Dependence) (p : HasParts (model_of program) dep)
     → slice_get (model_of program).statements (reader_end way dep).statement
-    ≡ Some (reader_of way p.from p.to).statement
+    ≡ Some (reader_side way p.from p.to).statement
 reader_slot Later program dep p = p.target
 reader_slot Earlier program dep p = p.source
 
 pub in_statements : (way : Way) (program : Program) (dep : Dependence) (p : HasParts (model_of program) dep)
-    → In (reader_of way p.from p.to).statement (model_of program).statements
+    → In (reader_side way p.from p.to).statement (model_of program).statements
 in_statements way program dep p =
-    in_from_place (model_of program).statements (reader_end way dep).statement (reader_of way p.from p.to).statement
+    in_from_place (model_of program).statements (reader_end way dep).statement (reader_side way p.from p.to).statement
     (reader_slot way program dep p)

@@ -1,14 +1,14 @@
 -- What the laws of walks, quasts and points say of covers, from the laws themselves.
-use Rattle.scop_syntax.proofs.Common.{◌≡◌, ℕ, ℤ, pos, ◌≤ℤ◌, ◌<ℤ◌, ◌^◌, List, ◌++◌, length, map, All, Some, refl}
-use Rattle.scop_syntax.proofs.Common.{slice_get, HasParameters, In, statements_of, Program, Visit, walk_of}
-use Rattle.scop_syntax.proofs.Common.{in_from_place}
+use Rattle.scop_syntax.proofs.Common.{◌≡◌, ℕ, ℤ, pos, ◌≤ℤ◌, ◌<ℤ◌, ◌^◌, List, ◌++◌, length, All, Some, refl, slice_get}
+use Rattle.scop_syntax.proofs.Common.{HasParameters, In, Placed, Program, Runs, Visit, in_from_place, statements_of}
+use Rattle.scop_syntax.proofs.Common.{walk_of}
 use Rattle.integer_sets.specs.Points.{Satisfies}
-use Rattle.iteration_domains.specs.Model.{Modelled, model_of, modelled}
+use Rattle.iteration_domains.specs.Model.{Modelled, model_of}
 use Rattle.iteration_domains.specs.Sizes.{IsKernelModel}
 use Rattle.iteration_domains.proofs.Instances.{instance_is_point}
-use Rattle.iteration_domains.proofs.TreeStatements.{model_is_one}
+use Rattle.iteration_domains.proofs.TreeStatements.{one_model}
 use Rattle.dataflow.proofs.AccessSides.{CoverLaws, PathLaws}
-use Rattle.dataflow.proofs.AccessWriters.{Laws, writer_is_point}
+use Rattle.dataflow.proofs.AccessWriters.{Laws, small_turns, writer_is_point}
 use Rattle.dataflow.proofs.CandidateSolutions.{up_bounded}
 use Rattle.dataflow.proofs.HeldCovers.{all_up}
 use Rattle.dataflow.proofs.QuastSigns.{resolved_up, turns_up}
@@ -17,13 +17,14 @@ use Rattle.dataflow.proofs.TellableSources.{loops_are, quast_over}
 
 pub cover_laws : (program : Program) (params : List ℤ) (budget : ℕ) → HasParameters program params
     → Laws program params
-    → ((v : Visit) → In v (walk_of program params) → All (λ x. (pos 0 ≤ℤ x) × (x <ℤ pos (2 ^ 46))) v.turns)
+    → ((q : Program) (ps xs : List ℤ) (p : Placed) → HasParameters q ps → In p (statements_of q) → Runs p.scopes ps xs
+    → All (λ x. (pos 0 ≤ℤ x) × (x <ℤ pos (2 ^ 46))) xs)
     → PathLaws → CoverLaws program params budget
-cover_laws program params budget has laws small paths =
-    let m = length program.parameters in
+cover_laws program params budget has laws values paths =
+    let small = small_turns program params has laws values in
     let walk = laws.places.walk in
     let one : IsKernelModel (model_of program) =
-    model_is_one program m (map (modelled m) (statements_of program)) has.kernel walk.same laws.number refl in
+    one_model program has.kernel walk.same laws.number in
     let small_at : (k : ℕ) (v : Visit) → slice_get (walk_of program params) k ≡ Some v
     → All (λ x. (pos 0 ≤ℤ x) × (x <ℤ pos (2 ^ 46))) v.turns =
     λ k v got. small v (in_from_place (walk_of program params) k v got) in

@@ -24,8 +24,8 @@ use Rattle.conflict_deps.proofs.Systems.{conflict_fits}
 use Rattle.dataflow.specs.Posed.{CanPose, IsSmall}
 use Rattle.dataflow.specs.Problems.{top, below, all_below, moved_pair, moved_variables, flat, own, own_equalities_of}
 use Rattle.dataflow.specs.Problems.{reader_begins, turned}
-use Rattle.dataflow.specs.Sources.{writer_end, reader_end}
-use Rattle.dataflow.proofs.CandidateSolutions.{writer_of, reader_of, writer_slot, reader_slot}
+use Rattle.dataflow.specs.Sources.{writer_end, reader_end, writer_side, reader_side}
+use Rattle.dataflow.proofs.CandidateSolutions.{writer_slot, reader_slot}
 use Rattle.dataflow.proofs.Lists.{equalities_put}
 use Rattle.dataflow.proofs.ResolvedWriters.{length-all_below, size-pair}
 
@@ -92,8 +92,8 @@ pose_behind program dep p is placed h =
 can_pose : (way : Way) (program : Program) (dep : Dependence) (p : HasParts (model_of program) dep) → IsKernel program
     → ((q : Placed) → In q (statements_of program) → IsPlaced (ranks_of program) (length program.parameters) q)
     → In dep (conflicts_of (model_of program))
-    → CanPose (length program.parameters) (writer_of way p.from p.to).statement
-    (reader_of way p.from p.to).statement dep
+    → CanPose (length program.parameters) (writer_side way p.from p.to).statement
+    (reader_side way p.from p.to).statement dep
 can_pose Later program dep p is placed h = pose_behind program dep p is placed h
 can_pose Earlier program dep p is placed h =
     let can = pose_behind program dep p is placed h in
@@ -277,8 +277,8 @@ ready way program model dep is e same number placed parts =
     let one = model_is_one program m (map (modelled m) (statements_of program)) is same number refl in
     let p = parts (model_of program) dep one h in
     record {
-      writer = (writer_of way p.from p.to).statement;
-      reader = (reader_of way p.from p.to).statement;
+      writer = (writer_side way p.from p.to).statement;
+      reader = (reader_side way p.from p.to).statement;
       writes = writer_slot way program dep p;
       reads = reader_slot way program dep p;
       can = can_pose way program dep p is placed h;

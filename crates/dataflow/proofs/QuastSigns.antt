@@ -28,12 +28,11 @@ use Rattle.iteration_domains.specs.Dependence.{Dependence}
 use Rattle.conflict_deps.specs.Pairs.{TouchesAt}
 use Rattle.conflict_deps.proofs.Parts.{parts_of}
 use Rattle.dataflow.specs.Problems.{all_below, posed_context, posed_rows, top}
-use Rattle.dataflow.specs.Sources.{writer_end, reader_end, IsCandidate}
+use Rattle.dataflow.specs.Sources.{writer_end, reader_end, writer_side, reader_side, IsCandidate}
 use Rattle.dataflow.specs.WriterRuns.{candidates_of, fitting, solve_between, solve_run, sourced, turned_back}
 use Rattle.dataflow.specs.WriterRuns.{posed_run, read_variables, turned_tree, turns_in, writers_run}
 use Rattle.dataflow.proofs.AccessWriters.{Laws}
-use Rattle.dataflow.proofs.CandidateSolutions.{Reads, context_up, in_statements, reader_of, reader_slot, up_bounded}
-use Rattle.dataflow.proofs.CandidateSolutions.{writer_of, writer_slot}
+use Rattle.dataflow.proofs.CandidateSolutions.{Reads, context_up, in_statements, reader_slot, up_bounded, writer_slot}
 use Rattle.dataflow.proofs.Fits.{fitting_is, named_within}
 use Rattle.dataflow.proofs.JoinedRuns.{run_keeps}
 use Rattle.dataflow.proofs.ResolvedWriters.{candidate_of, candidate_solved, context-speaks, posed-speaks}
@@ -74,8 +73,8 @@ candidate_up way program params j w access c budget dep tree model_is count boun
     let model = model_of program in
     let m = length program.parameters in
     let p = parts_of model dep model_is cand.among in
-    let s = (writer_of way p.from p.to).statement in
-    let t = (reader_of way p.from p.to).statement in
+    let s = (writer_side way p.from p.to).statement in
+    let t = (reader_side way p.from p.to).statement in
     let d = s.domain.dimensions in
     let n = m + t.domain.dimensions in
     let point = params ++ w.turns in

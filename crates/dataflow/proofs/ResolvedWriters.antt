@@ -30,7 +30,7 @@ use Rattle.dataflow.specs.Places.{Names}
 use Rattle.dataflow.specs.Runs.{or_initial}
 use Rattle.dataflow.proofs.JoinedRuns.{run_joined}
 use Rattle.dataflow.proofs.AccessWriters.{Laws, wanted_is_found}
-use Rattle.dataflow.proofs.CandidateSolutions.{writer_of, reader_of, writer_slot, reader_slot, minimum_wanted}
+use Rattle.dataflow.proofs.CandidateSolutions.{writer_slot, reader_slot, minimum_wanted}
 use Rattle.dataflow.proofs.CandidateSolutions.{in_statements, up_bounded}
 use Rattle.iteration_domains.specs.Rows.{variable, variables}
 use Rattle.iteration_domains.specs.Model.{Modelled, model_of, modelled}
@@ -40,7 +40,7 @@ use Rattle.conflict_deps.specs.Conflicts.{conflicts_of}
 use Rattle.conflict_deps.specs.Pairs.{TouchesAt}
 use Rattle.dataflow.specs.Candidates.{IsWanted}
 use Rattle.dataflow.specs.Sources.{writer_end, reader_end, wanted_writer, IsCandidate, IsSolved, IsWritePoint}
-use Rattle.dataflow.specs.Sources.{loops_in}
+use Rattle.dataflow.specs.Sources.{loops_in, writer_side, reader_side}
 use Rattle.dataflow.specs.Problems.{top, below, all_below, turned, moved_pair, moved, moved_variables, flat}
 use Rattle.dataflow.specs.Problems.{own_equalities_of, own_rows_of, posed_rows, posed_context, turned_leaf}
 use Rattle.dataflow.specs.WriterRuns.{leaves_fit, fitting, sourced, turned_back, turned_tree, solve_between, solve_run}
@@ -331,8 +331,8 @@ candidate_solved way program params j w access c budget dep tree laws model_is c
     let model = model_of program in
     let m = length program.parameters in
     let p = parts_of model dep model_is cand.among in
-    let s = (writer_of way p.from p.to).statement in
-    let t = (reader_of way p.from p.to).statement in
+    let s = (writer_side way p.from p.to).statement in
+    let t = (reader_side way p.from p.to).statement in
     let d = s.domain.dimensions in
     let n = m + t.domain.dimensions in
     let solved = solved_of way m budget dep s t tree

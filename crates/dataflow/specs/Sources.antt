@@ -12,7 +12,7 @@ use Rattle.scop_syntax.specs.Writers.{last_writer, next_writer}
 use Rattle.iteration_domains.specs.Model.{Modelled, KernelModel, model_of}
 use Rattle.iteration_domains.specs.Dependence.{Dependence}
 use Rattle.iteration_domains.specs.declared.dep.DepEnd.{DepEnd}
-use Rattle.conflict_deps.specs.Conflicts.{conflicts_of}
+use Rattle.conflict_deps.specs.Conflicts.{Side, conflicts_of}
 use Rattle.conflict_deps.specs.Pairs.{IsPoint, IsEnd}
 use Rattle.dataflow.specs.Candidates.{IsWanted}
 
@@ -25,6 +25,15 @@ writer_end Earlier dep = dep.target
 abbrev pub reader_end : Way → Dependence → DepEnd
 reader_end Later dep = dep.target
 reader_end Earlier dep = dep.source
+
+-- of the two sides of a pair that which writes, and that which is the access in question
+abbrev pub writer_side : Way → Side → Side → Side
+writer_side Later s t = s
+writer_side Earlier s t = t
+
+abbrev pub reader_side : Way → Side → Side → Side
+reader_side Later s t = t
+reader_side Earlier s t = s
 
 -- the writer of a cell that is wanted: the last before a place, or the next behind it
 abbrev pub wanted_writer : Way → List Visit → ℕ → Cell → Option ℕ

@@ -23,9 +23,7 @@ use crate::candidate::solved;
 use crate::ends::{reader_end, writer_end};
 use crate::numbers::look_at_numbers;
 use crate::source::{ReadSource, SourceStop};
-use crate::source_laws::{
-    resolved_reads_have_their_last_writer, resolved_reads_have_their_next_writer, sources_are_told,
-};
+use crate::source_laws::{resolved_reads_have_their_writers, sources_are_told};
 use affine_forms::push;
 use conflict_deps::conflicts;
 use iteration_domains::{Dep, Model, StatementModel};
@@ -210,7 +208,7 @@ pub fn last_writes(alloc: Global, model: &Model, budget: u64) -> Result<Vec<Read
     ensures last { IfOk result (λ v. NameLastWriters model.now v.items) }
     ensures told { IfOk result (λ v. AreTold model.now (reads_of model.now) v.items) }
 {
-    resolved_reads_have_their_last_writer();
+    resolved_reads_have_their_writers();
     sources_of(alloc, Way::Later, model, budget)
 }
 
@@ -224,6 +222,6 @@ pub fn next_writes(alloc: Global, model: &Model, budget: u64) -> Result<Vec<Read
     ensures next { IfOk result (λ v. NameNextWriters model.now v.items) }
     ensures told { IfOk result (λ v. AreTold model.now (reads_of model.now) v.items) }
 {
-    resolved_reads_have_their_next_writer();
+    resolved_reads_have_their_writers();
     sources_of(alloc, Way::Earlier, model, budget)
 }

@@ -8,18 +8,16 @@ ghost use Rattle.pip_solver.specs.Leaves.{IsAnswer};
 ghost use Rattle.quast_trees.specs.Tree.{Tree, initial};
 ghost use Rattle.quast_trees.specs.Value.{value};
 ghost use Rattle.quast_joins.specs.declared.way.Way.{Way};
-ghost use Rattle.quast_joins.specs.declared.way.Way.TheVariants.{Later, Earlier};
 ghost use Rattle.scop_syntax.specs.Cells.{Cell};
 ghost use Rattle.scop_syntax.specs.Kernel.{IsKernel};
 ghost use Rattle.scop_syntax.specs.Limits.{HasParameters};
 ghost use Rattle.scop_syntax.specs.Members.{In};
 ghost use Rattle.scop_syntax.specs.Tree.{Program};
 ghost use Rattle.scop_syntax.specs.Walk.{Visit, walk_of};
-ghost use Rattle.scop_syntax.specs.Writers.{last_writer, next_writer};
 ghost use Rattle.iteration_domains.specs.Dependence.{Dependence};
 ghost use Rattle.iteration_domains.specs.Model.{KernelModel, model_of};
 ghost use Rattle.conflict_deps.specs.Conflicts.{loops_of};
-ghost use Rattle.conflict_deps.specs.Pairs.{IsPoint, TouchesAt};
+ghost use Rattle.conflict_deps.specs.Pairs.{TouchesAt};
 ghost use Rattle.conflict_deps.specs.Parts.{HasParts};
 ghost use Rattle.dataflow.specs.ReadSources.{AreSources, reads_of};
 ghost use Rattle.dataflow.specs.Candidates.{joined, IsWanted};
@@ -27,7 +25,7 @@ ghost use Rattle.dataflow.specs.Flips.{flipped};
 ghost use Rattle.dataflow.specs.Places.{Names};
 ghost use Rattle.dataflow.specs.Problems.{all_below, posed_rows, posed_context, turned_leaf};
 ghost use Rattle.dataflow.specs.Posed.{IsOfKernel};
-ghost use Rattle.dataflow.specs.Sources.{IsCandidate, IsSolved};
+ghost use Rattle.dataflow.specs.Sources.{IsCandidate, IsSolved, IsWritePoint, reader_side, wanted_writer, writer_side};
 ghost use Rattle.dataflow.specs.Steps.{IsHeldSource};
 ghost use Rattle.dataflow.specs.Told.{AreTold};
 ghost use Rattle.dataflow.specs.WriterRuns.{writers_run};
@@ -39,25 +37,17 @@ use scop_syntax::walk_laws::{
     instances_are_those_of_statements, statements_are_numbered, walks_are_in_order,
 };
 
-/// The join over all candidates of an access names the last writer of its cell before it, or the next behind it, and
-/// the initial value where there is none.
+/// The join over all candidates of an access names the wanted writer of its cell, the last before it or the next behind
+/// it, and the initial value where there is none.
 pub fn joins_are_the_writers()
-    ensures last { (program : Program) (params : List ℤ) (j : ℕ) (w : Visit) (b : ℕ) (c : Cell) (n : ℕ)
+    ensures { (way : Way) (program : Program) (params : List ℤ) (j : ℕ) (w : Visit) (b : ℕ) (c : Cell) (n : ℕ)
         (point : List ℤ) (tree_of : Dependence → Tree) (deps : List Dependence) → IsKernel program
         → length params ≡ length program.parameters → NotNegative params → TouchesAt program params j w b c
-        → length point ≡ n → ((dep : Dependence) → IsCandidate Later program w b dep → In dep deps)
-        → ((dep : Dependence) → In dep deps → IsCandidate Later program w b dep)
-        → ((dep : Dependence) → In dep deps → IsSolved Later program params w n point dep (tree_of dep))
-        → Names (walk_of program params) (value (joined Later n tree_of initial deps) point)
-        (last_writer (walk_of program params) j c) }
-    ensures next { (program : Program) (params : List ℤ) (j : ℕ) (w : Visit) (b : ℕ) (c : Cell) (n : ℕ)
-        (point : List ℤ) (tree_of : Dependence → Tree) (deps : List Dependence) → IsKernel program
-        → length params ≡ length program.parameters → NotNegative params → TouchesAt program params j w b c
-        → length point ≡ n → ((dep : Dependence) → IsCandidate Earlier program w b dep → In dep deps)
-        → ((dep : Dependence) → In dep deps → IsCandidate Earlier program w b dep)
-        → ((dep : Dependence) → In dep deps → IsSolved Earlier program params w n point dep (tree_of dep))
-        → Names (walk_of program params) (value (joined Earlier n tree_of initial deps) point)
-        (next_writer (walk_of program params) j c) }
+        → length point ≡ n → ((dep : Dependence) → IsCandidate way program w b dep → In dep deps)
+        → ((dep : Dependence) → In dep deps → IsCandidate way program w b dep)
+        → ((dep : Dependence) → In dep deps → IsSolved way program params w n point dep (tree_of dep))
+        → Names (walk_of program params) (value (joined way n tree_of initial deps) point)
+        (wanted_writer way (walk_of program params) j c) }
 {
     instances_are_those_of_statements();
     statements_are_numbered();
@@ -73,19 +63,21 @@ pub fn minima_are_maxima()
     ensures twice { (top : ℤ) (xs : List ℤ) → flipped top (flipped top xs) ≡ xs }
 {}
 
-/// The minimum of a candidate's problem, turned back by x = 2^46 - x' and with the candidate's source, is the greatest
-/// writer's turns at each walked instance of the reader, or the initial value where the candidate has no writer.
-pub fn minima_are_the_last_writers()
-    ensures { (program : Program) (params : List ℤ) (j : ℕ) (w : Visit) (b : ℕ) (c : Cell) (dep : Dependence)
-        (p : HasParts (model_of program) dep) (number : ℕ) (loops : List ℕ) (t : Tree)
-        → HasParameters program params → TouchesAt program params j w b c → IsCandidate Later program w b dep
-        → p.to.statement.number ≡ w.number
-        → ((q : List ℤ) → length q ≡ length params + loops_of p.to → NotNegative q
-        → NotNegative (row_values (posed_context p.to.statement (length params)) q)
-        → IsAnswer (problem_of (loops_of p.from) (posed_rows Later p.from.statement p.to.statement (length params) dep))
-        q (value t q))
-        → IsWanted Later number loops (λ xs. IsPoint program params dep xs w.turns)
-        (turned_leaf Later number loops (value t (params ++ w.turns))) }
+/// The minimum of a candidate's problem, for a last writer turned back by x = 2^46 - x', is with the candidate's source
+/// the greatest writer's turns at each walked instance of the reader, or the least next writer's, or the initial value
+/// where the candidate has no writer.
+pub fn minima_are_the_writers()
+    ensures { (way : Way) (program : Program) (params : List ℤ) (j : ℕ) (w : Visit) (b : ℕ) (c : Cell)
+        (dep : Dependence) (p : HasParts (model_of program) dep) (number : ℕ) (loops : List ℕ) (t : Tree)
+        → HasParameters program params → TouchesAt program params j w b c → IsCandidate way program w b dep
+        → (reader_side way p.from p.to).statement.number ≡ w.number
+        → ((q : List ℤ) → length q ≡ length params + loops_of (reader_side way p.from p.to) → NotNegative q
+        → NotNegative (row_values (posed_context (reader_side way p.from p.to).statement (length params)) q)
+        → IsAnswer (problem_of (loops_of (writer_side way p.from p.to)) (posed_rows way
+        (writer_side way p.from p.to).statement (reader_side way p.from p.to).statement (length params) dep)) q
+        (value t q))
+        → IsWanted way number loops (λ xs. IsWritePoint way program params dep xs w.turns)
+        (turned_leaf way number loops (value t (params ++ w.turns))) }
 {
     instances_are_those_of_statements();
     statements_are_numbered();
@@ -94,51 +86,15 @@ pub fn minima_are_the_last_writers()
     domains_hold_the_instances();
 }
 
-/// The minimum of a candidate's problem, with the candidate's source, is the least next writer's turns at each walked
-/// instance of the reader, or the initial value where the candidate has no writer.
-pub fn minima_are_the_next_writers()
-    ensures { (program : Program) (params : List ℤ) (j : ℕ) (w : Visit) (b : ℕ) (c : Cell) (dep : Dependence)
-        (p : HasParts (model_of program) dep) (number : ℕ) (loops : List ℕ) (t : Tree)
-        → HasParameters program params → TouchesAt program params j w b c → IsCandidate Earlier program w b dep
-        → p.from.statement.number ≡ w.number
-        → ((q : List ℤ) → length q ≡ length params + loops_of p.from → NotNegative q
-        → NotNegative (row_values (posed_context p.from.statement (length params)) q)
-        → IsAnswer (problem_of (loops_of p.to) (posed_rows Earlier p.to.statement p.from.statement (length params) dep))
-        q (value t q))
-        → IsWanted Earlier number loops (λ xs. IsPoint program params dep w.turns xs)
-        (turned_leaf Earlier number loops (value t (params ++ w.turns))) }
-{
-    instances_are_those_of_statements();
-    statements_are_numbered();
-    walks_are_in_order();
-    values_lie_within_45_bits();
-    domains_hold_the_instances();
-}
-
-/// Where the run over an access's candidates ends well, its quast names at each walked instance the last writer of the
-/// cell that the access touches, and the initial value exactly where nothing wrote it before.
-pub fn resolved_reads_have_their_last_writer()
-    ensures { (program : Program) (params : List ℤ) (j : ℕ) (w : Visit) (access : ℕ) (c : Cell) (budget : ℕ) (u : Tree)
-        → HasParameters program params → TouchesAt program params j w access c
-        → writers_run Later (model_of program) budget w.number access ≡ Ok u
+/// Where the run over an access's candidates ends well, its quast names at each walked instance the wanted writer of the
+/// cell that the access touches, the last before it or the next behind it, and the initial value exactly where there is
+/// none.
+pub fn resolved_reads_have_their_writers()
+    ensures { (way : Way) (program : Program) (params : List ℤ) (j : ℕ) (w : Visit) (access : ℕ) (c : Cell)
+        (budget : ℕ) (u : Tree) → HasParameters program params → TouchesAt program params j w access c
+        → writers_run way (model_of program) budget w.number access ≡ Ok u
         → Names (walk_of program params) (value u (params ++ w.turns))
-        (last_writer (walk_of program params) j c) }
-{
-    instances_are_those_of_statements();
-    statements_are_numbered();
-    walks_are_in_order();
-    values_lie_within_45_bits();
-    domains_hold_the_instances();
-}
-
-/// Where the run over an access's candidates behind it ends well, its quast names at each walked instance the next
-/// writer of the cell that the access touches, and the initial value exactly where nothing writes it behind.
-pub fn resolved_reads_have_their_next_writer()
-    ensures { (program : Program) (params : List ℤ) (j : ℕ) (w : Visit) (access : ℕ) (c : Cell) (budget : ℕ) (u : Tree)
-        → HasParameters program params → TouchesAt program params j w access c
-        → writers_run Earlier (model_of program) budget w.number access ≡ Ok u
-        → Names (walk_of program params) (value u (params ++ w.turns))
-        (next_writer (walk_of program params) j c) }
+        (wanted_writer way (walk_of program params) j c) }
 {
     instances_are_those_of_statements();
     statements_are_numbered();

@@ -7,6 +7,7 @@ ghost use Rattle.tableau_rows.specs.Problem.{problem_of, row_values};
 ghost use Rattle.lexmin_runs.specs.Leaves.{IsAnswer};
 ghost use Rattle.quast_trees.specs.Tree.{Tree, initial};
 ghost use Rattle.quast_trees.specs.Value.{value};
+ghost use Rattle.quast_joins.specs.declared.way.Way.{Way};
 ghost use Rattle.quast_joins.specs.declared.way.Way.TheVariants.{Later, Earlier};
 ghost use Rattle.scop_syntax.specs.Cells.{Cell};
 ghost use Rattle.scop_syntax.specs.Kernel.{IsKernel};
@@ -18,35 +19,26 @@ ghost use Rattle.scop_syntax.specs.Writers.{last_writer, next_writer};
 ghost use Rattle.iteration_domains.specs.Dependence.{Dependence};
 ghost use Rattle.iteration_domains.specs.Model.{model_of};
 ghost use Rattle.conflict_deps.specs.Conflicts.{loops_of};
-ghost use Rattle.conflict_deps.specs.Pairs.{IsPoint, TouchesAt};
+ghost use Rattle.conflict_deps.specs.Pairs.{TouchesAt};
 ghost use Rattle.conflict_deps.specs.Parts.{HasParts};
 ghost use Rattle.dataflow.specs.Candidates.{IsWanted, joined};
 ghost use Rattle.dataflow.specs.Flips.{flipped};
 ghost use Rattle.dataflow.specs.Places.{Names};
 ghost use Rattle.dataflow.specs.Problems.{all_below, posed_context, posed_rows, turned_leaf};
-ghost use Rattle.dataflow.specs.Sources.{IsCandidate, IsSolved};
+ghost use Rattle.dataflow.specs.Sources.{IsCandidate, IsSolved, IsWritePoint, reader_side, wanted_writer, writer_side};
 ghost use Rattle.dataflow.specs.WriterRuns.{writers_run};
 
 use dataflow::source_laws;
 
-/// The join over all candidates names the last writer, by `last` of `joins_are_the_writers`, or the next, by `next`.
+/// The join over all candidates names the wanted writer, by the clause of `joins_are_the_writers`.
 pub fn joins_in_kernels_without_parameters()
-    ensures last { (program : Program) (j : ℕ) (w : Visit) (b : ℕ) (c : Cell) (point : List ℤ)
+    ensures { (way : Way) (program : Program) (j : ℕ) (w : Visit) (b : ℕ) (c : Cell) (point : List ℤ)
         (tree_of : Dependence → Tree) (deps : List Dependence) → IsKernel program → program.parameters ≡ []
-        → TouchesAt program [] j w b c → ((dep : Dependence) → IsCandidate Later program w b dep → In dep deps)
-        → ((dep : Dependence) → In dep deps → IsCandidate Later program w b dep)
-        → ((dep : Dependence) → In dep deps
-        → IsSolved Later program [] w (length point) point dep (tree_of dep))
-        → Names (walk_of program []) (value (joined Later (length point) tree_of initial deps) point)
-        (last_writer (walk_of program []) j c) }
-    ensures next { (program : Program) (j : ℕ) (w : Visit) (b : ℕ) (c : Cell) (point : List ℤ)
-        (tree_of : Dependence → Tree) (deps : List Dependence) → IsKernel program → program.parameters ≡ []
-        → TouchesAt program [] j w b c → ((dep : Dependence) → IsCandidate Earlier program w b dep → In dep deps)
-        → ((dep : Dependence) → In dep deps → IsCandidate Earlier program w b dep)
-        → ((dep : Dependence) → In dep deps
-        → IsSolved Earlier program [] w (length point) point dep (tree_of dep))
-        → Names (walk_of program []) (value (joined Earlier (length point) tree_of initial deps) point)
-        (next_writer (walk_of program []) j c) }
+        → TouchesAt program [] j w b c → ((dep : Dependence) → IsCandidate way program w b dep → In dep deps)
+        → ((dep : Dependence) → In dep deps → IsCandidate way program w b dep)
+        → ((dep : Dependence) → In dep deps → IsSolved way program [] w (length point) point dep (tree_of dep))
+        → Names (walk_of program []) (value (joined way (length point) tree_of initial deps) point)
+        (wanted_writer way (walk_of program []) j c) }
 {
     source_laws::joins_are_the_writers();
 }
@@ -62,52 +54,33 @@ pub fn turns_below_a_number()
     source_laws::minima_are_maxima();
 }
 
-/// A candidate's minimum is its greatest writer, by the clause of `minima_are_the_last_writers`.
+/// A candidate's minimum is its wanted writer, by the clause of `minima_are_the_writers`.
 pub fn minima_in_kernels_without_parameters()
-    ensures { (program : Program) (j : ℕ) (w : Visit) (b : ℕ) (c : Cell) (dep : Dependence)
+    ensures { (way : Way) (program : Program) (j : ℕ) (w : Visit) (b : ℕ) (c : Cell) (dep : Dependence)
         (p : HasParts (model_of program) dep) (number : ℕ) (loops : List ℕ) (t : Tree) → HasParameters program []
-        → TouchesAt program [] j w b c → IsCandidate Later program w b dep → p.to.statement.number ≡ w.number
-        → ((q : List ℤ) → length q ≡ 0 + loops_of p.to → NotNegative q
-        → NotNegative (row_values (posed_context p.to.statement 0) q)
-        → IsAnswer (problem_of (loops_of p.from) (posed_rows Later p.from.statement p.to.statement 0 dep)) q
-        (value t q))
-        → IsWanted Later number loops (λ xs. IsPoint program [] dep xs w.turns)
-        (turned_leaf Later number loops (value t w.turns)) }
+        → TouchesAt program [] j w b c → IsCandidate way program w b dep
+        → (reader_side way p.from p.to).statement.number ≡ w.number
+        → ((q : List ℤ) → length q ≡ 0 + loops_of (reader_side way p.from p.to) → NotNegative q
+        → NotNegative (row_values (posed_context (reader_side way p.from p.to).statement 0) q)
+        → IsAnswer (problem_of (loops_of (writer_side way p.from p.to)) (posed_rows way
+        (writer_side way p.from p.to).statement (reader_side way p.from p.to).statement 0 dep)) q (value t q))
+        → IsWanted way number loops (λ xs. IsWritePoint way program [] dep xs w.turns)
+        (turned_leaf way number loops (value t w.turns)) }
 {
-    source_laws::minima_are_the_last_writers();
+    source_laws::minima_are_the_writers();
 }
 
-/// Its minimum is its least next writer, by the clause of `minima_are_the_next_writers`.
-pub fn next_minima_in_kernels_without_parameters()
-    ensures { (program : Program) (j : ℕ) (w : Visit) (b : ℕ) (c : Cell) (dep : Dependence)
-        (p : HasParts (model_of program) dep) (number : ℕ) (loops : List ℕ) (t : Tree) → HasParameters program []
-        → TouchesAt program [] j w b c → IsCandidate Earlier program w b dep → p.from.statement.number ≡ w.number
-        → ((q : List ℤ) → length q ≡ 0 + loops_of p.from → NotNegative q
-        → NotNegative (row_values (posed_context p.from.statement 0) q)
-        → IsAnswer (problem_of (loops_of p.to) (posed_rows Earlier p.to.statement p.from.statement 0 dep)) q
-        (value t q))
-        → IsWanted Earlier number loops (λ xs. IsPoint program [] dep w.turns xs)
-        (turned_leaf Earlier number loops (value t w.turns)) }
-{
-    source_laws::minima_are_the_next_writers();
-}
-
-/// A read's run that ends well names the last writer, by the clause of `resolved_reads_have_their_last_writer`.
+/// A read's run that ends well names the last writer, or the next where it looks on, by the clause of
+/// `resolved_reads_have_their_writers`.
 pub fn resolved_reads_in_kernels_without_parameters()
-    ensures { (program : Program) (j : ℕ) (w : Visit) (access : ℕ) (c : Cell) (budget : ℕ) (u : Tree)
+    ensures last { (program : Program) (j : ℕ) (w : Visit) (access : ℕ) (c : Cell) (budget : ℕ) (u : Tree)
         → HasParameters program [] → TouchesAt program [] j w access c
         → writers_run Later (model_of program) budget w.number access ≡ Ok u
         → Names (walk_of program []) (value u w.turns) (last_writer (walk_of program []) j c) }
-{
-    source_laws::resolved_reads_have_their_last_writer();
-}
-
-/// It names the next writer where it looks on, by the clause of `resolved_reads_have_their_next_writer`.
-pub fn next_writers_in_kernels_without_parameters()
-    ensures { (program : Program) (j : ℕ) (w : Visit) (access : ℕ) (c : Cell) (budget : ℕ) (u : Tree)
+    ensures next { (program : Program) (j : ℕ) (w : Visit) (access : ℕ) (c : Cell) (budget : ℕ) (u : Tree)
         → HasParameters program [] → TouchesAt program [] j w access c
         → writers_run Earlier (model_of program) budget w.number access ≡ Ok u
         → Names (walk_of program []) (value u w.turns) (next_writer (walk_of program []) j c) }
 {
-    source_laws::resolved_reads_have_their_next_writer();
+    source_laws::resolved_reads_have_their_writers();
 }

@@ -1,9 +1,9 @@
-use Rattle.scop_syntax.proofs.Common.{ℕ, ℤ, pos, List, ◌≤ℤ◌, ◌<ℤ◌, ◌^◌, All, map, subst, sym, HasParameters, Program}
-use Rattle.scop_syntax.proofs.Common.{Visit}
+use Rattle.scop_syntax.proofs.Common.{ℕ, ℤ, List, map, HasParameters, Program}
 use Rattle.iteration_domains.specs.Model.{model_of}
 use Rattle.dataflow.specs.Flow.{tree_in}
 use Rattle.dataflow.specs.ReadSources.{reads_of}
 use Rattle.dataflow.proofs.AccessSides.{CoverLaws}
+use Rattle.dataflow.proofs.AccessWriters.{laws_of}
 use Rattle.dataflow.proofs.CoverFacts.{cover_laws}
 use Rattle.dataflow.proofs.HeldSources.{last_trees, sources_held}
 use Rattle.dataflow.proofs.cover_laws.flow_holds_the_sources.Goals as goal
@@ -13,33 +13,14 @@ returns c =
     let laws : (program : Program) (params : List ℤ) (budget : ℕ) → HasParameters program params
     → CoverLaws program params budget =
     λ program params budget has.
-    let found = c.instances_are_those_of_statements.ensures.found program params in
+    let walked = c.instances_are_those_of_statements.ensures in
     let numbered = c.statements_are_numbered.ensures in
+    let ordered = c.walks_are_in_order.ensures in
     let leaves = c.answers_are_live_leaves.ensures in
     cover_laws program params budget has
-    (record {
-      places = record {
-        walk = record {
-          found = found;
-          turns = c.instances_are_those_of_statements.ensures.turns;
-          same = numbered.same program;
-        };
-        order = c.walks_are_in_order.ensures.order program params;
-        loops = numbered.loops program;
-      };
-      kernel = record {
-        stands =
-            λ q ys h runs. c.instances_are_those_of_statements.ensures.stands program params q ys has.kernel has.count
-            h runs;
-        placed = λ q h. numbered.placed program q has.kernel h;
-      };
-      once = c.walks_are_in_order.ensures.once program params;
-      number = numbered.number program;
-    })
-    (λ v walked.
-    let f = found v walked in
-    subst (λ (z : Visit). All (λ x. (pos 0 ≤ℤ x) × (x <ℤ pos (2 ^ 46))) z.turns) (sym f.4)
-    (c.values_lie_within_45_bits.ensures.turns program params f.1 f.0 has f.2 f.3))
+    (laws_of program params has.kernel has.count walked.found walked.stands walked.turns numbered.number
+    numbered.same numbered.loops numbered.placed ordered.order ordered.once)
+    c.values_lie_within_45_bits.ensures.turns
     (record {
       answers = leaves.answers;
       found = leaves.found;

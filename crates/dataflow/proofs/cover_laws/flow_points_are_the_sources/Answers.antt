@@ -1,4 +1,4 @@
-use Rattle.scop_syntax.proofs.Common.{pos, ◌≤ℤ◌, ◌<ℤ◌, ◌^◌, All, subst, sym, Visit}
+use Rattle.dataflow.proofs.AccessWriters.{laws_of}
 use Rattle.dataflow.proofs.CoverFacts.{cover_laws}
 use Rattle.dataflow.proofs.FlowPoints.{flow_points}
 use Rattle.dataflow.proofs.cover_laws.flow_points_are_the_sources.Goals as goal
@@ -6,33 +6,14 @@ use Rattle.dataflow.proofs.cover_laws.flow_points_are_the_sources.Goals as goal
 pub returns : goal.returns
 returns c = λ program params budget trees x y has are.
     flow_points program params budget trees x y
-    (let found = c.instances_are_those_of_statements.ensures.found program params in
+    (let walked = c.instances_are_those_of_statements.ensures in
     let numbered = c.statements_are_numbered.ensures in
+    let ordered = c.walks_are_in_order.ensures in
     let leaves = c.answers_are_live_leaves.ensures in
     cover_laws program params budget has
-    (record {
-      places = record {
-        walk = record {
-          found = found;
-          turns = c.instances_are_those_of_statements.ensures.turns;
-          same = numbered.same program;
-        };
-        order = c.walks_are_in_order.ensures.order program params;
-        loops = numbered.loops program;
-      };
-      kernel = record {
-        stands =
-            λ q ys h runs. c.instances_are_those_of_statements.ensures.stands program params q ys has.kernel has.count
-            h runs;
-        placed = λ q h. numbered.placed program q has.kernel h;
-      };
-      once = c.walks_are_in_order.ensures.once program params;
-      number = numbered.number program;
-    })
-    (λ v walked.
-    let f = found v walked in
-    subst (λ (z : Visit). All (λ x. (pos 0 ≤ℤ x) × (x <ℤ pos (2 ^ 46))) z.turns) (sym f.4)
-    (c.values_lie_within_45_bits.ensures.turns program params f.1 f.0 has f.2 f.3))
+    (laws_of program params has.kernel has.count walked.found walked.stands walked.turns numbered.number
+    numbered.same numbered.loops numbered.placed ordered.order ordered.once)
+    c.values_lie_within_45_bits.ensures.turns
     (record {
       answers = leaves.answers;
       found = leaves.found;
