@@ -1,5 +1,5 @@
 -- How a move and a step come about: what holds of each thing that they can be, holds of what they are (`step_by`,
--- `cut_by`).
+-- `cut_by`), and what each step hands on holds of a run's tree (`tree_by`).
 use Rattle.whole_numbers.proofs.Common.{◌≡◌, ℕ, zero, suc, ◌+◌, ◌<◌, ◌≤◌, Bool, true, false, Option, Some, None, List}
 use Rattle.whole_numbers.proofs.Common.{[], ◌∷◌, ◌++◌, length, take, refl, subst, arith, Ok, if◌then◌else◌}
 use Rattle.whole_numbers.proofs.Common.{length-take-le, Affine}
@@ -10,9 +10,9 @@ use Rattle.lexmin_runs.specs.Nodes.{Node, Next, ends, goes, binds, splits, Count
 use Rattle.lexmin_runs.specs.Nodes.{part_of, all_zero, place_of, opposite_run, under_run, at_least_run, context_holds}
 use Rattle.lexmin_runs.specs.Nodes.{below_somewhere, above_somewhere, broken_somewhere, first_asked, leaf_tree, side}
 use Rattle.lexmin_runs.specs.Nodes.{split, with_rows, pivot, taken_off, bound_node, cut_bound, cut, cut_or_leaf}
-use Rattle.lexmin_runs.specs.Nodes.{pivot_or_empty, treated, looked, step}
+use Rattle.lexmin_runs.specs.Nodes.{pivot_or_empty, treated, looked, step, followed, tree_run}
 use Rattle.lexmin_runs.proofs.QuestionAnswers.{chained-ok, formed-ok, same_first}
-use Rattle.quast_trees.specs.Tree.{initial}
+use Rattle.quast_trees.specs.Tree.{Tree, initial, branch, bind}
 
 -- what is paid for
 pub paid-ok : {B : Type 0} (left : ℕ) (f : ℕ → Counted B) (y : B) (l : ℕ) → paid left f ≡ Ok (y, l)
@@ -243,3 +243,39 @@ step_by n left node next l P many cases h = by_begin node.begins h
         (λ (yes : Bool) (rest : ℕ). if yes then looked n rest node else Ok (ends initial, rest)) next l h in
         by_answer c.0 c.1 c.2 c.3
     by_begin false h = looked_by n left node next l P many cases h
+
+-- what a step from a node that is S of x hands on: its tree is P of x, or the node that it leads to is S of x, or S of
+-- some y, where a bind of a tree that is P of y is P of x, or a branch of two trees that are, as far as their nodes are S
+-- of x, P of x, is so
+abbrev pub HandsOn : (X : Type 0) → (X → Node → Type 0) → (X → Tree → Type 0) → X → Next → Type 0
+HandsOn X S P x (ends tree) = P x tree
+HandsOn X S P x (goes node) = S x node
+HandsOn X S P x (binds f d node) = (y : X) × S y node × ((t : Tree) → P y t → P x (bind f d t))
+HandsOn X S P x (splits f first second) =
+    (t u : Tree) → (S x first → P x t) → (S x second → P x u) → P x (branch f t u)
+
+-- so the tree of a run from a node that is S of x is P of x
+pub tree_by : (X : Type 0) (S : X → Node → Type 0) (P : X → Tree → Type 0) (n : ℕ)
+    → ((x : X) (left : ℕ) (node : Node) (next : Next) (l : ℕ) → S x node → step n left node ≡ Ok (next, l)
+    → HandsOn X S P x next)
+    → (k left : ℕ) (node : Node) (tree : Tree) (l : ℕ) (x : X) → S x node → tree_run n k left node ≡ Ok (tree, l)
+    → P x tree
+tree_by X S P n steps zero left node tree l x is h = absurd cc
+tree_by X S P n steps (suc k) left node tree l x is h =
+    let c = chained-ok (step n left node) (λ (next : Next) (rest : ℕ). followed (tree_run n k) next rest) tree l h in
+    by_next c.0 c.1 (steps x left node c.0 c.1 is c.2) c.3 (λ b m t e y s g. tree_by X S P n steps k b m t e y s g)
+  where
+    by_next : (next : Next) (rest : ℕ) → HandsOn X S P x next → followed (tree_run n k) next rest ≡ Ok (tree, l)
+        → ((left : ℕ) (m : Node) (t : Tree) (e : ℕ) (y : X) → S y m → tree_run n k left m ≡ Ok (t, e) → P y t)
+        → P x tree
+    by_next (ends t) rest on h more = subst (P x) (same_first t tree rest l h) on
+    by_next (goes m) rest on h more = more rest m tree l x on h
+    by_next (binds f d m) rest on h more =
+        let c = chained-ok (tree_run n k rest m) (λ (t : Tree) (end : ℕ). Ok (bind f d t, end)) tree l h in
+        subst (P x) (same_first (bind f d c.0) tree c.1 l c.3) (on.2 c.0 (more rest m c.0 c.1 on.0 on.1 c.2))
+    by_next (splits f a b) rest on h more =
+        let c = chained-ok (tree_run n k rest a)
+        (λ (t : Tree) (end : ℕ). chained (tree_run n k end b) (λ u stop. Ok (branch f t u, stop))) tree l h in
+        let d = chained-ok (tree_run n k c.1 b) (λ (u : Tree) (stop : ℕ). Ok (branch f c.0 u, stop)) tree l c.3 in
+        subst (P x) (same_first (branch f c.0 d.0) tree d.1 l d.3)
+        (on c.0 d.0 (λ s. more rest a c.0 c.1 x s c.2) (λ s. more c.1 b d.0 d.1 x s d.2))

@@ -12,24 +12,20 @@ use Rattle.tableau_rows.specs.Solutions.{IsTableau, IsTied, IsPlaced, HaveSameSo
 use Rattle.tableau_rows.proofs.Points.{sized_take, sized_at, not_negative-parts}
 use Rattle.tableau_rows.proofs.KeptSolutions.{pivot_run_keeps, cut_keeps_tableau, cut_keeps_solutions, cut_back}
 use Rattle.tableau_rows.proofs.FirstTableau.{first_tableau, first_solutions}
-use Rattle.lexmin_runs.specs.Nodes.{Node, Next, Bound, ends, goes, binds, splits, chained, longer_form}
-use Rattle.lexmin_runs.specs.Nodes.{longer_row, part_of, place_of, is_bound_as, opposite_run, under_run}
-use Rattle.lexmin_runs.specs.Nodes.{at_least_run}
-use Rattle.lexmin_runs.specs.Nodes.{side, split, with_rows, pivot, taken_off, bound_node}
-use Rattle.lexmin_runs.specs.Nodes.{cut, step, followed}
-use Rattle.lexmin_runs.specs.Nodes.{leaf_tree, tree_run, whole, first_node, lexmin_run}
+use Rattle.lexmin_runs.specs.Nodes.{Node, Next, Bound, ends, goes, binds, splits, longer_form, longer_row, part_of}
+use Rattle.lexmin_runs.specs.Nodes.{place_of, is_bound_as, opposite_run, under_run, at_least_run, side, split}
+use Rattle.lexmin_runs.specs.Nodes.{with_rows, pivot, taken_off, bound_node, cut, step, leaf_tree, tree_run, whole}
+use Rattle.lexmin_runs.specs.Nodes.{first_node, lexmin_run}
 use Rattle.lexmin_runs.specs.Solutions.{IsInContext, IsNodeSolution, AreBound, ArePlaced, IsNode, LeadsOn}
 use Rattle.lexmin_runs.specs.Solutions.{KeepsSolutions}
 use Rattle.lexmin_runs.proofs.LeafParameters.{leaf_tree-speaks, leaf_tree-forms}
-use Rattle.lexmin_runs.proofs.AddedParameters.{longer_forth, longer_back, longer_tableau, row_at-longer}
-use Rattle.lexmin_runs.proofs.AddedParameters.{values-longer, speaks-longer, speaks-append, row_values-append}
-use Rattle.lexmin_runs.proofs.QuestionAnswers.{chained-ok, same_first, opposite-value, under-value, under-size}
-use Rattle.lexmin_runs.proofs.QuestionAnswers.{at_least-value, at_least-size}
+use Rattle.lexmin_runs.proofs.AddedParameters.{longer_forth, longer_back, longer_tableau, row_at-longer, values-longer}
+use Rattle.lexmin_runs.proofs.AddedParameters.{speaks-longer, speaks-append, row_values-append}
+use Rattle.lexmin_runs.proofs.QuestionAnswers.{opposite-value, under-value, under-size, at_least-value, at_least-size}
 use Rattle.lexmin_runs.proofs.Cuts.{taken_off-value, taken_off_not_negative, taken_off_size, get_or-last}
 use Rattle.lexmin_runs.proofs.Cuts.{constant_floor, bound_floor, bound-more, tied_new}
-use Rattle.lexmin_runs.proofs.Cases.{split_by, pivot_by, CutCases, cut_by, step_by}
-use Rattle.quast_trees.specs.Tree.{LeavesHave, Tree, bind, branch}
-use Rattle.quast_trees.specs.Tree.{Speaks as TreeSpeaks}
+use Rattle.lexmin_runs.proofs.Cases.{HandsOn, tree_by, split_by, pivot_by, CutCases, cut_by, step_by}
+use Rattle.quast_trees.specs.Tree.{LeavesHave, Tree, Speaks as TreeSpeaks}
 
 -- one row more of the context
 pub in_side : (node : Node) (f : Affine) (p : List ℤ)
@@ -432,39 +428,35 @@ first_node_solutions n m fs context speaks p x = (
 abbrev Fits : ℕ → ℕ → Tree → Type 0
 Fits n m t = TreeSpeaks m t × LeavesHave n t
 
+-- a node with m parameters
+abbrev pub IsOver : ℕ → ℕ → Node → Type 0
+IsOver n m node = IsNode n node × (node.parameters ≡ m)
+
+pub step_over : (n m left : ℕ) (node : Node) (next : Next) (l : ℕ) → IsOver n m node
+    → step n left node ≡ Ok (next, l) → LeadsOn n m next
+step_over n m left node next l is h =
+    subst (λ (j : ℕ). LeadsOn n j next) is.1 (step_nodes n left node next l is.0 h)
+
 -- so does the tree of a run, of its node's parameters
 pub tree-fits : (n k left : ℕ) (node : Node) (tree : Tree) (l : ℕ) → IsNode n node
     → tree_run n k left node ≡ Ok (tree, l)
     → Fits n node.parameters tree
-tree-fits n zero left node tree l is h = cc
-tree-fits n (suc k) left node tree l is h =
-    let c = chained-ok (step n left node) (λ (next : Next) (rest : ℕ). followed (tree_run n k) next rest) tree l h in
-    by_next c.0 c.1 (step_keeps n left node c.0 c.1 is c.2).0 c.3 (λ b d t e q g. tree-fits n k b d t e q g)
+tree-fits n k left node tree l is h =
+    tree_by ℕ (IsOver n) (Fits n) n
+    (λ m left node next l is h. hands_on m next (step_over n m left node next l is h))
+    k left node tree l node.parameters (is, refl) h
   where
-    by_next : (next : Next) (rest : ℕ) → LeadsOn n node.parameters next
-        → followed (tree_run n k) next rest ≡ Ok (tree, l)
-        → ((left : ℕ) (m : Node) (t : Tree) (e : ℕ) → IsNode n m → tree_run n k left m ≡ Ok (t, e) → Fits n
-        m.parameters t)
-        → Fits n node.parameters tree
-    by_next (ends t) rest on h more = subst (Fits n node.parameters) (same_first t tree rest l h) on
-    by_next (goes m) rest on h more = subst (λ (j : ℕ). Fits n j tree) on.1 (more rest m tree l on.0 h)
-    by_next (binds f d m) rest on h more =
-        let c = chained-ok (tree_run n k rest m) (λ (t : Tree) (end : ℕ). Ok (bind f d t, end)) tree l h in
-        let body = more rest m c.0 c.1 on.0 c.2 in
-        subst (Fits n node.parameters) (same_first (bind f d c.0) tree c.1 l c.3) (
-          (on.2, on.3, subst (λ (j : ℕ). TreeSpeaks j c.0) (on.1 ∙ sym (add-one node.parameters)) body.0),
-          body.1,
-        )
-    by_next (splits f a b) rest on h more =
-        let c = chained-ok (tree_run n k rest a)
-        (λ (t : Tree) (end : ℕ). chained (tree_run n k end b) (λ u stop. Ok (branch f t u, stop))) tree l h in
-        let d = chained-ok (tree_run n k c.1 b) (λ (u : Tree) (stop : ℕ). Ok (branch f c.0 u, stop)) tree l c.3 in
-        let x = more rest a c.0 c.1 on.0 c.2 in
-        let y = more c.1 b d.0 d.1 on.1 d.2 in
-        subst (Fits n node.parameters) (same_first (branch f c.0 d.0) tree d.1 l d.3) (
-          (on.4, subst (λ (j : ℕ). TreeSpeaks j c.0) on.2 x.0, subst (λ (j : ℕ). TreeSpeaks j d.0) on.3 y.0),
-          (x.1, y.1),
-        )
+    hands_on : (m : ℕ) (next : Next) → LeadsOn n m next → HandsOn ℕ (IsOver n) (Fits n) m next
+    hands_on m (ends t) on = on
+    hands_on m (goes node) on = on
+    hands_on m (binds f d node) on = (
+      suc m,
+      (on.0, on.1),
+      λ t body. ((on.2, on.3, subst (λ (j : ℕ). TreeSpeaks j t) (sym (add-one m)) body.0), body.1),
+    )
+    hands_on m (splits f a b) on = λ t u first second.
+        let x = first (on.0, on.2) in
+        let y = second (on.1, on.3) in ((on.4, x.0, y.0), (x.1, y.1))
 
 pub lexmin-speaks : (budget n m : ℕ) (fs context : List Affine) (tree : Tree) (l : ℕ) → Speaks (n + m) fs
     → Speaks m context

@@ -1,7 +1,7 @@
 -- Without parameters no node splits or gets one more: the tree of a run is one leaf.
-use Rattle.whole_numbers.proofs.Common.{◌≡◌, ℕ, zero, suc, ◌+◌, ◌<◌, ℤ, pos, ◌<ℤ◌, true, false, List, [], ◌∷◌, ◌++◌}
-use Rattle.whole_numbers.proofs.Common.{length, take, refl, subst, ap, ◌∙◌, arith, Ok, if◌then◌else◌, ints, length-drop}
-use Rattle.whole_numbers.proofs.Common.{Affine, remainder}
+use Rattle.whole_numbers.proofs.Common.{◌≡◌, ℕ, suc, ◌+◌, ◌<◌, ℤ, pos, ◌<ℤ◌, true, false, List, [], ◌∷◌, ◌++◌, length}
+use Rattle.whole_numbers.proofs.Common.{take, refl, subst, ap, ◌∙◌, arith, Ok, if◌then◌else◌, ints, length-drop, Affine}
+use Rattle.whole_numbers.proofs.Common.{remainder}
 use Rattle.tableau_rows.specs.Rows.{Row, Sized}
 use Rattle.tableau_rows.specs.Moves.{row_at, is_below, is_positive}
 use Rattle.tableau_rows.specs.Problem.{problem_of, Speaks}
@@ -10,13 +10,13 @@ use Rattle.tableau_rows.proofs.Cuts.{remainder_in}
 use Rattle.tableau_rows.proofs.Points.{sized_take, sized_at}
 use Rattle.lexmin_runs.specs.Nodes.{Node, Next, ends, goes, binds, splits, part_of, is_zero, all_zero, all_divided}
 use Rattle.lexmin_runs.specs.Nodes.{divided, padded, leaf_tree, below_somewhere, above_somewhere, broken_somewhere}
-use Rattle.lexmin_runs.specs.Nodes.{taken_off, step, followed, tree_run, whole, first_node, lexmin_run}
+use Rattle.lexmin_runs.specs.Nodes.{taken_off, step, tree_run, whole, first_node, lexmin_run}
 use Rattle.lexmin_runs.specs.Solutions.{IsNode, LeadsOn}
 use Rattle.lexmin_runs.specs.Leaves.{IsOneLeaf}
-use Rattle.lexmin_runs.proofs.QuestionAnswers.{chained-ok, same_first}
+use Rattle.lexmin_runs.proofs.QuestionAnswers.{same_first}
 use Rattle.lexmin_runs.proofs.Cuts.{taken_off_size}
-use Rattle.lexmin_runs.proofs.Cases.{AllNo, step_by}
-use Rattle.lexmin_runs.proofs.KeptSolutions.{part_size, step_nodes, first_is_node}
+use Rattle.lexmin_runs.proofs.Cases.{AllNo, HandsOn, step_by, tree_by}
+use Rattle.lexmin_runs.proofs.KeptSolutions.{IsOver, part_size, step_over, first_is_node}
 use Rattle.quast_trees.specs.Tree.{Tree}
 
 -- no numbers
@@ -97,21 +97,18 @@ step-alone n left node next l is flat h =
 
 tree-alone : (n k left : ℕ) (node : Node) (tree : Tree) (l : ℕ) → IsNode n node → node.parameters ≡ 0
     → tree_run n k left node ≡ Ok (tree, l) → IsOneLeaf tree
-tree-alone n zero left node tree l is flat h = cc
-tree-alone n (suc k) left node tree l is flat h =
-    let c = chained-ok (step n left node) (λ (next : Next) (rest : ℕ). followed (tree_run n k) next rest) tree l h in
-    by_next c.0 c.1 (step-alone n left node c.0 c.1 is flat c.2) (step_nodes n left node c.0 c.1 is c.2) c.3
-    (λ b m t e i f g. tree-alone n k b m t e i f g)
+tree-alone n k left node tree l is flat h =
+    tree_by ℕ (IsOver n) (λ m t. m ≡ 0 → IsOneLeaf t) n
+    (λ m left node next l is h. hands_on m next (step_over n m left node next l is h)
+    (λ none. step-alone n left node next l is.0 (is.1 ∙ none) h))
+    k left node tree l node.parameters (is, refl) h flat
   where
-    by_next : (next : Next) (rest : ℕ) → StaysAlone next → LeadsOn n node.parameters next
-        → followed (tree_run n k) next rest ≡ Ok (tree, l)
-        → ((left : ℕ) (m : Node) (t : Tree) (e : ℕ) → IsNode n m → m.parameters ≡ 0
-        → tree_run n k left m ≡ Ok (t, e) → IsOneLeaf t)
-        → IsOneLeaf tree
-    by_next (ends t) rest alone on h more = subst IsOneLeaf (same_first t tree rest l h) alone
-    by_next (goes m) rest alone on h more = more rest m tree l on.0 (on.1 ∙ flat) h
-    by_next (binds f d m) rest alone on h more = absurd alone
-    by_next (splits f a b) rest alone on h more = absurd alone
+    hands_on : (m : ℕ) (next : Next) → LeadsOn n m next → (m ≡ 0 → StaysAlone next)
+        → HandsOn ℕ (IsOver n) (λ m t. m ≡ 0 → IsOneLeaf t) m next
+    hands_on m (ends t) on alone = alone
+    hands_on m (goes node) on alone = on
+    hands_on m (binds f d node) on alone = (suc m, (on.0, on.1), λ t body none. absurd (alone none))
+    hands_on m (splits f a b) on alone = λ t u first second none. absurd (alone none)
 
 pub lexmin-alone : (budget n : ℕ) (fs context : List Affine) (tree : Tree) (l : ℕ) → Speaks n fs → Speaks 0 context
     → lexmin_run budget 0 (problem_of n fs) context ≡ Ok (tree, l) → IsOneLeaf tree

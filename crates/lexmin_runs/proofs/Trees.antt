@@ -17,23 +17,20 @@ use Rattle.tableau_rows.proofs.KeptSolutions.{cut_keeps_tableau, pivot_run_keeps
 use Rattle.tableau_rows.proofs.FirstTableau.{stands_first, givens_of, length-entries_of}
 use Rattle.tableau_rows.proofs.Verdicts.{Holds, some_positive-false, holds_right}
 use Rattle.lexmin_runs.specs.Leaves.{IsAnswer}
-use Rattle.lexmin_runs.specs.Nodes.{Node, Next, ends, goes, binds, splits, chained, longer_row, part_of}
-use Rattle.lexmin_runs.specs.Nodes.{opposite_run, under_run, at_least_run, below_somewhere, broken_somewhere, leaf_tree}
-use Rattle.lexmin_runs.specs.Nodes.{side, with_rows, taken_off, bound_node, step, followed, tree_run, first_node, whole}
-use Rattle.lexmin_runs.specs.Nodes.{lexmin_run}
+use Rattle.lexmin_runs.specs.Nodes.{Node, Next, longer_row, part_of, opposite_run, under_run, at_least_run}
+use Rattle.lexmin_runs.specs.Nodes.{below_somewhere, broken_somewhere, leaf_tree, side, with_rows, taken_off}
+use Rattle.lexmin_runs.specs.Nodes.{bound_node, step, first_node, whole, lexmin_run}
 use Rattle.lexmin_runs.specs.Solutions.{IsInContext, IsNode}
 use Rattle.lexmin_runs.proofs.Verdicts.{said, verdict, answer_right}
 use Rattle.lexmin_runs.proofs.AddedParameters.{AtMost, holds_less, stands_longer, part-value, at_most-more}
 use Rattle.lexmin_runs.proofs.AddedParameters.{row_at-longer, longer_tableau}
-use Rattle.lexmin_runs.proofs.QuestionAnswers.{chained-ok, same_first, opposite-value, IsHere, context-false, not_below}
-use Rattle.lexmin_runs.proofs.QuestionAnswers.{not_above}
-use Rattle.lexmin_runs.proofs.QuestionAnswers.{not_broken}
+use Rattle.lexmin_runs.proofs.QuestionAnswers.{opposite-value, IsHere, context-false, not_below, not_above, not_broken}
 use Rattle.lexmin_runs.proofs.Leaves.{floors, leaf_tree-value}
 use Rattle.lexmin_runs.proofs.Cuts.{taken_off-value, taken_off_not_negative, constant_floor, bound_floor, tied_new}
-use Rattle.lexmin_runs.proofs.Cases.{AllNo, CutCases, step_by}
+use Rattle.lexmin_runs.proofs.Cases.{AllNo, CutCases, HandsOn, step_by, tree_by}
 use Rattle.lexmin_runs.proofs.KeptSolutions.{in_side, side_node, rows_node, place_within, in_bound, cut_new_keeps}
 use Rattle.lexmin_runs.proofs.KeptSolutions.{part_size, first_is_node}
-use Rattle.quast_trees.specs.Tree.{Tree, branch, bind}
+use Rattle.quast_trees.specs.Tree.{Tree}
 use Rattle.quast_trees.specs.Value.{by_sign, value}
 use Rattle.quast_trees.specs.Leaf.{Leaf}
 
@@ -51,11 +48,8 @@ here_of node p serves =
 
 -- what a step says at the points that the node stands for
 abbrev pub IsNext : ℕ → List (List ℤ) → List ℤ → Next → Type 0
-IsNext n givens p (ends tree) = Holds n givens p (verdict tree p)
-IsNext n givens p (goes node) = Serves n givens node p
-IsNext n givens p (binds f d node) = Serves n givens node (p ++ floor (value_of f p) d ∷ [])
-IsNext n givens p (splits f first second) =
-    (pos 0 ≤ℤ value_of f p → Serves n givens first p) × (value_of f p <ℤ pos 0 → Serves n givens second p)
+IsNext n givens p next =
+    HandsOn (List ℤ) (λ q node. Serves n givens node q) (λ q tree. Holds n givens q (verdict tree q)) p next
 
 -- where every row was answered not to be below 0
 pub settled : (n : ℕ) (givens : List (List ℤ)) (node : Node) (p : List ℤ) (rows : List Row) → IsHere node p
@@ -214,21 +208,50 @@ cut_says n givens node p i serves below =
           node.bounds k serves.is.placed found in omega arith)
           (λ ys size. bound_floor n (row_at node.rows i) p node.bounds k positive (serves.is.bound p serves.inside)
           found ys size);
-      is_new = λ some new low high run least under. cut_new n givens node p i new low high serves below run least under;
+      is_new = λ some new low high run least under.
+          let q = floor (value_of (taken_off n (row_at node.rows i)) p) (row_at node.rows i).denominator in (
+            p ++ q ∷ [],
+            cut_new n givens node p i new low high serves below run least under,
+            λ t holds. holds_less n givens p q (verdict t (p ++ q ∷ [])) serves.most holds,
+          );
     }
   where
     positive : pos 0 <ℤ (row_at node.rows i).denominator
     positive = (sized_at (n + 1 + node.parameters) node.rows i (let k = serves.is.tableau.many in omega arith)
         serves.is.tableau.sized).0
 
+by_sign_holds : (n : ℕ) (givens : List (List ℤ)) (p : List ℤ) (z : ℤ) (v w : Leaf)
+    → (pos 0 ≤ℤ z → Holds n givens p (said v)) → (z <ℤ pos 0 → Holds n givens p (said w))
+    → Holds n givens p (said (by_sign z v w))
+by_sign_holds n givens p (pos k) v w h g = h (omega (arith, ints))
+by_sign_holds n givens p (negsuc k) v w h g = g (omega (arith, ints))
+
+-- a part's sign tells which side of its split serves
+pub sides_serve : (n : ℕ) (givens : List (List ℤ)) (node : Node) (p : List ℤ) (r : ℕ) (g : Affine)
+    → Serves n givens node p → r < length node.rows → opposite_run (part_of n (row_at node.rows r)) ≡ Ok g
+    → (pos 0 ≤ℤ value_of (part_of n (row_at node.rows r)) p
+    → Serves n givens (side node (part_of n (row_at node.rows r))) p)
+    × (value_of (part_of n (row_at node.rows r)) p <ℤ pos 0 → Serves n givens (side node g) p)
+sides_serve n givens node p r g serves within run =
+    let f = part_of n (row_at node.rows r) in
+    let size = part_size n node r serves.is within in
+    let o = opposite-value f g p run in
+    let k = o.0 in (
+      λ more. serves_side n givens node p f serves size more,
+      λ less. serves_side n givens node p g serves (o.1 ∙ size) (omega (arith, ints)),
+    )
+
 -- a step says what is so at each point that its node stands for
-pub step-says : (n : ℕ) (givens : List (List ℤ)) (left : ℕ) (node : Node) (p : List ℤ) (next : Next) (l : ℕ)
+step-says : (n : ℕ) (givens : List (List ℤ)) (p : List ℤ) (left : ℕ) (node : Node) (next : Next) (l : ℕ)
     → Serves n givens node p
     → step n left node ≡ Ok (next, l) → IsNext n givens p next
-step-says n givens left node p next l serves h =
+step-says n givens p left node next l serves h =
     step_by n left node next l (IsNext n givens p) serves.stands.many (record {
       is_empty = λ left k none. absurd (context-false left node k p here none);
-      is_split = λ r within below above g run. split_says r within g run;
+      is_split = λ r within below above g run t u first second.
+          let sides = sides_serve n givens node p r g serves within run in
+          by_sign_holds n givens p (value_of (part_of n (row_at node.rows r)) p) (value t p) (value u p)
+          (λ up. first (sides.0 up)) (λ low. second (sides.1 low));
       is_pivoted = λ r within rows run. serves_rows n givens node p rows serves
           (pivot_run_keeps n node.parameters r node.rows rows serves.is.tableau within run).0
           (stands_pivot_run n givens node.rows rows p r serves.stands within run);
@@ -245,62 +268,6 @@ step-says n givens left node p next l serves h =
     here : IsHere node p
     here = here_of node p serves
 
-    split_says : (r : ℕ) → r < length node.rows → (g : Affine) → opposite_run (part_of n (row_at node.rows r)) ≡ Ok g
-        → (pos 0 ≤ℤ value_of (part_of n (row_at node.rows r)) p
-        → Serves n givens (side node (part_of n (row_at node.rows r))) p)
-        × (value_of (part_of n (row_at node.rows r)) p <ℤ pos 0 → Serves n givens (side node g) p)
-    split_says r within g run =
-        let f = part_of n (row_at node.rows r) in
-        let size = part_size n node r serves.is within in
-        let o = opposite-value f g p run in
-        let k = o.0 in (
-          λ more. serves_side n givens node p f serves size more,
-          λ less. serves_side n givens node p g serves (o.1 ∙ size) (omega (arith, ints)),
-        )
-
-pub by_sign_holds : (n : ℕ) (givens : List (List ℤ)) (p : List ℤ) (z : ℤ) (v w : Leaf)
-    → (pos 0 ≤ℤ z → Holds n givens p (said v)) → (z <ℤ pos 0 → Holds n givens p (said w))
-    → Holds n givens p (said (by_sign z v w))
-by_sign_holds n givens p (pos k) v w h g = h (omega (arith, ints))
-by_sign_holds n givens p (negsuc k) v w h g = g (omega (arith, ints))
-
--- trees that are written in at most k steps give what is so
-abbrev pub RunsRight : ℕ → List (List ℤ) → ℕ → Type 0
-RunsRight n givens k =
-    (left : ℕ) (node : Node) (tree : Tree) (l : ℕ) → tree_run n k left node ≡ Ok (tree, l)
-    → (p : List ℤ) → Serves n givens node p → Holds n givens p (verdict tree p)
-
-pub tree-right : (n : ℕ) (givens : List (List ℤ)) (k left : ℕ) (node : Node) (tree : Tree) (l : ℕ)
-    → tree_run n k left node ≡ Ok (tree, l)
-    → (p : List ℤ) → Serves n givens node p → Holds n givens p (verdict tree p)
-tree-right n givens zero left node tree l h p serves = cc
-tree-right n givens (suc k) left node tree l h p serves =
-    let c = chained-ok (step n left node) (λ (next : Next) (rest : ℕ). followed (tree_run n k) next rest) tree l h in
-    by_next c.0 c.1 (step-says n givens left node p c.0 c.1 serves c.2) c.3
-    (λ b d t e g q s. tree-right n givens k b d t e g q s)
-  where
-    by_next : (next : Next) (rest : ℕ) → IsNext n givens p next → followed (tree_run n k) next rest ≡ Ok (tree, l)
-        → RunsRight n givens k → Holds n givens p (verdict tree p)
-    by_next (ends t) rest is h more =
-        let e = same_first t tree rest l h in subst (λ (u : Tree). Holds n givens p (verdict u p)) e is
-    by_next (goes m) rest is h more = more rest m tree l h p is
-    by_next (binds f d m) rest is h more =
-        let c = chained-ok (tree_run n k rest m) (λ (t : Tree) (end : ℕ). Ok (bind f d t, end)) tree l h in
-        let e = same_first (bind f d c.0) tree c.1 l c.3 in
-        let q = floor (value_of f p) d in
-        subst (λ (u : Tree). Holds n givens p (verdict u p)) e
-        (holds_less n givens p q (verdict c.0 (p ++ q ∷ [])) serves.most (more rest m c.0 c.1 c.2 (p ++ q ∷ []) is))
-    by_next (splits f a b) rest is h more =
-        let c = chained-ok (tree_run n k rest a)
-        (λ (t : Tree) (end : ℕ). chained (tree_run n k end b) (λ u stop. Ok (branch f t u, stop))) tree l h in
-        let d = chained-ok (tree_run n k c.1 b) (λ (u : Tree) (stop : ℕ). Ok (branch f c.0 u, stop)) tree l c.3 in
-        let e = same_first (branch f c.0 d.0) tree d.1 l d.3 in
-        subst (λ (u : Tree). Holds n givens p (verdict u p)) e
-        (by_sign_holds n givens p (value_of f p) (value c.0 p) (value d.0 p)
-        (λ up. more rest a c.0 c.1 c.2 p (is.0 up))
-        (λ low. more c.1 b d.0 d.1 d.2 p (is.1 low)))
-
--- the theorem: at each point of the context the tree's value is the least whole point, or none where there is none
 pub at_most_givens : (n k : ℕ) (fs : List Affine) → n ≤ k → Speaks k fs → AtMost (k + 1) (givens_of n fs)
 at_most_givens n k [] long speaks = tt
 at_most_givens n k (f ∷ fs) long speaks = (
@@ -309,6 +276,22 @@ at_most_givens n k (f ∷ fs) long speaks = (
       speaks.1,
 )
 
+-- the first node serves each point of the context
+pub first_serves : (n m : ℕ) (fs context : List Affine) (p : List ℤ) → Speaks (n + m) fs → Speaks m context
+    → length p ≡ m → NotNegative p → NotNegative (row_values context p)
+    → Serves n (givens_of n fs) (first_node m (record { unknowns = n; rows = fs }) context) p
+first_serves n m fs context p speaks about size not inside =
+    let problem : Problem = record { unknowns = n; rows = fs } in
+    let stands = stands_first n fs p (subst (λ (k : ℕ). Speaks (n + k) fs) (sym size) speaks) in
+    let e : n + m + 1 ≡ n + 1 + length p = omega arith in
+    record {
+      is = first_is_node n m fs context speaks about;
+      inside = record { size = size; not_negative = not; rows = inside };
+      stands = subst (λ (k : ℕ). Stands n (givens_of n fs) (first_rows k problem) p) size stands;
+      most = subst (λ (k : ℕ). AtMost k (givens_of n fs)) e (at_most_givens n (n + m) fs (omega arith) speaks);
+    }
+
+-- the theorem: at each point of the context the tree's value is the least whole point, or none where there is none
 pub lexmin-right : (budget n m : ℕ) (fs context : List Affine) (tree : Tree) (l : ℕ) → Speaks (n + m) fs
     → Speaks m context
     → lexmin_run budget m (record { unknowns = n; rows = fs }) context ≡ Ok (tree, l)
@@ -316,15 +299,9 @@ pub lexmin-right : (budget n m : ℕ) (fs context : List Affine) (tree : Tree) (
     → IsAnswer (record { unknowns = n; rows = fs }) p (value tree p)
 unfolding lexmin_run whole
 lexmin-right budget n m fs context tree l speaks about h p size not inside =
-    let problem : Problem = record { unknowns = n; rows = fs } in
-    let stands = stands_first n fs p (subst (λ (k : ℕ). Speaks (n + k) fs) (sym size) speaks) in
-    let e : n + m + 1 ≡ n + 1 + length p = omega arith in
     answer_right (record { unknowns = n; rows = fs }) p (value tree p)
     (holds_right n (n + m) fs p (verdict tree p) (omega arith) speaks
-    (tree-right n (givens_of n fs) (suc budget) budget (first_node m problem context) tree l h p
-    (record {
-      is = first_is_node n m fs context speaks about;
-      inside = record { size = size; not_negative = not; rows = inside };
-      stands = subst (λ (k : ℕ). Stands n (givens_of n fs) (first_rows k problem) p) size stands;
-      most = subst (λ (k : ℕ). AtMost k (givens_of n fs)) e (at_most_givens n (n + m) fs (omega arith) speaks);
-    })))
+    (tree_by (List ℤ) (λ q node. Serves n (givens_of n fs) node q)
+    (λ q t. Holds n (givens_of n fs) q (verdict t q)) n (step-says n (givens_of n fs)) (suc budget) budget
+    (first_node m (record { unknowns = n; rows = fs }) context) tree l p
+    (first_serves n m fs context p speaks about size not inside) h))

@@ -14,15 +14,15 @@ use Rattle.tableau_rows.specs.Rows.{Row, Sized, entry}
 use Rattle.tableau_rows.specs.Moves.{is_positive, row_at}
 use Rattle.tableau_rows.specs.Problem.{problem_of, Speaks}
 use Rattle.tableau_rows.proofs.Points.{sized_take}
-use Rattle.lexmin_runs.specs.Nodes.{Node, Next, ends, goes, binds, splits, chained, part_of, padded, divided, formed}
+use Rattle.lexmin_runs.specs.Nodes.{Node, Next, ends, goes, binds, splits, part_of, padded, divided, formed}
 use Rattle.lexmin_runs.specs.Nodes.{opposite_run, opposites_run, above_run, under_run, at_least_run, broken_somewhere}
-use Rattle.lexmin_runs.specs.Nodes.{leaf_tree, step, followed, tree_run, first_node, whole, longer_form, lexmin_run}
-use Rattle.lexmin_runs.specs.Nodes.{all_divided, all_zero, is_zero, ask, taken_off}
+use Rattle.lexmin_runs.specs.Nodes.{leaf_tree, step, tree_run, first_node, whole, longer_form, lexmin_run, all_divided}
+use Rattle.lexmin_runs.specs.Nodes.{all_zero, is_zero, ask, taken_off}
 use Rattle.lexmin_runs.specs.Solutions.{IsNode, LeadsOn}
-use Rattle.lexmin_runs.proofs.QuestionAnswers.{chained-ok, formed-ok, same_first}
-use Rattle.lexmin_runs.proofs.Cases.{AllNo, step_by}
-use Rattle.lexmin_runs.proofs.KeptSolutions.{step_nodes, first_is_node}
-use Rattle.quast_trees.specs.Tree.{Tree, branch, bind}
+use Rattle.lexmin_runs.proofs.QuestionAnswers.{formed-ok, same_first}
+use Rattle.lexmin_runs.proofs.Cases.{AllNo, HandsOn, step_by, tree_by}
+use Rattle.lexmin_runs.proofs.KeptSolutions.{IsOver, step_over, first_is_node}
+use Rattle.quast_trees.specs.Tree.{Tree, bind}
 use Rattle.quast_trees.specs.Turns.{CanTell, IsHeld, rest_of}
 use Rattle.quast_trees.proofs.HeldNumbers.{Opposed, opposed_to, opposed_zeros}
 
@@ -220,28 +220,18 @@ step_tells n left node next l is h =
 
 tree-tells : (n k left : ℕ) (node : Node) (tree : Tree) (l : ℕ) → IsNode n node
     → tree_run n k left node ≡ Ok (tree, l) → CanTell tree
-tree-tells n zero left node tree l is h = absurd cc
-tree-tells n (suc k) left node tree l is h =
-    let c = chained-ok (step n left node) (λ (next : Next) (rest : ℕ). followed (tree_run n k) next rest) tree l h in
-    by_next c.0 c.1 (step_nodes n left node c.0 c.1 is c.2) (step_tells n left node c.0 c.1 is c.2) c.3
-    (λ b d t e q g. tree-tells n k b d t e q g)
+tree-tells n k left node tree l is h =
+    tree_by ℕ (IsOver n) (λ m t. CanTell t) n
+    (λ m left node next l is h. hands_on m next (step_over n m left node next l is h)
+    (step_tells n left node next l is.0 h))
+    k left node tree l node.parameters (is, refl) h
   where
-    by_next : (next : Next) (rest : ℕ) → LeadsOn n node.parameters next → TellNext next
-        → followed (tree_run n k) next rest ≡ Ok (tree, l)
-        → ((left : ℕ) (m : Node) (t : Tree) (e : ℕ) → IsNode n m → tree_run n k left m ≡ Ok (t, e) → CanTell t)
-        → CanTell tree
-    by_next (ends t) rest on tells h more = subst CanTell (same_first t tree rest l h) tells
-    by_next (goes m) rest on tells h more = more rest m tree l on.0 h
-    by_next (binds f d m) rest on tells h more =
-        let c = chained-ok (tree_run n k rest m) (λ (t : Tree) (end : ℕ). Ok (bind f d t, end)) tree l h in
-        subst CanTell (same_first (bind f d c.0) tree c.1 l c.3)
-        (tells.0, tells.1, more rest m c.0 c.1 on.0 c.2)
-    by_next (splits f a b) rest on tells h more =
-        let c = chained-ok (tree_run n k rest a)
-        (λ (t : Tree) (end : ℕ). chained (tree_run n k end b) (λ u stop. Ok (branch f t u, stop))) tree l h in
-        let d = chained-ok (tree_run n k c.1 b) (λ (u : Tree) (stop : ℕ). Ok (branch f c.0 u, stop)) tree l c.3 in
-        subst CanTell (same_first (branch f c.0 d.0) tree d.1 l d.3)
-        (tells, more rest a c.0 c.1 on.0 c.2, more c.1 b d.0 d.1 on.1 d.2)
+    hands_on : (m : ℕ) (next : Next) → LeadsOn n m next → TellNext next
+        → HandsOn ℕ (IsOver n) (λ m t. CanTell t) m next
+    hands_on m (ends t) on tells = tells
+    hands_on m (goes node) on tells = on
+    hands_on m (binds f d node) on tells = (suc m, (on.0, on.1), λ t body. (tells.0, tells.1, body))
+    hands_on m (splits f a b) on tells = λ t u first second. (tells, first (on.0, on.2), second (on.1, on.3))
 
 pub lexmin-tells : (budget n m : ℕ) (fs context : List Affine) (tree : Tree) (l : ℕ) → Speaks (n + m) fs
     → Speaks m context
