@@ -1,34 +1,32 @@
 -- Sources are what a text can tell: their quasts speak of the variables at their places, and name instances.
-use Rattle.scop_syntax.proofs.Common.{◌≡◌, ℕ, zero, suc, ◌+◌, ◌^◌, ◌<◌, ◌≤◌, Bool, true, false, List, [], ◌∷◌, ◌++◌}
-use Rattle.scop_syntax.proofs.Common.{length, All, ◌-◌, Option, Some, None, Result, Ok, Err, refl, sym, ap, subst, ◌∙◌}
-use Rattle.scop_syntax.proofs.Common.{arith, inl, inr, ⊤, IfOk, nat_eq, if◌then◌else◌, slice_get, All-head, All-tail}
-use Rattle.scop_syntax.proofs.Common.{length-map, Affine, In, Placed, loops_in, statements_of, Program, in_from_place}
-use Rattle.scop_syntax.proofs.Common.{in_map_from, place_of}
+use Rattle.scop_syntax.proofs.Common.{◌≡◌, ℕ, zero, suc, ◌+◌, ◌^◌, ◌<◌, ◌≤◌, List, [], ◌∷◌, ◌++◌, length, All, ◌-◌}
+use Rattle.scop_syntax.proofs.Common.{Option, Some, None, Result, Ok, Err, refl, sym, ap, subst, ◌∙◌, arith, inl, inr}
+use Rattle.scop_syntax.proofs.Common.{⊤, IfOk, slice_get, All-head, All-tail, length-map, Affine, In, Placed, loops_in}
+use Rattle.scop_syntax.proofs.Common.{statements_of, Program, in_from_place, in_map_from, place_of}
 use Rattle.wide_math.specs.Checked.{◌>>=◌}
 use Rattle.wide_math.proofs.Steps.{chain-ok}
 use Rattle.affine_forms.specs.Runs.{compose_run}
 use Rattle.pip_solver.specs.declared.stop.Stop.TheVariants as solver
 use Rattle.tableau_rows.specs.Run as run
 use Rattle.pip_solver.proofs.KeptSolutions.{lexmin-speaks, lexmin-forms}
-use Rattle.quast_trees.specs.Source.{Source, Forms, source_of}
+use Rattle.quast_trees.specs.Source.{Source, source_of}
 use Rattle.quast_trees.specs.Tree.{Tree, initial, leaf, branch, bind, count, named, Speaks, LeavesHave}
 use Rattle.quast_trees.specs.Mapped.{composed_run, leaf_run, map_run}
 use Rattle.quast_trees.proofs.ListRuns.{each_run-map}
 use Rattle.quast_trees.specs.Postfix.{tree_of}
 use Rattle.quast_trees.proofs.NamedTrees.{named-speaks}
 use Rattle.quast_joins.specs.Counts.{HasForms}
-use Rattle.quast_joins.specs.Joins.{test_of, last_leaf, chain, meet, under, moved, join_from}
 use Rattle.quast_joins.specs.Limits.{node_limit}
-use Rattle.quast_joins.specs.Shifts.{shifted_leaf, widened}
-use Rattle.quast_joins.specs.Ways.{statement_of, loops_of, text}
 use Rattle.quast_joins.specs.declared.way.Way.{Way}
 use Rattle.quast_joins.specs.declared.way.Way.TheVariants.{Later, Earlier}
 use Rattle.quast_joins.proofs.Counts.{join-forms}
+use Rattle.quast_joins.proofs.JoinedLeaves.{join_leaves}
 use Rattle.quast_joins.proofs.Variables.{join-speaks}
 use Rattle.iteration_domains.specs.Dependence.{Dependence}
 use Rattle.iteration_domains.specs.Model.{Modelled, KernelModel, model_of, modelled}
 use Rattle.conflict_deps.specs.Conflicts.{conflicts_of}
-use Rattle.dataflow.specs.ReadSources.{AreSources, IsSourceOf, TellsStop, reads_from, reads_of_statement, reads_in, reads_of}
+use Rattle.dataflow.specs.ReadSources.{AreSources, IsSourceOf, TellsStop, reads_from, reads_of_statement, reads_in}
+use Rattle.dataflow.specs.ReadSources.{reads_of}
 use Rattle.dataflow.specs.WriterRuns as writer
 use Rattle.dataflow.specs.WriterRuns.{Stopped, writers_run, solve_run, solve_between, turned_back, is_candidate}
 use Rattle.dataflow.specs.WriterRuns.{candidates_of, turns_in, read_variables}
@@ -53,57 +51,6 @@ named-instances model s initial h = tt
 named-instances model s (leaf l) h = h
 named-instances model s (branch test x y) h = (named-instances model s x h, named-instances model s y h)
 named-instances model s (bind f d x) h = named-instances model s x h
-
--- a choice of two trees
-either_names : (b : Bool) (model : KernelModel) (x y : Tree) → NamesInstances model x → NamesInstances model y
-    → NamesInstances model (if b then x else y)
-either_names true model x y h k = h
-either_names false model x y h k = k
-
--- the tests over the common loops
-chain_names : (way : Way) (model : KernelModel) (a b end : Tree) (ks ls : List ℕ) (fs gs : List Affine)
-    → NamesInstances model a → NamesInstances model b → NamesInstances model end
-    → NamesInstances model (chain way a b end ks ls fs gs)
-chain_names way model a b end [] ls fs gs p q r = r
-chain_names way model a b end (i ∷ ks) [] fs gs p q r = r
-chain_names way model a b end (i ∷ ks) (l ∷ ls) [] gs p q r = r
-chain_names way model a b end (i ∷ ks) (l ∷ ls) (f ∷ fs) [] p q r = r
-chain_names way model a b end (i ∷ ks) (l ∷ ls) (f ∷ fs) (g ∷ gs) p q r =
-    either_names (nat_eq i l) model
-    (branch (test_of way f g) a (branch (test_of way g f) b (chain way a b end ks ls fs gs))) end
-    (p, (q, chain_names way model a b end ks ls fs gs p q r)) r
-
--- where two leaves meet
-meet_names : (way : Way) (model : KernelModel) (a b : Forms) → NamesInstances model (leaf a)
-    → NamesInstances model (leaf b) → NamesInstances model (meet way a b)
-meet_names way model a b p q =
-    chain_names way model (leaf a) (leaf b) (last_leaf way a b) (loops_of a.source) (loops_of b.source) a.forms
-    b.forms p q (either_names (text way (statement_of a.source) (statement_of b.source)) model (leaf a) (leaf b) p q)
-
--- a tree under a leaf
-under_names : (way : Way) (model : KernelModel) (n k : ℕ) (a : Forms) (j : ℕ) (b : Tree)
-    → NamesInstances model (leaf a) → NamesInstances model b → NamesInstances model (under way n k a j b)
-under_names way model n k a j initial h s = h
-under_names way model n k a j (leaf b) h s = meet_names way model (widened j a) (shifted_leaf n k b) h s
-under_names way model n k a j (branch f x y) h s =
-    (under_names way model n k a j x h s.0, under_names way model n k a j y h s.1)
-under_names way model n k a j (bind f d x) h s = under_names way model n k a (suc j) x h s
-
--- a tree under the initial value
-moved_names : (model : KernelModel) (n k : ℕ) (b : Tree) → NamesInstances model b → NamesInstances model (moved n k b)
-moved_names model n k initial s = tt
-moved_names model n k (leaf b) s = s
-moved_names model n k (branch f x y) s = (moved_names model n k x s.0, moved_names model n k y s.1)
-moved_names model n k (bind f d x) s = moved_names model n k x s
-
--- a join
-join_names : (way : Way) (model : KernelModel) (n k : ℕ) (a b : Tree) → NamesInstances model a
-    → NamesInstances model b → NamesInstances model (join_from way n k a b)
-join_names way model n k initial b h s = moved_names model n k b s
-join_names way model n k (leaf a) b h s = under_names way model n k a 0 b h s
-join_names way model n k (branch f x y) b h s =
-    (join_names way model n k x b h.0 s, join_names way model n k y b h.1 s)
-join_names way model n k (bind f d x) b h s = join_names way model n (suc k) x b h s
 
 -- ---- leaves have a form for each loop
 
@@ -204,7 +151,7 @@ quast_over way model budget statement access u loops h =
     run_keeps way (IsOver model n) n (solve_run way model budget)
     (λ a b x y. (
       join-speaks way n a b x.0 y.0,
-      join_names way model n 0 a b x.1 y.1,
+      join_leaves (λ l. IsInstance model l.source) (λ n k l is. is) way n a b x.1 y.1,
       join-forms way n a b x.2 y.2,
     ))
     (candidates_of way model statement access) initial u

@@ -8,6 +8,7 @@ use Rattle.quast_trees.specs.Tree.{Tree, initial, leaf, branch, bind, count, Spe
 use Rattle.quast_trees.specs.Turns.{IsHeld}
 use Rattle.quast_trees.specs.Postfix.{tree_of}
 use Rattle.quast_joins.specs.Counts.{HasForms}
+use Rattle.quast_joins.specs.Leaves.{LeavesAre}
 use Rattle.quast_joins.specs.Limits.{node_limit}
 use Rattle.iteration_domains.specs.Model.{Modelled, KernelModel}
 use Rattle.dataflow.specs.declared.source.ReadSource.{ReadSource}
@@ -28,10 +29,7 @@ IsInstance model (Some s) = (t : Modelled) × (slice_get model.statements s.stat
 
 -- each leaf of forms has such a source
 abbrev pub NamesInstances : KernelModel → Tree → Type 0
-NamesInstances model initial = ⊤
-NamesInstances model (leaf l) = IsInstance model l.source
-NamesInstances model (branch test first second) = NamesInstances model first × NamesInstances model second
-NamesInstances model (bind form divisor body) = NamesInstances model body
+NamesInstances model tree = LeavesAre (λ l. IsInstance model l.source) tree
 
 -- a quast over n variables, of few nodes, whose leaves are instances, with a form for each loop, and whose numbers 128
 -- bits hold

@@ -14,6 +14,7 @@ use Rattle.quast_joins.specs.Shifts.{shifted_form, shifted_leaf, widened}
 use Rattle.quast_joins.specs.Joins.{test_of, last_leaf, chain, meet, under, moved, join_from, join}
 use Rattle.quast_joins.specs.Counts.{tested, under_node, join_node, capped, meet_count, under_count, join_count}
 use Rattle.quast_joins.specs.Counts.{HasForms}
+use Rattle.quast_joins.proofs.JoinedLeaves.{join_leaves}
 
 -- a choice of two leaves is one node
 leaf_count : (b : Bool) (s t : Forms) → count (if b then leaf s else leaf t) ≡ 1
@@ -84,59 +85,11 @@ join_from-count way n k (bind f d x) b = ap (λ (p : ℕ). p + 1) (join_from-cou
 pub join-count : (way : Way) (n : ℕ) (a b : Tree) → count (join way n a b) ≡ join_count a b
 join-count way n a b = join_from-count way n 0 a b
 
--- a choice of two trees
-either_forms : (b : Bool) (x y : Tree) → HasForms x → HasForms y → HasForms (if b then x else y)
-either_forms true x y h k = h
-either_forms false x y h k = k
-
--- the tests over the common loops have leaves with a form for each loop
-chain-forms : (way : Way) (a b end : Tree) (ks ls : List ℕ) (fs gs : List Affine) → HasForms a → HasForms b
-    → HasForms end → HasForms (chain way a b end ks ls fs gs)
-chain-forms way a b end [] ls fs gs p q r = r
-chain-forms way a b end (i ∷ ks) [] fs gs p q r = r
-chain-forms way a b end (i ∷ ks) (l ∷ ls) [] gs p q r = r
-chain-forms way a b end (i ∷ ks) (l ∷ ls) (f ∷ fs) [] p q r = r
-chain-forms way a b end (i ∷ ks) (l ∷ ls) (f ∷ fs) (g ∷ gs) p q r =
-    either_forms (nat_eq i l)
-    (branch (test_of way f g) a (branch (test_of way g f) b (chain way a b end ks ls fs gs))) end
-    (p, (q, chain-forms way a b end ks ls fs gs p q r)) r
-
--- so has the place where two leaves meet
-meet-forms : (way : Way) (a b : Forms) → HasForms (leaf a) → HasForms (leaf b) → HasForms (meet way a b)
-meet-forms way a b p q =
-    chain-forms way (leaf a) (leaf b) (last_leaf way a b) (loops_of a.source) (loops_of b.source) a.forms b.forms p q
-    (either_forms (text way (statement_of a.source) (statement_of b.source)) (leaf a) (leaf b) p q)
-
--- so has a moved leaf
-shifted-forms : (n k : ℕ) (b : Forms) → HasForms (leaf b) → HasForms (leaf (shifted_leaf n k b))
-shifted-forms n k b s = length-map b.forms (shifted_form n k) ∙ s
-
--- so has a tree under a leaf
-under-forms : (way : Way) (n k : ℕ) (a : Forms) (j : ℕ) (b : Tree) → HasForms (leaf a) → HasForms b
-    → HasForms (under way n k a j b)
-under-forms way n k a j initial h s = shifted-forms a.variables j a h
-under-forms way n k a j (leaf b) h s =
-    meet-forms way (widened j a) (shifted_leaf n k b) (shifted-forms a.variables j a h) (shifted-forms n k b s)
-under-forms way n k a j (branch f x y) h s = (under-forms way n k a j x h s.0, under-forms way n k a j y h s.1)
-under-forms way n k a j (bind f d x) h s = under-forms way n k a (suc j) x h s
-
--- so has a tree under the initial value
-moved-forms : (n k : ℕ) (b : Tree) → HasForms b → HasForms (moved n k b)
-moved-forms n k initial s = tt
-moved-forms n k (leaf b) s = shifted-forms n k b s
-moved-forms n k (branch f x y) s = (moved-forms n k x s.0, moved-forms n k y s.1)
-moved-forms n k (bind f d x) s = moved-forms n k x s
-
--- so has the join where parameters are bound already
-join_from-forms : (way : Way) (n k : ℕ) (a b : Tree) → HasForms a → HasForms b → HasForms (join_from way n k a b)
-join_from-forms way n k initial b h s = moved-forms n k b s
-join_from-forms way n k (leaf a) b h s = under-forms way n k a 0 b h s
-join_from-forms way n k (branch f x y) b h s = (join_from-forms way n k x b h.0 s, join_from-forms way n k y b h.1 s)
-join_from-forms way n k (bind f d x) b h s = join_from-forms way n (suc k) x b h s
-
 -- the join keeps a form for each loop
 pub join-forms : (way : Way) (n : ℕ) (a b : Tree) → HasForms a → HasForms b → HasForms (join way n a b)
-join-forms way n a b h s = join_from-forms way n 0 a b h s
+join-forms way n a b h s =
+    join_leaves (λ l. length l.forms ≡ length (loops_of l.source))
+    (λ n k l is. length-map l.forms (shifted_form n k) ∙ is) way n a b h s
 
 -- a tree under a leaf, counted over the tree's nodes
 under_added : (a : Forms) (b : Tree) → under_count a b ≡ sum_by (under_node a) (written b)

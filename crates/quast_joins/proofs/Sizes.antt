@@ -1,21 +1,20 @@
 -- The numbers of a join: its leaves' are as small as those of both, and its tests fit 128 bits.
-use Rattle.whole_numbers.proofs.Common.{◌≡◌, ℕ, zero, suc, ◌^◌, Bool, true, false, ℤ, pos, negsuc, ◌+ℤ◌, ◌-ℤ◌, ◌*ℤ◌}
-use Rattle.whole_numbers.proofs.Common.{◌≤ℤ◌, List, [], ◌∷◌, ◌++◌, map, Result, Ok, Err, refl, arith, nat_eq}
-use Rattle.whole_numbers.proofs.Common.{if◌then◌else◌, lt-ltb, ints, Affine, form_of, fits, zeros, sums, multiples}
+use Rattle.whole_numbers.proofs.Common.{◌≡◌, ℕ, zero, suc, ◌^◌, ℤ, pos, negsuc, ◌+ℤ◌, ◌-ℤ◌, ◌*ℤ◌, ◌≤ℤ◌, List, [], ◌∷◌}
+use Rattle.whole_numbers.proofs.Common.{◌++◌, map, Result, Ok, Err, refl, arith, lt-ltb, ints, Affine, form_of, fits}
+use Rattle.whole_numbers.proofs.Common.{zeros, sums, multiples}
 use Rattle.std.proofs.Common.{IsTrue}
 use Rattle.wide_math.specs.declared.Op.TheVariants.{Sub, Mul}
 use Rattle.wide_math.specs.declared.Wide.{Wide}
 use Rattle.wide_math.specs.Checked.{cross_of}
 use Rattle.wide_math.proofs.Steps.{checked-fits}
 use Rattle.affine_forms.specs.Runs.{zip_run, multiples_difference_run, forms_difference_run}
-use Rattle.quast_trees.specs.Source.{Forms}
-use Rattle.quast_trees.specs.Tree.{Tree, initial, leaf, branch, bind}
-use Rattle.quast_joins.specs.Ways.{statement_of, loops_of, text}
+use Rattle.quast_trees.specs.Tree.{Tree}
 use Rattle.quast_joins.specs.declared.way.Way.{Way}
 use Rattle.quast_joins.specs.declared.way.Way.TheVariants.{Later, Earlier}
-use Rattle.quast_joins.specs.Shifts.{shifted, shifted_form, shifted_leaf, widened}
-use Rattle.quast_joins.specs.Joins.{less_by_one, test_of, last_leaf, chain, meet, under, moved, join_from, join}
+use Rattle.quast_joins.specs.Shifts.{shifted, shifted_form}
+use Rattle.quast_joins.specs.Joins.{less_by_one, test_of, join}
 use Rattle.quast_joins.specs.Limits.{leaf_limit}
+use Rattle.quast_joins.proofs.JoinedLeaves.{join_leaves}
 use Rattle.quast_joins.specs.Sizes.{IsWithin, AreWithin, IsFormWithin, AreFormsWithin, LeavesWithin}
 
 -- numbers within a bound are within twice that
@@ -90,64 +89,11 @@ forms_shifted bound n k [] up h = tt
 forms_shifted bound n k (f ∷ fs) up h =
     ((shifted_within bound n k f.coefficients up h.0.0, h.0.1), forms_shifted bound n k fs up h.1)
 
--- a choice of two trees
-either_within : (b : Bool) (bound : ℤ) (x y : Tree) → LeavesWithin bound x → LeavesWithin bound y
-    → LeavesWithin bound (if b then x else y)
-either_within true bound x y h k = h
-either_within false bound x y h k = k
-
--- the tests over the common loops
-chain_within : (way : Way) (bound : ℤ) (a b end : Tree) (ks ls : List ℕ) (fs gs : List Affine)
-    → LeavesWithin bound a → LeavesWithin bound b → LeavesWithin bound end
-    → LeavesWithin bound (chain way a b end ks ls fs gs)
-chain_within way bound a b end [] ls fs gs p q r = r
-chain_within way bound a b end (i ∷ ks) [] fs gs p q r = r
-chain_within way bound a b end (i ∷ ks) (l ∷ ls) [] gs p q r = r
-chain_within way bound a b end (i ∷ ks) (l ∷ ls) (f ∷ fs) [] p q r = r
-chain_within way bound a b end (i ∷ ks) (l ∷ ls) (f ∷ fs) (g ∷ gs) p q r =
-    either_within (nat_eq i l) bound
-    (branch (test_of way f g) a (branch (test_of way g f) b (chain way a b end ks ls fs gs))) end
-    (p, (q, chain_within way bound a b end ks ls fs gs p q r)) r
-
--- where two leaves meet
-meet_within : (way : Way) (bound : ℤ) (a b : Forms) → LeavesWithin bound (leaf a) → LeavesWithin bound (leaf b)
-    → LeavesWithin bound (meet way a b)
-meet_within way bound a b p q =
-    chain_within way bound (leaf a) (leaf b) (last_leaf way a b) (loops_of a.source) (loops_of b.source) a.forms
-    b.forms p q (either_within (text way (statement_of a.source) (statement_of b.source)) bound (leaf a) (leaf b) p q)
-
--- a tree under a leaf
-under_within : (way : Way) (bound : ℤ) (n k : ℕ) (a : Forms) (j : ℕ) (b : Tree) → pos 0 ≤ℤ bound
-    → LeavesWithin bound (leaf a) → LeavesWithin bound b → LeavesWithin bound (under way n k a j b)
-under_within way bound n k a j initial up h s = forms_shifted bound a.variables j a.forms up h
-under_within way bound n k a j (leaf b) up h s =
-    meet_within way bound (widened j a) (shifted_leaf n k b) (forms_shifted bound a.variables j a.forms up h)
-    (forms_shifted bound n k b.forms up s)
-under_within way bound n k a j (branch f x y) up h s =
-    (under_within way bound n k a j x up h s.0, under_within way bound n k a j y up h s.1)
-under_within way bound n k a j (bind f d x) up h s = under_within way bound n k a (suc j) x up h s
-
--- a tree under the initial value
-moved_within : (bound : ℤ) (n k : ℕ) (b : Tree) → pos 0 ≤ℤ bound → LeavesWithin bound b
-    → LeavesWithin bound (moved n k b)
-moved_within bound n k initial up s = tt
-moved_within bound n k (leaf b) up s = forms_shifted bound n k b.forms up s
-moved_within bound n k (branch f x y) up s = (moved_within bound n k x up s.0, moved_within bound n k y up s.1)
-moved_within bound n k (bind f d x) up s = moved_within bound n k x up s
-
--- the join where parameters are bound already
-join_from_within : (way : Way) (bound : ℤ) (n k : ℕ) (a b : Tree) → pos 0 ≤ℤ bound → LeavesWithin bound a
-    → LeavesWithin bound b → LeavesWithin bound (join_from way n k a b)
-join_from_within way bound n k initial b up h s = moved_within bound n k b up s
-join_from_within way bound n k (leaf a) b up h s = under_within way bound n k a 0 b up h s
-join_from_within way bound n k (branch f x y) b up h s =
-    (join_from_within way bound n k x b up h.0 s, join_from_within way bound n k y b up h.1 s)
-join_from_within way bound n k (bind f d x) b up h s = join_from_within way bound n (suc k) x b up h s
-
 -- the join's leaves are as small as those of both
 pub join_within : (way : Way) (bound : ℤ) (n : ℕ) (a b : Tree) → pos 0 ≤ℤ bound → LeavesWithin bound a
     → LeavesWithin bound b → LeavesWithin bound (join way n a b)
-join_within way bound n a b up h s = join_from_within way bound n 0 a b up h s
+join_within way bound n a b up h s =
+    join_leaves (λ l. AreFormsWithin bound l.forms) (λ n k l is. forms_shifted bound n k l.forms up is) way n a b h s
 
 -- numbers up to 2^126 fit
 fits_small : (z : ℤ) → (pos 0 -ℤ pos (2 ^ 126)) ≤ℤ z → z ≤ℤ pos (2 ^ 126) → IsTrue (fits z)

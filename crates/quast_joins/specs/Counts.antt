@@ -1,10 +1,11 @@
 -- How many nodes a join has, by the two trees alone.
-use Rattle.std.specs.Prelude.{◌≡◌, ℕ, suc, ◌+◌, ◌*◌, List, ◌∷◌, length, min, sum_by, ⊤, nat_eq, if◌then◌else◌}
+use Rattle.std.specs.Prelude.{◌≡◌, ℕ, suc, ◌+◌, ◌*◌, List, ◌∷◌, length, min, sum_by, nat_eq, if◌then◌else◌}
 use Rattle.whole_numbers.specs.Affine.{Affine}
 use Rattle.quast_trees.specs.Source.{Forms}
 use Rattle.quast_trees.specs.Tree.{Tree, initial, leaf, branch, bind, count}
 use Rattle.quast_trees.specs.declared.node.Node.{Node}
 use Rattle.quast_trees.specs.declared.node.Node.TheVariants as node
+use Rattle.quast_joins.specs.Leaves.{LeavesAre}
 use Rattle.quast_joins.specs.Ways.{loops_of}
 
 -- how many loops two leaves have in common, of those with a form on both sides
@@ -32,10 +33,7 @@ join_count (bind f d x) b = join_count x b + 1
 
 -- each leaf has a form for each loop round it
 abbrev pub HasForms : Tree → Type 0
-HasForms initial = ⊤
-HasForms (leaf l) = length l.forms ≡ length (loops_of l.source)
-HasForms (branch f x y) = HasForms x × HasForms y
-HasForms (bind f d x) = HasForms x
+HasForms tree = LeavesAre (λ l. length l.forms ≡ length (loops_of l.source)) tree
 
 -- how many nodes a node of the second tree becomes under a leaf of the first
 abbrev pub under_node : Forms → Node → ℕ

@@ -1,5 +1,6 @@
 pub mod Ways
 pub mod Shifts
+pub mod Leaves
 pub mod Joins
 pub mod Counts
 pub mod Sizes

@@ -1,7 +1,8 @@
 -- How large the numbers of a quast's leaves are.
 use Rattle.std.specs.Prelude.{ℤ, pos, ◌-ℤ◌, ◌≤ℤ◌, List, [], ◌∷◌, ⊤}
 use Rattle.whole_numbers.specs.Affine.{Affine}
-use Rattle.quast_trees.specs.Tree.{Tree, initial, leaf, branch, bind}
+use Rattle.quast_trees.specs.Tree.{Tree}
+use Rattle.quast_joins.specs.Leaves.{LeavesAre}
 
 -- a number is at most the bound in absolute value
 abbrev pub IsWithin : ℤ → ℤ → Type 0
@@ -23,7 +24,4 @@ AreFormsWithin bound (f ∷ fs) = IsFormWithin bound f × AreFormsWithin bound f
 
 -- each number of a leaf's forms is at most the bound in absolute value
 abbrev pub LeavesWithin : ℤ → Tree → Type 0
-LeavesWithin bound initial = ⊤
-LeavesWithin bound (leaf l) = AreFormsWithin bound l.forms
-LeavesWithin bound (branch test first second) = LeavesWithin bound first × LeavesWithin bound second
-LeavesWithin bound (bind form divisor body) = LeavesWithin bound body
+LeavesWithin bound tree = LeavesAre (λ l. AreFormsWithin bound l.forms) tree
