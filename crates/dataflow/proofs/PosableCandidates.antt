@@ -1,5 +1,5 @@
 -- A candidate of a kernel's model can be posed: nothing on the way is too wide.
-use Rattle.scop_syntax.proofs.Common.{◌≡◌, ℕ, zero, suc, ◌<◌, ◌+◌, ◌-◌, ◌*◌, ◌^◌, ◌≤◌, ℤ, negsuc, List, [], ◌∷◌, ◌++◌}
+use Rattle.scop_syntax.proofs.Common.{◌≡◌, ℕ, zero, suc, ◌+◌, ◌-◌, ◌*◌, ◌^◌, ◌≤◌, ℤ, negsuc, List, [], ◌∷◌, ◌++◌}
 use Rattle.scop_syntax.proofs.Common.{length, map, Some, take, drop, get_or, ap, ap₂, subst, sym, ◌∙◌, refl, arith}
 use Rattle.scop_syntax.proofs.Common.{length-append, All, slice_get, length-map, All-nil, All-cons, All-head, All-tail}
 use Rattle.scop_syntax.proofs.Common.{All-append, Affine, composed, AreAtMost, IsKernel, IsPlaced, ranks_of, In, Placed}
@@ -285,11 +285,6 @@ ready way program model dep is e same number placed parts =
     })
 
 -- what stands at a place
-pub inside_of : {A : Type 0} (xs : List A) (k : ℕ) (x : A) → slice_get xs k ≡ Some x → k < length xs
-inside_of [] k x h = absurd cc
-inside_of (y ∷ xs) zero x h = omega arith
-inside_of (y ∷ xs) (suc k) x h = let r = inside_of xs k x h in omega arith
-
 pub got_or : {A : Type 0} (xs : List A) (k : ℕ) (x d : A) → slice_get xs k ≡ Some x → get_or xs k d ≡ x
 got_or [] k x d h = absurd cc
 got_or (y ∷ xs) zero x d h = cc

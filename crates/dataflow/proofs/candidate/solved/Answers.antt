@@ -1,9 +1,9 @@
-use Rattle.scop_syntax.proofs.Common.{rules, ◌≡◌, ◌<◌, ◌∙◌, List, Some, ap, length, subst, sym}
+use Rattle.scop_syntax.proofs.Common.{rules, ◌≡◌, ◌<◌, ◌∙◌, List, Some, ap, length, slice_get_within, subst, sym}
 use Rattle.iteration_domains.specs.declared.dep.DepEnd.{DepEnd}
 use Rattle.iteration_domains.specs.Model.{Modelled}
 use Rattle.dataflow.specs.Posed.{CanPose}
 use Rattle.dataflow.specs.Sources.{reader_end, writer_end}
-use Rattle.dataflow.proofs.PosableCandidates.{IsReady, inside_of, item_is, ready}
+use Rattle.dataflow.proofs.PosableCandidates.{IsReady, item_is, ready}
 use Rattle.dataflow.proofs.candidate.solved.Goals as goal
 use Rattle.dataflow.proofs.candidate.solved.Goals.{After-index-statements-reads, After-statements-statements}
 
@@ -23,7 +23,7 @@ writer_inside c =
     subst (λ (ss : List Modelled). c.writer_end-writes.result.statement < length ss)
     (sym c.statements-statements.ensures.statements)
     (subst (λ (e : DepEnd). e.statement < length c.args.model.now.statements) (sym c.writer_end-writes.ensures)
-    (inside_of c.args.model.now.statements (writer_end c.args.way c.args.dep.now).statement r.writer r.writes))
+    (slice_get_within c.args.model.now.statements (writer_end c.args.way c.args.dep.now).statement r.writer r.writes))
 
 reader_inside : (c : After-statements-statements)
     → c.reader_end-reads.result.statement < length c.statements-statements.result.now
@@ -32,7 +32,7 @@ reader_inside c =
     subst (λ (ss : List Modelled). c.reader_end-reads.result.statement < length ss)
     (sym c.statements-statements.ensures.statements)
     (subst (λ (e : DepEnd). e.statement < length c.args.model.now.statements) (sym c.reader_end-reads.ensures)
-    (inside_of c.args.model.now.statements (reader_end c.args.way c.args.dep.now).statement r.reader r.reads))
+    (slice_get_within c.args.model.now.statements (reader_end c.args.way c.args.dep.now).statement r.reader r.reads))
 
 pub offset_bounds-statements-writes : goal.offset_bounds-statements-writes
 offset_bounds-statements-writes c =
