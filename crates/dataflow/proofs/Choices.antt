@@ -11,7 +11,7 @@ use Rattle.scop_syntax.specs.Order.{key}
 use Rattle.quast_joins.specs.declared.way.Way.{Way}
 use Rattle.quast_joins.specs.declared.way.Way.TheVariants.{Later, Earlier}
 use Rattle.quast_joins.specs.Ways.{ahead, text, first_stands, chosen}
-use Rattle.dataflow.specs.Wanted.{IsBest, better}
+use Rattle.dataflow.specs.Wanted.{AtMost, IsBest, better}
 use Rattle.dataflow.specs.Places.{answer, Names, IsOrdered}
 
 text_second : (s t : ℕ) → s < t → text Later s t ≡ false
@@ -155,46 +155,31 @@ chosen_names way visits l m (Some i) (Some k) order a b =
     (subst (λ z. Names visits (chosen way (answer a.0) z) (better way (Some i) (Some k))) (sym b.2)
     (chosen_two way visits order i k a.0 b.0 a.1 b.1))
 
+-- of two places the second is chosen, and the first is wanted at most as much, or the other way round
+better_two : (way : Way) (i k : ℕ) → ((better way (Some i) (Some k) ≡ Some k) × AtMost way i k)
+    ⊎ ((better way (Some i) (Some k) ≡ Some i) × AtMost way k i)
+better_two Later i k = nat_cases i k
+    (λ less. inl (rw (lt-ltb i k less) refl, omega arith))
+    (λ same. inr (rw (le-ltb i k (omega arith)) refl, omega arith))
+    (λ large. inr (rw (le-ltb i k (omega arith)) refl, omega arith))
+better_two Earlier i k = nat_cases k i
+    (λ less. inl (rw (lt-ltb k i less) refl, omega arith))
+    (λ same. inr (rw (le-ltb k i (omega arith)) refl, omega arith))
+    (λ large. inr (rw (le-ltb k i (omega arith)) refl, omega arith))
+
+at_most-trans : (way : Way) (i j k : ℕ) → AtMost way i j → AtMost way j k → AtMost way i k
+at_most-trans Later i j k h g = omega arith
+at_most-trans Earlier i j k h g = omega arith
+
 -- the wanted place of two kinds of places
 pub best_of_two : (way : Way) (P Q : ℕ → Type 0) (o u : Option ℕ) → IsBest way P o → IsBest way Q u
     → IsBest way (λ k. P k ⊎ Q k) (better way o u)
 best_of_two way P Q None None a b = λ k h. elim h [ inl p ↦ a k p | inr q ↦ b k q ]
 best_of_two way P Q None (Some k) a b = (inr b.0, λ i h. elim h [ inl p ↦ absurd (a i p) | inr q ↦ b.1 i q ])
-best_of_two Later P Q (Some i) None a b = (inl a.0, λ k h. elim h [ inl p ↦ a.1 k p | inr q ↦ absurd (b k q) ])
-best_of_two Earlier P Q (Some i) None a b = (inl a.0, λ k h. elim h [ inl p ↦ a.1 k p | inr q ↦ absurd (b k q) ])
-best_of_two Later P Q (Some i) (Some k) a b =
-    nat_cases i k
-    (λ less. rw (lt-ltb i k less) (
-      inr b.0,
-      λ n h. elim h [
-        | inl p ↦
-            (let c : n ≤ i = a.1 n p in omega arith)
-        | inr q ↦ b.1 n q
-      ],
-    ))
-    (λ same. rw (le-ltb i k (omega arith)) (
-      inl a.0,
-      λ n h. elim h [ inl p ↦ a.1 n p | inr q ↦ (let c : n ≤ k = b.1 n q in omega arith) ],
-    ))
-    (λ large. rw (le-ltb i k (omega arith)) (
-      inl a.0,
-      λ n h. elim h [ inl p ↦ a.1 n p | inr q ↦ (let c : n ≤ k = b.1 n q in omega arith) ],
-    ))
-best_of_two Earlier P Q (Some i) (Some k) a b =
-    nat_cases k i
-    (λ less. rw (lt-ltb k i less) (
-      inr b.0,
-      λ n h. elim h [
-        | inl p ↦
-            (let c : i ≤ n = a.1 n p in omega arith)
-        | inr q ↦ b.1 n q
-      ],
-    ))
-    (λ same. rw (le-ltb k i (omega arith)) (
-      inl a.0,
-      λ n h. elim h [ inl p ↦ a.1 n p | inr q ↦ (let c : k ≤ n = b.1 n q in omega arith) ],
-    ))
-    (λ large. rw (le-ltb k i (omega arith)) (
-      inl a.0,
-      λ n h. elim h [ inl p ↦ a.1 n p | inr q ↦ (let c : k ≤ n = b.1 n q in omega arith) ],
-    ))
+best_of_two way P Q (Some i) None a b = (inl a.0, λ k h. elim h [ inl p ↦ a.1 k p | inr q ↦ absurd (b k q) ])
+best_of_two way P Q (Some i) (Some k) a b = elim (better_two way i k) [
+  | inl e ↦ subst (IsBest way (λ n. P n ⊎ Q n)) (sym e.0)
+      (inr b.0, λ n h. elim h [ inl p ↦ at_most-trans way n i k (a.1 n p) e.1 | inr q ↦ b.1 n q ])
+  | inr e ↦ subst (IsBest way (λ n. P n ⊎ Q n)) (sym e.0)
+      (inl a.0, λ n h. elim h [ inl p ↦ a.1 n p | inr q ↦ at_most-trans way n k i (b.1 n q) e.1 ])
+]
