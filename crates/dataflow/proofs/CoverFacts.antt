@@ -1,18 +1,14 @@
 -- What the laws of walks, quasts and points say of covers, from the laws themselves.
-use Rattle.scop_syntax.proofs.Common.{◌≡◌, ℕ, ℤ, pos, ◌≤ℤ◌, ◌<ℤ◌, ◌^◌, List, ◌++◌, length, All, Some, refl, slice_get}
-use Rattle.scop_syntax.proofs.Common.{HasParameters, In, Placed, Program, Runs, Visit, in_from_place, statements_of}
-use Rattle.scop_syntax.proofs.Common.{walk_of}
-use Rattle.integer_sets.specs.Points.{Satisfies}
-use Rattle.iteration_domains.specs.Model.{Modelled, model_of}
-use Rattle.iteration_domains.specs.Sizes.{IsKernelModel}
-use Rattle.iteration_domains.proofs.Instances.{instance_is_point}
+use Rattle.scop_syntax.proofs.Common.{ℕ, ℤ, pos, ◌≤ℤ◌, ◌<ℤ◌, ◌^◌, List, All, refl, HasParameters, In, Placed, Program}
+use Rattle.scop_syntax.proofs.Common.{Runs, statements_of}
+use Rattle.iteration_domains.specs.Model.{model_of}
 use Rattle.iteration_domains.proofs.TreeStatements.{one_model}
 use Rattle.dataflow.proofs.AccessSides.{CoverLaws, PathLaws}
 use Rattle.dataflow.proofs.AccessWriters.{Laws, small_turns, writer_is_point}
 use Rattle.dataflow.proofs.CandidateSolutions.{up_bounded}
 use Rattle.dataflow.proofs.HeldCovers.{all_up}
 use Rattle.dataflow.proofs.QuastSigns.{resolved_up, turns_up}
-use Rattle.dataflow.proofs.ResolvedWriters.{resolved_wanted}
+use Rattle.dataflow.proofs.ResolvedWriters.{access_at, resolved_wanted}
 use Rattle.dataflow.proofs.TellableSources.{loops_are, quast_over}
 
 pub cover_laws : (program : Program) (params : List ℤ) (budget : ℕ) → HasParameters program params
@@ -23,32 +19,21 @@ pub cover_laws : (program : Program) (params : List ℤ) (budget : ℕ) → HasP
 cover_laws program params budget has laws values paths =
     let small = small_turns program params has laws values in
     let walk = laws.places.walk in
-    let one : IsKernelModel (model_of program) =
-    one_model program has.kernel walk.same laws.number in
-    let small_at : (k : ℕ) (v : Visit) → slice_get (walk_of program params) k ≡ Some v
-    → All (λ x. (pos 0 ≤ℤ x) × (x <ℤ pos (2 ^ 46))) v.turns =
-    λ k v got. small v (in_from_place (walk_of program params) k v got) in
-    let inside : (k : ℕ) (w : Visit) → slice_get (walk_of program params) k ≡ Some w → (t : Modelled)
-    → In t (model_of program).statements → w.number ≡ t.number
-    → (length w.turns ≡ t.domain.dimensions) × Satisfies t.domain (w.turns ++ params) =
-    λ k w got t among own.
-    instance_is_point program params t w walk has.count
-    (record { statement = among; walked = in_from_place (walk_of program params) k w got; number = own }) in
     let up = up_bounded (pos 65536) params has.parameters in
     record {
       walk = walk;
       number = laws.number;
-      model = one;
+      model = one_model program has.kernel walk.same laws.number;
       count = has.count;
       range = has.parameters;
       up = up;
       turns = λ v walked. all_up v.turns (turns_up v.turns (small v walked));
       points = λ way j k w b cell touches h. writer_is_point way program params j k w b cell laws.places has.count up
           touches h;
-      names = λ way j w a cell t touches run. resolved_wanted way program params j w a cell budget t laws one has.count
-          has.parameters small_at (inside j w touches.place) touches run;
-      signs = λ way j w a cell t touches run. resolved_up way program params j w a cell budget t laws one has.count
-          has.parameters small_at (inside j w touches.place) touches run;
+      names = λ way j w a cell t touches run. resolved_wanted way program params j w a cell budget t
+          (access_at program params j w a cell has laws small touches) run;
+      signs = λ way j w a cell t touches run. resolved_up way program params j w a cell budget t
+          (access_at program params j w a cell has laws small touches) run;
       speaks = λ way statement a t run. (quast_over way (model_of program) budget statement a t
           (loops_are program (model_of program) refl laws.places.loops) run).0.0;
       stands = laws.kernel.stands;

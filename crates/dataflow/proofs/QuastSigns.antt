@@ -2,8 +2,8 @@
 -- which its turns are told.
 use Rattle.scop_syntax.proofs.Common.{◌≡◌, ℕ, ◌+◌, ◌^◌, ℤ, pos, ◌≤ℤ◌, ◌<ℤ◌, List, [], ◌∷◌, ◌++◌, length, All, Option}
 use Rattle.scop_syntax.proofs.Common.{Some, None, Result, Ok, Err, sym, ap₂, subst, ◌∙◌, refl, arith, length-append}
-use Rattle.scop_syntax.proofs.Common.{slice_get, ints, All-head, All-tail, NotNegative, not_negative-append, Cell, In}
-use Rattle.scop_syntax.proofs.Common.{Program, Visit, walk_of}
+use Rattle.scop_syntax.proofs.Common.{slice_get, ints, All-head, All-tail, NotNegative, not_negative-append, Cell}
+use Rattle.scop_syntax.proofs.Common.{Program, Visit}
 use Rattle.wide_math.specs.declared.Wide.{Wide}
 use Rattle.tableau_rows.specs.Problem.{row_values}
 use Rattle.pip_solver.specs.Nodes.{Counted}
@@ -21,21 +21,17 @@ use Rattle.quast_joins.proofs.JoinSigns.{join-up}
 use Rattle.quast_joins.proofs.JoinTurns.{join-tells}
 use Rattle.quast_joins.proofs.Sizes.{join_within}
 use Rattle.quast_joins.proofs.Variables.{join-speaks}
-use Rattle.integer_sets.specs.Points.{Satisfies}
 use Rattle.iteration_domains.specs.Model.{Modelled, KernelModel, model_of}
-use Rattle.iteration_domains.specs.Sizes.{IsKernelModel}
 use Rattle.iteration_domains.specs.Dependence.{Dependence}
-use Rattle.conflict_deps.specs.Pairs.{TouchesAt}
 use Rattle.conflict_deps.proofs.Parts.{parts_of}
 use Rattle.dataflow.specs.Problems.{all_below, posed_context, posed_rows, top}
 use Rattle.dataflow.specs.Sources.{writer_end, reader_end, writer_side, reader_side, IsCandidate}
-use Rattle.dataflow.specs.WriterRuns.{candidates_of, fitting, solve_between, solve_run, sourced, turned_back}
-use Rattle.dataflow.specs.WriterRuns.{posed_run, read_variables, turned_tree, turns_in, writers_run}
-use Rattle.dataflow.proofs.AccessWriters.{Laws}
+use Rattle.dataflow.specs.WriterRuns.{candidates_of, fitting, solve_between, solve_run, sourced, turned_back, posed_run}
+use Rattle.dataflow.specs.WriterRuns.{read_variables, turned_tree, turns_in, writers_run}
 use Rattle.dataflow.proofs.CandidateSolutions.{Reads, context_up, in_statements, reader_slot, up_bounded, writer_slot}
 use Rattle.dataflow.proofs.Fits.{fitting_is, named_within}
 use Rattle.dataflow.proofs.JoinedRuns.{run_keeps}
-use Rattle.dataflow.proofs.ResolvedWriters.{candidate_of, candidate_solved, context-speaks, posed-speaks}
+use Rattle.dataflow.proofs.ResolvedWriters.{AccessAt, candidate_of, candidate_solved, context-speaks, posed-speaks}
 use Rattle.dataflow.proofs.ResolvedWriters.{solved_of, visit_turns}
 
 -- a minimum turned back binds the same
@@ -60,19 +56,14 @@ turns_up (x ∷ xs) all = (
 -- a solved candidate binds no negative quotient on the way of a walked instance of the reader
 candidate_up : (way : Way) (program : Program) (params : List ℤ) (j : ℕ) (w : Visit) (access : ℕ) (c : Cell)
     (budget : ℕ) (dep : Dependence) (tree : Tree)
-    → IsKernelModel (model_of program) → length params ≡ length program.parameters
-    → All (λ x. (pos 0 ≤ℤ x) × (x ≤ℤ pos 65536)) params
-    → ((k : ℕ) (u : Visit) → slice_get (walk_of program params) k ≡ Some u
-    → All (λ x. (pos 0 ≤ℤ x) × (x <ℤ pos (2 ^ 46))) u.turns)
-    → ((t : Modelled) → In t (model_of program).statements → w.number ≡ t.number
-    → (length w.turns ≡ t.domain.dimensions) × Satisfies t.domain (w.turns ++ params))
-    → TouchesAt program params j w access c → IsCandidate way program w access dep
+    → AccessAt program params j w access c → IsCandidate way program w access dep
     → solve_run way (model_of program) budget dep ≡ Ok tree → BindsUp tree (params ++ w.turns)
 unfolding solve_run
-candidate_up way program params j w access c budget dep tree model_is count bounds small inside touches cand run =
+candidate_up way program params j w access c budget dep tree at cand run =
+    let count = at.count in
     let model = model_of program in
     let m = length program.parameters in
-    let p = parts_of model dep model_is cand.among in
+    let p = parts_of model dep at.model cand.among in
     let s = (writer_side way p.from p.to).statement in
     let t = (reader_side way p.from p.to).statement in
     let d = s.domain.dimensions in
@@ -82,15 +73,15 @@ candidate_up way program params j w access c budget dep tree model_is count boun
     (sym (ap₂ (solve_between way m budget dep) (writer_slot way program dep p) (reader_slot way program dep p)) ∙ run) in
     let slot : slice_get model.statements w.number ≡ Some t = subst
     (λ (k : ℕ). slice_get model.statements k ≡ Some t) cand.access.statement (reader_slot way program dep p) in
-    let dims = inside t (in_statements way program dep p) (sym (model_is.places w.number t slot)) in
-    let up = up_bounded (pos 65536) params bounds in
+    let dims = at.inside t (in_statements way program dep p) (sym (at.model.places w.number t slot)) in
+    let up = up_bounded (pos 65536) params at.bounds in
     let reads : Reads params w.turns t = record { size = dims.0; holds = dims.1; up = up } in
     let long : length point ≡ n = (let a = length-append params w.turns in let b = dims.0 in omega arith) in
     let above : NotNegative (row_values (posed_context t m) point) = subst
-    (λ (i : ℕ). NotNegative (row_values (posed_context t i) point)) count (context_up params w.turns t reads bounds) in
+    (λ (i : ℕ). NotNegative (row_values (posed_context t i) point)) count (context_up params w.turns t reads at.bounds) in
     let least = lexmin-up budget d n (posed_rows way s t m dep) (posed_context t m) solved.minimum solved.left
     (posed-speaks way s t m dep) (context-speaks t m) solved.run point long
-    (not_negative-append params w.turns up (turns_up w.turns (small j w touches.place))) above in
+    (not_negative-append params w.turns up (turns_up w.turns (at.small j w at.touches.place))) above in
     subst (λ (u : Tree). BindsUp u point) (sym solved.is)
     (named_up (source_of (writer_end way dep).statement s.loops) solved.back point
     (back_up way d solved.minimum solved.back point solved.turned least))
@@ -98,29 +89,23 @@ candidate_up way program params j w access c budget dep tree model_is count boun
 -- nor does the quast of an access that is told
 pub resolved_up : (way : Way) (program : Program) (params : List ℤ) (j : ℕ) (w : Visit) (access : ℕ) (c : Cell)
     (budget : ℕ) (u : Tree)
-    → Laws program params → IsKernelModel (model_of program) → length params ≡ length program.parameters
-    → All (λ x. (pos 0 ≤ℤ x) × (x ≤ℤ pos 65536)) params
-    → ((k : ℕ) (v : Visit) → slice_get (walk_of program params) k ≡ Some v
-    → All (λ x. (pos 0 ≤ℤ x) × (x <ℤ pos (2 ^ 46))) v.turns)
-    → ((t : Modelled) → In t (model_of program).statements → w.number ≡ t.number
-    → (length w.turns ≡ t.domain.dimensions) × Satisfies t.domain (w.turns ++ params))
-    → TouchesAt program params j w access c → writers_run way (model_of program) budget w.number access ≡ Ok u
+    → AccessAt program params j w access c → writers_run way (model_of program) budget w.number access ≡ Ok u
     → BindsUp u (params ++ w.turns)
-resolved_up way program params j w access c budget u laws model_is count bounds small inside touches run =
+resolved_up way program params j w access c budget u at run =
+    let count = at.count in
     let model = model_of program in
     let n = length program.parameters + turns_in (slice_get model.statements w.number) in
     let point = params ++ w.turns in
     let long : length point ≡ n =
-    (let a = length-append params w.turns in let b = visit_turns program params laws j w touches.place in omega
+    (let a = length-append params w.turns in let b = visit_turns program params at.laws j w at.touches.place in omega
     (arith, a, b, count)) in
     (run_keeps way (λ t. Speaks n t × BindsUp t point) n (solve_run way model budget)
     (λ a b x y. (join-speaks way n a b x.0 y.0, join-up way n a b point long x.0 x.1 y.1))
     (candidates_of way model w.number access) initial u
     (λ d t h is.
     let cand = candidate_of way program w access d h in (
-      (candidate_solved way program params j w access c budget d t laws model_is count bounds small inside touches cand
-          is).speaks,
-      candidate_up way program params j w access c budget d t model_is count bounds small inside touches cand is,
+      (candidate_solved way program params j w access c budget d t at cand is).speaks,
+      candidate_up way program params j w access c budget d t at cand is,
     ))
     (tt, tt) (omega arith) run).0.1
 

@@ -5,7 +5,7 @@ use Rattle.scop_syntax.proofs.Common.{ap, ap₂, subst, ◌∙◌, arith, length
 use Rattle.scop_syntax.proofs.Common.{if◌then◌else◌, eqb-true, eq-eqb, All-nil, All-cons, Affine, form_of, value_of}
 use Rattle.scop_syntax.proofs.Common.{values_of, composed, zeros, NotNegative, floor, length-set, length-map}
 use Rattle.scop_syntax.proofs.Common.{length-zeros, length-multiples, get_map, Program, In, Placed, statements_of}
-use Rattle.scop_syntax.proofs.Common.{in_from_place, place_of, Cell, Visit, walk_of}
+use Rattle.scop_syntax.proofs.Common.{in_from_place, place_of, Cell, HasParameters, Visit, walk_of}
 use Rattle.whole_numbers.proofs.Values.{length-combination}
 use Rattle.wide_math.specs.declared.Wide.{Wide}
 use Rattle.tableau_rows.specs.Problem.{problem_of, row_values, Speaks as RowsSpeak}
@@ -30,17 +30,18 @@ use Rattle.dataflow.specs.Places.{Names}
 use Rattle.dataflow.specs.Runs.{or_initial}
 use Rattle.dataflow.proofs.JoinedRuns.{run_joined}
 use Rattle.dataflow.proofs.AccessWriters.{Laws, wanted_is_found}
-use Rattle.dataflow.proofs.CandidateSolutions.{writer_slot, reader_slot, minimum_wanted}
-use Rattle.dataflow.proofs.CandidateSolutions.{in_statements, up_bounded}
+use Rattle.dataflow.proofs.CandidateSolutions.{writer_slot, reader_slot, minimum_wanted, in_statements, up_bounded}
 use Rattle.iteration_domains.specs.Rows.{variable, variables}
 use Rattle.iteration_domains.specs.Model.{Modelled, model_of, modelled}
 use Rattle.iteration_domains.specs.Dependence.{Dependence}
+use Rattle.iteration_domains.proofs.Instances.{instance_is_point}
 use Rattle.iteration_domains.proofs.RowLaws.{goes_on_last}
+use Rattle.iteration_domains.proofs.TreeStatements.{one_model}
 use Rattle.conflict_deps.specs.Conflicts.{conflicts_of}
 use Rattle.conflict_deps.specs.Pairs.{TouchesAt}
 use Rattle.dataflow.specs.Candidates.{IsWanted}
-use Rattle.dataflow.specs.Sources.{writer_end, reader_end, wanted_writer, IsCandidate, IsSolved, IsWritePoint}
-use Rattle.dataflow.specs.Sources.{loops_in, writer_side, reader_side}
+use Rattle.dataflow.specs.Sources.{writer_end, reader_end, wanted_writer, IsCandidate, IsSolved, IsWritePoint, loops_in}
+use Rattle.dataflow.specs.Sources.{writer_side, reader_side}
 use Rattle.dataflow.specs.Problems.{top, below, all_below, turned, moved_pair, moved, moved_variables, flat}
 use Rattle.dataflow.specs.Problems.{own_equalities_of, own_rows_of, posed_rows, posed_context, turned_leaf}
 use Rattle.dataflow.specs.WriterRuns.{leaves_fit, fitting, sourced, turned_back, turned_tree, solve_between, solve_run}
@@ -312,25 +313,51 @@ visit_turns program params laws j w got =
     subst (λ (u : Visit). length u.turns ≡ turns_in (slice_get (model_of program).statements u.number)) (sym f.4)
     (e ∙ sym (ap turns_in s))
 
+-- an access of a walked instance of a kernel, and what laws say there
+pub record AccessAt (program : Program) (params : List ℤ) (j : ℕ) (w : Visit) (access : ℕ) (c : Cell) : Type 0 where
+  pub laws : Laws program params
+  pub model : IsKernelModel (model_of program)
+  pub count : length params ≡ length program.parameters
+  pub bounds : All (λ x. (pos 0 ≤ℤ x) × (x ≤ℤ pos 65536)) params
+  pub small : (k : ℕ) (u : Visit) → slice_get (walk_of program params) k ≡ Some u
+      → All (λ x. (pos 0 ≤ℤ x) × (x <ℤ pos (2 ^ 46))) u.turns
+  pub inside : (t : Modelled) → In t (model_of program).statements → w.number ≡ t.number
+      → (length w.turns ≡ t.domain.dimensions) × Satisfies t.domain (w.turns ++ params)
+  pub touches : TouchesAt program params j w access c
+
+-- these are facts at each access of its walk
+pub access_at : (program : Program) (params : List ℤ) (j : ℕ) (w : Visit) (access : ℕ) (c : Cell)
+    → HasParameters program params → Laws program params
+    → ((v : Visit) → In v (walk_of program params) → All (λ x. (pos 0 ≤ℤ x) × (x <ℤ pos (2 ^ 46))) v.turns)
+    → TouchesAt program params j w access c → AccessAt program params j w access c
+access_at program params j w access c has laws small touches =
+    record {
+      laws = laws;
+      model = one_model program has.kernel laws.places.walk.same laws.number;
+      count = has.count;
+      bounds = has.parameters;
+      small = λ k u got. small u (in_from_place (walk_of program params) k u got);
+      inside = λ t among own. instance_is_point program params t w laws.places.walk has.count (record {
+        statement = among;
+        walked = in_from_place (walk_of program params) j w touches.place;
+        number = own;
+      });
+      touches = touches;
+    }
+
 -- a candidate that the run solves is solved
 pub candidate_solved : (way : Way) (program : Program) (params : List ℤ) (j : ℕ) (w : Visit) (access : ℕ) (c : Cell)
     (budget : ℕ) (dep : Dependence) (tree : Tree)
-    → Laws program params → IsKernelModel (model_of program) → length params ≡ length program.parameters
-    → All (λ x. (pos 0 ≤ℤ x) × (x ≤ℤ pos 65536)) params
-    → ((k : ℕ) (u : Visit) → slice_get (walk_of program params) k ≡ Some u
-    → All (λ x. (pos 0 ≤ℤ x) × (x <ℤ pos (2 ^ 46))) u.turns)
-    → ((t : Modelled) → In t (model_of program).statements → w.number ≡ t.number
-    → (length w.turns ≡ t.domain.dimensions) × Satisfies t.domain (w.turns ++ params))
-    → TouchesAt program params j w access c → IsCandidate way program w access dep
+    → AccessAt program params j w access c → IsCandidate way program w access dep
     → solve_run way (model_of program) budget dep ≡ Ok tree
     → IsSolved way program params w (length program.parameters + turns_in
     (slice_get (model_of program).statements w.number)) (params ++ w.turns) dep tree
 unfolding solve_run
-candidate_solved way program params j w access c budget dep tree laws model_is count bounds small inside touches cand
-    run =
+candidate_solved way program params j w access c budget dep tree at cand run =
+    let count = at.count in
     let model = model_of program in
     let m = length program.parameters in
-    let p = parts_of model dep model_is cand.among in
+    let p = parts_of model dep at.model cand.among in
     let s = (writer_side way p.from p.to).statement in
     let t = (reader_side way p.from p.to).statement in
     let d = s.domain.dimensions in
@@ -350,8 +377,8 @@ candidate_solved way program params j w access c budget dep tree laws model_is c
     let same : n ≡ m + turns_in (slice_get model.statements w.number) = ap (λ (o : Option Modelled). m + turns_in o)
     (sym slot) in
     let number = (writer_end way dep).statement in
-    let number_is : w.number ≡ t.number = sym (model_is.places w.number t slot) in
-    let dims = inside t (in_statements way program dep p) number_is in
+    let number_is : w.number ≡ t.number = sym (at.model.places w.number t slot) in
+    let dims = at.inside t (in_statements way program dep p) number_is in
     let long : length (params ++ w.turns) ≡ n =
     (let a = length-append params w.turns in let b = dims.0 in omega arith) in
     let back = solved.back in
@@ -360,8 +387,8 @@ candidate_solved way program params j w access c budget dep tree laws model_is c
     ∙ (named-value (source_of number s.loops) back (params ++ w.turns)
     ∙ back_value way number s.loops d q back (params ++ w.turns) forms
     (subst (λ (i : ℕ). Speaks i q) (sym long) speaks) solved.turned) in
-    let wanted = minimum_wanted way program params j w access c dep p number s.loops q laws count bounds small touches
-    cand dims
+    let wanted = minimum_wanted way program params j w access c dep p number s.loops q at.laws count at.bounds at.small
+    at.touches cand dims
     (λ z size up above.
     subst (λ (i : ℕ). IsAnswer (problem_of d (posed_rows way s t i dep)) z (value q z)) (sym count)
     (lexmin-right budget d n (posed_rows way s t m dep) (posed_context t m) q solved.left rows context solved.run z
@@ -380,30 +407,24 @@ candidate_solved way program params j w access c budget dep tree laws model_is c
 -- the quast of a resolved access names the wanted writer at each walked instance
 pub resolved_wanted : (way : Way) (program : Program) (params : List ℤ) (j : ℕ) (w : Visit) (access : ℕ) (c : Cell)
     (budget : ℕ) (u : Tree)
-    → Laws program params → IsKernelModel (model_of program) → length params ≡ length program.parameters
-    → All (λ x. (pos 0 ≤ℤ x) × (x ≤ℤ pos 65536)) params
-    → ((k : ℕ) (v : Visit) → slice_get (walk_of program params) k ≡ Some v
-    → All (λ x. (pos 0 ≤ℤ x) × (x <ℤ pos (2 ^ 46))) v.turns)
-    → ((t : Modelled) → In t (model_of program).statements → w.number ≡ t.number
-    → (length w.turns ≡ t.domain.dimensions) × Satisfies t.domain (w.turns ++ params))
-    → TouchesAt program params j w access c → writers_run way (model_of program) budget w.number access ≡ Ok u
+    → AccessAt program params j w access c → writers_run way (model_of program) budget w.number access ≡ Ok u
     → Names (walk_of program params) (value u (params ++ w.turns)) (wanted_writer way (walk_of program params) j c)
-resolved_wanted way program params j w access c budget u laws model_is count bounds small inside touches run =
+resolved_wanted way program params j w access c budget u at run =
+    let count = at.count in
     let model = model_of program in
     let n = length program.parameters + turns_in (slice_get model.statements w.number) in
     let deps = candidates_of way model w.number access in
     let solve = solve_run way model budget in
     let r = run_joined way n solve deps initial u run in
     let long : length (params ++ w.turns) ≡ n =
-    (let a = length-append params w.turns in let b = visit_turns program params laws j w touches.place in omega
+    (let a = length-append params w.turns in let b = visit_turns program params at.laws j w at.touches.place in omega
     arith) in
     ap_names (sym r.0)
-    (wanted_is_found way program params j w access c n (params ++ w.turns) (λ d. or_initial (solve d)) deps laws count
-    (up_bounded (pos 65536) params bounds) touches long
+    (wanted_is_found way program params j w access c n (params ++ w.turns) (λ d. or_initial (solve d)) deps at.laws count
+    (up_bounded (pos 65536) params at.bounds) at.touches long
     (λ d h. of_candidate way program w access d h) (λ d h. candidate_of way program w access d h)
     (λ d h. candidate_solved way program params j w access c budget d
-    (or_initial (solve d)) laws model_is count bounds small inside touches (candidate_of way program w access d h)
-    (r.1 d h)))
+    (or_initial (solve d)) at (candidate_of way program w access d h) (r.1 d h)))
   where
     ap_names : {x y : Tree} → x ≡ y → Names (walk_of program params) (value x (params ++ w.turns))
         (wanted_writer way (walk_of program params) j c)

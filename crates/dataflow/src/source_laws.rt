@@ -31,7 +31,6 @@ ghost use Rattle.dataflow.specs.Told.{AreTold};
 ghost use Rattle.dataflow.specs.WriterRuns.{writers_run};
 ghost use Rattle.dataflow.specs.declared.source.ReadSource.{ReadSource};
 
-use iteration_domains::domain_laws::domains_hold_the_instances;
 use scop_syntax::limit_laws::values_lie_within_45_bits;
 use scop_syntax::walk_laws::{
     instances_are_those_of_statements, statements_are_numbered, walks_are_in_order,
@@ -83,7 +82,6 @@ pub fn minima_are_the_writers()
     statements_are_numbered();
     walks_are_in_order();
     values_lie_within_45_bits();
-    domains_hold_the_instances();
 }
 
 /// Where the run over an access's candidates ends well, its quast names at each walked instance the wanted writer of the
@@ -100,7 +98,6 @@ pub fn resolved_reads_have_their_writers()
     statements_are_numbered();
     walks_are_in_order();
     values_lie_within_45_bits();
-    domains_hold_the_instances();
 }
 
 /// What the sources of a kernel's reads are made of: each read has one; a quast speaks of the parameters, the reader's

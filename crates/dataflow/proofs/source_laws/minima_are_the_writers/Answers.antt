@@ -1,4 +1,5 @@
 use Rattle.scop_syntax.proofs.Common.{sym, walk_of, in_from_place}
+use Rattle.iteration_domains.proofs.Instances.{instance_is_point}
 use Rattle.dataflow.specs.Sources.{reader_side}
 use Rattle.dataflow.proofs.AccessWriters.{laws_of, small_turns}
 use Rattle.dataflow.proofs.CandidateSolutions.{minimum_wanted, in_statements}
@@ -15,7 +16,7 @@ returns c = λ way program params j w b cell dep p number loops t has touches ca
     (λ k u got. small_turns program params has laws c.values_lie_within_45_bits.ensures.turns u
     (in_from_place (walk_of program params) k u got))
     touches cand
-    (c.domains_hold_the_instances.ensures.instances program params (reader_side way p.from p.to).statement w has.count
+    (instance_is_point program params (reader_side way p.from p.to).statement w laws.places.walk has.count
     (record {
       statement = in_statements way program dep p;
       walked = in_from_place (walk_of program params) j w touches.place;

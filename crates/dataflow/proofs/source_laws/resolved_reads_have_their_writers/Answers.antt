@@ -1,7 +1,5 @@
-use Rattle.scop_syntax.proofs.Common.{walk_of, in_from_place}
-use Rattle.iteration_domains.proofs.TreeStatements.{one_model}
 use Rattle.dataflow.proofs.AccessWriters.{laws_of, small_turns}
-use Rattle.dataflow.proofs.ResolvedWriters.{resolved_wanted}
+use Rattle.dataflow.proofs.ResolvedWriters.{access_at, resolved_wanted}
 use Rattle.dataflow.proofs.source_laws.resolved_reads_have_their_writers.Goals as goal
 
 pub returns : goal.returns
@@ -11,11 +9,6 @@ returns c = λ way program params j w access cell budget u has touches run.
     let ordered = c.walks_are_in_order.ensures in
     let laws = laws_of program params has.kernel has.count walked.found walked.stands walked.turns numbered.number
     numbered.same numbered.loops numbered.placed ordered.order ordered.once in
-    resolved_wanted way program params j w access cell budget u laws
-    (one_model program has.kernel (numbered.same program) (numbered.number program)) has.count has.parameters
-    (λ k v got. small_turns program params has laws c.values_lie_within_45_bits.ensures.turns v
-    (in_from_place (walk_of program params) k v got))
-    (λ t among own.
-    c.domains_hold_the_instances.ensures.instances program params t w has.count
-    (record { statement = among; walked = in_from_place (walk_of program params) j w touches.place; number = own }))
-    touches run
+    resolved_wanted way program params j w access cell budget u
+    (access_at program params j w access cell has laws
+    (small_turns program params has laws c.values_lie_within_45_bits.ensures.turns) touches) run
