@@ -5,7 +5,7 @@ use Rattle.scop_syntax.proofs.Common.{nat_lt, length-map, Affine, value_of, comp
 use Rattle.scop_syntax.proofs.Common.{Visit, walk_of, common, Before, IsAccess, IsPlaced, ranks_of, Placed}
 use Rattle.scop_syntax.proofs.Common.{statements_of, loops_in, point_of, AllHold, Runs, visit_of, accesses, values}
 use Rattle.scop_syntax.proofs.Common.{Cell, Conflict, PlacesConflict, conflict_cell, is_marked, in_from_place, place_of}
-use Rattle.scop_syntax.proofs.Common.{all_in}
+use Rattle.scop_syntax.proofs.Common.{all_in, IsKernel, Scope}
 use Rattle.std.proofs.lemmas.List.{append_assoc}
 use Rattle.integer_sets.specs.Points.{Satisfies}
 use Rattle.iteration_domains.specs.Rows.{variables, variables_of_statement, point_forms, rows_of}
@@ -39,6 +39,34 @@ pub record KernelLaws (program : Program) (params : List ℤ) : Type 0 where
       → In (visit_of p params xs) (walk_of program params)
   pub placed : (p : Placed) → In p (statements_of program)
       → IsPlaced (ranks_of program) (length program.parameters) p
+
+-- both from what laws say of all programs
+pub place_laws : (program : Program) (params : List ℤ)
+    → ((q : Program) (ps : List ℤ) (v : Visit) → In v (walk_of q ps)
+    → (p : Placed) × (xs : List ℤ) × In p (statements_of q) × Runs p.scopes ps xs × (v ≡ visit_of p ps xs))
+    → ((scopes : List Scope) (ps xs : List ℤ) → Runs scopes ps xs → length xs ≡ loops_in scopes)
+    → ((q : Program) (p r : Placed) → In p (statements_of q) → In r (statements_of q) → p.number ≡ r.number → p ≡ r)
+    → ((q : Program) (ps : List ℤ) (i j : ℕ) (v w : Visit) → slice_get (walk_of q ps) i ≡ Some v
+    → slice_get (walk_of q ps) j ≡ Some w → (i < j) ↔ Before v w)
+    → ((q : Program) (p : Placed) → In p (statements_of q) → length p.loops ≡ loops_in p.scopes)
+    → PlaceLaws program params
+place_laws program params found turns same order loops =
+    record {
+      walk = record { found = found program params; turns = turns; same = same program };
+      order = order program params;
+      loops = loops program;
+    }
+
+pub kernel_laws : (program : Program) (params : List ℤ) → IsKernel program → length params ≡ length program.parameters
+    → ((q : Program) (ps : List ℤ) (p : Placed) (xs : List ℤ) → IsKernel q → length ps ≡ length q.parameters
+    → In p (statements_of q) → Runs p.scopes ps xs → In (visit_of p ps xs) (walk_of q ps))
+    → ((q : Program) (p : Placed) → IsKernel q → In p (statements_of q)
+    → IsPlaced (ranks_of q) (length q.parameters) p) → KernelLaws program params
+kernel_laws program params is count stands placed =
+    record {
+      stands = λ p xs h runs. stands program params p xs is count h runs;
+      placed = λ p h. placed program p is h;
+    }
 
 -- where the parts of a pair's point stand
 record Parts (m d e : ℕ) (params xs ys : List ℤ) : Type 0 where

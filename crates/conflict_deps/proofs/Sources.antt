@@ -35,6 +35,32 @@ writers_are_points program params k j u w b c places count up reads writer =
     places refl count up in
     (r.0, r.1, r.2, r.3)
 
+-- of a conflict's ends one is an access: then the other writes the cell that the access touches, with its access 0
+same_end : (program : Program) (params : List ℤ) (i j : ℕ) (v w u : Visit) (a b n : ℕ) (f g : Access) (c : Cell)
+    → ((i k : ℕ) (u v : Visit) → slice_get (walk_of program params) i ≡ Some u
+    → slice_get (walk_of program params) k ≡ Some v → u.number ≡ v.number → u.turns ≡ v.turns → i ≡ k)
+    → TouchesAt program params j w b c → slice_get (walk_of program params) i ≡ Some v
+    → v.number ≡ w.number → v.turns ≡ w.turns → n ≡ 0 → a ≡ b
+    → slice_get (accesses u.body) n ≡ Some f → slice_get (accesses v.body) a ≡ Some g
+    → cell_of f u.point ≡ cell_of g v.point → (i ≡ j) × (written u ≡ c)
+same_end program params i j v w u a b n f g c once reads there number turns zeroth bth is_first is_second cell =
+    let same : i ≡ j = once i j v w there reads.place number turns in
+    let at_j : slice_get (walk_of program params) j ≡ Some v =
+    subst (λ (k : ℕ). slice_get (walk_of program params) k ≡ Some v) same there in
+    let here = reads.place in
+    let visit : v ≡ w = cc in
+    let first0 : slice_get (accesses u.body) 0 ≡ Some f =
+    ap (λ (k : ℕ). slice_get (accesses u.body) k) (sym zeroth) ∙ is_first in
+    let first : u.body.place ≡ f = cc in
+    let second0 : slice_get (accesses w.body) b ≡ Some g =
+    ap₂ (λ (z : Visit) (k : ℕ). slice_get (accesses z.body) k) (sym visit) (sym bth) ∙ is_second in
+    let is_b = reads.is_access in
+    let second : g ≡ reads.access = cc in (
+      same,
+      ap (λ (h : Access). cell_of h u.point) first
+          ∙ (cell ∙ (ap₂ (λ (h : Access) (z : Visit). cell_of h z.point) second visit ∙ reads.cell)),
+    )
+
 pub points_are_writers : (program : Program) (params : List ℤ) (j : ℕ) (w : Visit) (b : ℕ) (c : Cell) (dep : Dependence)
     (xs : List ℤ) → PlaceLaws program params → KernelLaws program params
     → ((i k : ℕ) (u v : Visit) → slice_get (walk_of program params) i ≡ Some u
@@ -45,35 +71,19 @@ pub points_are_writers : (program : Program) (params : List ℤ) (j : ℕ) (w : 
     → (k : ℕ) × (u : Visit) × WritesBefore program params k j u c × IsEnd dep.source u 0 × (u.turns ≡ xs)
 points_are_writers program params j w b c dep xs places kernel once count reads point write target =
     let r = points_conflict program params [] dep xs w.turns places kernel count point.among point in
-    let k = r.0 in
-    let j' = r.1 in
     let pair = r.2 in
-    let u = pair.conflict.earlier in
-    let w' = pair.conflict.later in
-    let touch = pair.conflict.conflict in
-    let same : j' ≡ j = once j' j w' w pair.conflict.is_later reads.place
-    (sym pair.target.statement ∙ target.statement) pair.target_turns in
-    let there : slice_get (walk_of program params) j ≡ Some w' =
-    subst (λ (n : ℕ). slice_get (walk_of program params) n ≡ Some w') same pair.conflict.is_later in
-    let here = reads.place in
-    let visit : w' ≡ w = cc in
-    let zeroth : pair.conflict.first ≡ 0 = sym pair.source.access ∙ write in
-    let bth : pair.conflict.second ≡ b = sym pair.target.access ∙ target.access in
-    let first0 : slice_get (accesses u.body) 0 ≡ Some touch.first =
-    ap (λ (n : ℕ). slice_get (accesses u.body) n) (sym zeroth) ∙ touch.is_first in
-    let first : u.body.place ≡ touch.first = cc in
-    let second0 : slice_get (accesses w.body) b ≡ Some touch.second =
-    ap₂ (λ (z : Visit) (n : ℕ). slice_get (accesses z.body) n) (sym visit) (sym bth) ∙ touch.is_second in
-    let is_b = reads.is_access in
-    let second : touch.second ≡ reads.access = cc in
-    let cell : written u ≡ c = ap (λ (f : Access). cell_of f u.point) first
-    ∙ (touch.cell ∙ (ap₂ (λ (f : Access) (z : Visit). cell_of f z.point) second visit ∙ reads.cell)) in (
-      k,
-      u,
+    let both = pair.conflict in
+    let touch = both.conflict in
+    let end = same_end program params r.1 j both.later w both.earlier both.second b both.first touch.first touch.second c
+    once reads both.is_later (sym pair.target.statement ∙ target.statement) pair.target_turns
+    (sym pair.source.access ∙ write) (sym pair.target.access ∙ target.access) touch.is_first touch.is_second
+    touch.cell in (
+      r.0,
+      both.earlier,
       record {
-        earlier = subst (λ (n : ℕ). k < n) same pair.conflict.order;
-        place = pair.conflict.is_earlier;
-        writes = cell;
+        earlier = subst (λ (n : ℕ). r.0 < n) end.0 both.order;
+        place = both.is_earlier;
+        writes = end.1;
       },
       record { statement = pair.source.statement; access = write },
       pair.source_turns,
@@ -115,35 +125,19 @@ pub points_are_writers_behind : (program : Program) (params : List ℤ) (j : ℕ
     → (k : ℕ) × (u : Visit) × WritesBehind program params k j u c × IsEnd dep.target u 0 × (u.turns ≡ xs)
 points_are_writers_behind program params j w b c dep xs places kernel once count reads point source write =
     let r = points_conflict program params [] dep w.turns xs places kernel count point.among point in
-    let j' = r.0 in
-    let k = r.1 in
     let pair = r.2 in
-    let w' = pair.conflict.earlier in
-    let u = pair.conflict.later in
-    let touch = pair.conflict.conflict in
-    let same : j' ≡ j = once j' j w' w pair.conflict.is_earlier reads.place
-    (sym pair.source.statement ∙ source.statement) pair.source_turns in
-    let there : slice_get (walk_of program params) j ≡ Some w' =
-    subst (λ (n : ℕ). slice_get (walk_of program params) n ≡ Some w') same pair.conflict.is_earlier in
-    let here = reads.place in
-    let visit : w' ≡ w = cc in
-    let zeroth : pair.conflict.second ≡ 0 = sym pair.target.access ∙ write in
-    let bth : pair.conflict.first ≡ b = sym pair.source.access ∙ source.access in
-    let second0 : slice_get (accesses u.body) 0 ≡ Some touch.second =
-    ap (λ (n : ℕ). slice_get (accesses u.body) n) (sym zeroth) ∙ touch.is_second in
-    let second : u.body.place ≡ touch.second = cc in
-    let first0 : slice_get (accesses w.body) b ≡ Some touch.first =
-    ap₂ (λ (z : Visit) (n : ℕ). slice_get (accesses z.body) n) (sym visit) (sym bth) ∙ touch.is_first in
-    let is_b = reads.is_access in
-    let first : touch.first ≡ reads.access = cc in
-    let cell : written u ≡ c = ap (λ (f : Access). cell_of f u.point) second
-    ∙ (sym touch.cell ∙ (ap₂ (λ (f : Access) (z : Visit). cell_of f z.point) first visit ∙ reads.cell)) in (
-      k,
-      u,
+    let both = pair.conflict in
+    let touch = both.conflict in
+    let end = same_end program params r.0 j both.earlier w both.later both.first b both.second touch.second touch.first c
+    once reads both.is_earlier (sym pair.source.statement ∙ source.statement) pair.source_turns
+    (sym pair.target.access ∙ write) (sym pair.source.access ∙ source.access) touch.is_second touch.is_first
+    (sym touch.cell) in (
+      r.1,
+      both.later,
       record {
-        later = subst (λ (n : ℕ). n < k) same pair.conflict.order;
-        place = pair.conflict.is_later;
-        writes = cell;
+        later = subst (λ (n : ℕ). n < r.1) end.0 both.order;
+        place = both.is_later;
+        writes = end.1;
       },
       record { statement = pair.target.statement; access = write },
       pair.target_turns,
