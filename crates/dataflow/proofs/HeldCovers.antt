@@ -2,9 +2,9 @@
 use Rattle.scop_syntax.proofs.Common.{◌≡◌, ℕ, suc, ◌+◌, Bool, true, false, ℤ, pos, ◌≤ℤ◌, List, [], ◌∷◌, ◌++◌, length}
 use Rattle.scop_syntax.proofs.Common.{All, Option, Some, Result, Ok, Err, inl, inr, sym, ap, subst, ◌∙◌, refl, arith}
 use Rattle.scop_syntax.proofs.Common.{◌↔◌, slice_get, nat_eq, if◌then◌else◌, option_and_then, option_map, Contains}
-use Rattle.scop_syntax.proofs.Common.{flat_map, eq-eqb, eqb-true, length-map, All-cons, All-nil, Affine, value_of}
-use Rattle.scop_syntax.proofs.Common.{values_of, NotNegative, Cell, accesses, cell_at, cell_of, written, In, is_marked}
-use Rattle.scop_syntax.proofs.Common.{Access, Program, Visit, instance, walk_of, last_writer, next_writer, in_back}
+use Rattle.scop_syntax.proofs.Common.{eq-eqb, eqb-true, length-map, All-cons, All-nil, Affine, value_of, values_of}
+use Rattle.scop_syntax.proofs.Common.{NotNegative, Cell, accesses, cell_at, cell_of, written, In, is_marked, Access}
+use Rattle.scop_syntax.proofs.Common.{Program, Visit, instance, walk_of, last_writer, next_writer, in_back}
 use Rattle.scop_syntax.proofs.Common.{in_from_place, in_front, member_at, last_is, next_is}
 use Rattle.std.proofs.lemmas.Option.{option_and_then_some}
 use Rattle.integer_sets.specs.Points.{Satisfies}
@@ -24,6 +24,7 @@ use Rattle.iteration_domains.specs.Related.{InRange, Relates}
 use Rattle.iteration_domains.specs.Sizes.{IsKernelModel}
 use Rattle.conflict_deps.specs.Conflicts.{Side, loops_of, sides_in, conflicts_of}
 use Rattle.conflict_deps.specs.Pairs.{IsEnd, TouchesAt}
+use Rattle.iteration_domains.proofs.OutsideLaws.{in_flat_map}
 use Rattle.conflict_deps.proofs.Parts.{parts_of}
 use Rattle.conflict_deps.proofs.RelatedPairs.{none_bound, pair_of}
 use Rattle.conflict_deps.proofs.Sides.{in_unless}
@@ -31,7 +32,8 @@ use Rattle.dataflow.specs.Candidates.{Writes}
 use Rattle.dataflow.specs.Covering.{covers_at, covers_of, is_in_role, next_deps, role_deps, roles_at, told_deps}
 use Rattle.dataflow.specs.LeafRows.{path_rows, turn_equalities}
 use Rattle.dataflow.specs.Leaves.{deps_of_leaf, deps_with, first_of, leaf_dep, leaf_deps, leaf_layout, pair_dep}
-use Rattle.dataflow.specs.Leaves.{pair_equalities, pair_rows, pair_system, second_of, writer_begins, writer_of, written_of}
+use Rattle.dataflow.specs.Leaves.{pair_equalities, pair_rows, pair_system, second_of, writer_begins, writer_of}
+use Rattle.dataflow.specs.Leaves.{written_of}
 use Rattle.dataflow.specs.Places.{Names}
 use Rattle.dataflow.specs.Runs.{Halt}
 use Rattle.dataflow.specs.Sources.{IsWritePoint, reader_end, wanted_writer, writer_end}
@@ -40,12 +42,6 @@ use Rattle.dataflow.proofs.AccessSides.{CoverLaws, IsSideOf, has_side, is_side, 
 use Rattle.dataflow.proofs.LeafPairs.{IsLeafPair, Up, Zero, pair_point, pair_up, pair_zero}
 use Rattle.dataflow.proofs.LeafPoints.{path_holds, turns_hold}
 use Rattle.dataflow.proofs.ResolvedWriters.{in_chosen}
-
-pub in_flat : {A B : Type 0} (f : A → List B) (xs : List A) (x : A) (y : B) → In x xs → In y (f x)
-    → In y (flat_map f xs)
-in_flat f [] x y h g = absurd h
-in_flat f (z ∷ zs) x y (inl e) g = in_front y (f z) (flat_map f zs) (subst (λ u. In y (f u)) e g)
-in_flat f (z ∷ zs) x y (inr h) g = in_back y (f z) (flat_map f zs) (in_flat f zs x y h g)
 
 pub all_up : (qs : List ℤ) → NotNegative qs → All (λ z. pos 0 ≤ℤ z) qs
 all_up [] h = All-nil (λ (z : ℤ). pos 0 ≤ℤ z)
@@ -145,7 +141,7 @@ among_leaves : (way : Way) (model : KernelModel) (reader writer : Side) (t : Tre
     → Contains (live_paths t) p → writer_of model p.leaf.source ≡ Some writer
     → In (leaf_dep way model.parameters reader writer p) (leaf_deps way model reader t)
 among_leaves way model reader writer t p h named =
-    in_flat (deps_of_leaf way model reader) (live_paths t) p (leaf_dep way model.parameters reader writer p)
+    in_flat_map (deps_of_leaf way model reader) (live_paths t) p (leaf_dep way model.parameters reader writer p)
     (member_at (live_paths t) h.0 p (sym h.2) h.1)
     (subst (λ (o : Option Side). In (leaf_dep way model.parameters reader writer p)
     (deps_with way model.parameters reader p o)) (sym named) (inl refl))
@@ -424,7 +420,7 @@ covers_held program params budget marked laws i j c v w at_i at_j (inl (a, touch
     let m = some_pair Later program params budget j i a w v laws at_i met in
     let pair = m.4 in (
       pair.0,
-      in_flat (covers_at budget marked model) (sides_in model) m.0 pair.0 m.1
+      in_flat_map (covers_at budget marked model) (sides_in model) m.0 pair.0 m.1
           (in_unless (is_marked marked m.0.access.array) pair.0 (roles_at budget model m.0)
           (unmarked_there marked visits j a c met.cell touches met.at free m.0.access.array m.3)
           (in_front pair.0 (role_deps budget Later model m.0) (next_deps budget model m.0) pair.1)),
@@ -441,7 +437,7 @@ covers_held program params budget marked laws i j c v w at_i at_j (inr (r, touch
     subst (λ (b : Bool). In pair.0 (if b then [] else role_deps budget Earlier model m.0))
     (sym (is_read m.0.number r m.2)) pair.1 in (
       pair.0,
-      in_flat (covers_at budget marked model) (sides_in model) m.0 pair.0 m.1
+      in_flat_map (covers_at budget marked model) (sides_in model) m.0 pair.0 m.1
           (in_unless (is_marked marked m.0.access.array) pair.0 (roles_at budget model m.0)
           (unmarked_there marked visits i (suc r) c met.cell touches met.at free m.0.access.array m.3)
           (in_back pair.0 (role_deps budget Later model m.0) (next_deps budget model m.0) there)),

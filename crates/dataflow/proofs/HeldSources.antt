@@ -10,10 +10,11 @@ use Rattle.iteration_domains.specs.Model.{Modelled, KernelModel, model_of}
 use Rattle.iteration_domains.specs.Sizes.{IsKernelModel}
 use Rattle.conflict_deps.specs.Conflicts.{Side, sides_from, sides_in, sides_of}
 use Rattle.conflict_deps.proofs.Parts.{stands}
+use Rattle.iteration_domains.proofs.OutsideLaws.{in_flat_map}
 use Rattle.conflict_deps.proofs.Sides.{in_flat_map_from}
 use Rattle.dataflow.specs.Covering.{LiesBetween, told_deps}
-use Rattle.dataflow.specs.Flow.{AreLastTrees, IsResolved, behind_first, flow_from, flow_of, read_sides}
-use Rattle.dataflow.specs.Flow.{read_sides_in, tree_in}
+use Rattle.dataflow.specs.Flow.{AreLastTrees, IsResolved, behind_first, flow_from, flow_of, read_sides, read_sides_in}
+use Rattle.dataflow.specs.Flow.{tree_in}
 use Rattle.dataflow.specs.Leaves.{leaf_deps}
 use Rattle.dataflow.specs.ReadSources.{AreSources, reads_from, reads_in, reads_of}
 use Rattle.dataflow.specs.WriterRuns.{writers_run}
@@ -21,7 +22,7 @@ use Rattle.dataflow.specs.declared.source.ReadSource.{ReadSource}
 use Rattle.dataflow.specs.declared.source.ReadSource.TheVariants as source
 use Rattle.dataflow.proofs.AccessSides.{CoverLaws}
 use Rattle.dataflow.proofs.CoverEnds.{leaf_between}
-use Rattle.dataflow.proofs.HeldCovers.{in_flat, meets, some_pair}
+use Rattle.dataflow.proofs.HeldCovers.{meets, some_pair}
 
 -- ---- the reads as accesses and as numbers
 
@@ -58,7 +59,7 @@ in_reads : (model : KernelModel) (reader : Side) (r : ℕ) → In reader (sides_
     → In reader (read_sides_in model)
 in_reads model reader r h number =
     let s = in_flat_map_from sides_of model.statements reader h in
-    in_flat read_sides model.statements s.0 reader s.1 (in_read s.0 s.0.accesses reader r s.2 number)
+    in_flat_map read_sides model.statements s.0 reader s.1 (in_read s.0 s.0.accesses reader r s.2 number)
 
 -- ---- the tree of a read, and its leaves
 
@@ -140,7 +141,7 @@ read_in s (f ∷ fs) reader h = inr h
 pub sides_there : (model : KernelModel) (reader : Side) → In reader (read_sides_in model) → In reader (sides_in model)
 sides_there model reader h =
     let s = in_flat_map_from read_sides model.statements reader h in
-    in_flat sides_of model.statements s.0 reader s.1 (read_in s.0 s.0.accesses reader s.2)
+    in_flat_map sides_of model.statements s.0 reader s.1 (read_in s.0 s.0.accesses reader s.2)
 
 pub flow_between : (model : KernelModel) (trees : List Tree) (d : Dependence) → IsKernelModel model
     → In d (flow_of model trees) → LiesBetween model d
