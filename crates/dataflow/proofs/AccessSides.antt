@@ -1,30 +1,18 @@
 -- The accesses of a model as those of instances, and what the laws say of them and of their writers.
-use Rattle.scop_syntax.proofs.Common.{◌≡◌, ℕ, zero, suc, ◌+◌, ℤ, pos, ◌≤ℤ◌, List, ◌++◌, length, All, Option, Some, None}
-use Rattle.scop_syntax.proofs.Common.{Ok, sym, ap, ap₂, subst, ◌∙◌, refl, arith, slice_get, option_map, Contains}
-use Rattle.scop_syntax.proofs.Common.{slice_get-map, values_of, NotNegative, get_map, Cell, accesses, cell_of, In}
-use Rattle.scop_syntax.proofs.Common.{Placed, Runs, point_of, statements_of, visit_of, Access, Program, Visit, walk_of}
-use Rattle.scop_syntax.proofs.Common.{in_map, place_of}
-use Rattle.integer_sets.specs.Points.{Satisfies}
-use Rattle.quast_trees.specs.Leaf.{found}
-use Rattle.quast_trees.specs.Paths.{LeafPath, AreOver, Goes, binds_in, leaf_paths, live_paths}
-use Rattle.quast_trees.specs.Source.{Source}
-use Rattle.quast_trees.specs.Tree.{Tree, Speaks}
-use Rattle.quast_trees.specs.Turns.{BindsUp}
-use Rattle.quast_trees.specs.Value.{value}
+use Rattle.dataflow.proofs.Common.{◌≡◌, ℕ, zero, suc, ◌+◌, ℤ, pos, ◌≤ℤ◌, List, ◌++◌, length, All, Option, Some, None}
+use Rattle.dataflow.proofs.Common.{Ok, sym, ap, ap₂, subst, ◌∙◌, refl, arith, slice_get, option_map, Contains}
+use Rattle.dataflow.proofs.Common.{values_of, NotNegative, get_map, Cell, accesses, cell_of, In, Placed, Runs}
+use Rattle.dataflow.proofs.Common.{statements_of, visit_of, Access, Program, Visit, walk_of, place_of, Satisfies, found}
+use Rattle.dataflow.proofs.Common.{LeafPath, AreOver, Goes, binds_in, leaf_paths, live_paths, Source, Tree, Speaks}
+use Rattle.dataflow.proofs.Common.{BindsUp, value, Dependence, Modelled, model_of, modelled, InRange, IsKernelModel}
+use Rattle.dataflow.proofs.Common.{instance_is_point, Side, side, loops_of, sides_in, sides_of, IsEnd, TouchesAt}
+use Rattle.dataflow.proofs.Common.{in_flat_map_from, side_to, Writes, written_of, Names, IsWritePoint, reader_end}
+use Rattle.dataflow.proofs.Common.{wanted_writer, writer_end, read_variables, writers_run}
+use Rattle.scop_syntax.proofs.Common.{slice_get-map, point_of, in_map}
 use Rattle.quast_joins.specs.declared.way.Way.{Way}
-use Rattle.iteration_domains.specs.Dependence.{Dependence}
-use Rattle.iteration_domains.specs.Model.{Modelled, access_over, model_of, modelled}
-use Rattle.iteration_domains.specs.Related.{InRange}
-use Rattle.iteration_domains.specs.Sizes.{IsKernelModel}
-use Rattle.iteration_domains.proofs.Instances.{WalkLaws, cell_of-access, instance_is_point, statement_from}
-use Rattle.conflict_deps.specs.Conflicts.{Side, side, loops_of, sides_in, sides_of}
-use Rattle.conflict_deps.specs.Pairs.{IsEnd, TouchesAt}
-use Rattle.conflict_deps.proofs.Sides.{in_flat_map_from, side_at, side_to, sides_from_access}
-use Rattle.dataflow.specs.Candidates.{Writes}
-use Rattle.dataflow.specs.Leaves.{written_of}
-use Rattle.dataflow.specs.Places.{Names}
-use Rattle.dataflow.specs.Sources.{IsWritePoint, reader_end, wanted_writer, writer_end}
-use Rattle.dataflow.specs.WriterRuns.{read_variables, writers_run}
+use Rattle.iteration_domains.specs.Model.{access_over}
+use Rattle.iteration_domains.proofs.Instances.{WalkLaws, cell_of-access, statement_from}
+use Rattle.conflict_deps.proofs.Sides.{side_at, sides_from_access}
 
 -- what the laws of paths say
 pub record PathLaws : Type 0 where

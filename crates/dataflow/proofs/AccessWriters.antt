@@ -1,28 +1,20 @@
 -- The join over all candidates of an access names its last or next writer.
-use Rattle.scop_syntax.proofs.Common.{◌≡◌, ℕ, true, ℤ, List, length, Option, Some, None, inl, inr, ◌⊎◌, ap, ap₂, subst}
-use Rattle.scop_syntax.proofs.Common.{sym, ◌∙◌, refl, slice_get, NotNegative, get_map, Program, In, Placed}
-use Rattle.scop_syntax.proofs.Common.{statements_of, Visit, walk_of, Cell, written, writes, in_from_place, place_of}
-use Rattle.scop_syntax.proofs.Common.{cell_same, same_cells, All, Before, HasParameters, IsKernel, IsPlaced, Runs, Scope}
-use Rattle.scop_syntax.proofs.Common.{pos, ranks_of, visit_of, ◌<◌, ◌<ℤ◌, ◌≤ℤ◌, ◌^◌, ◌↔◌}
-use Rattle.scop_syntax.proofs.Common.{loops_in as loops_of_scopes}
-use Rattle.quast_trees.specs.Tree.{Tree}
-use Rattle.quast_trees.specs.Tree as tree
-use Rattle.quast_trees.specs.Leaf.{Leaf}
-use Rattle.quast_trees.specs.Value.{value}
+use Rattle.dataflow.proofs.Common.{◌≡◌, ℕ, true, ℤ, List, length, Option, Some, None, inl, inr, ◌⊎◌, ap, ap₂, subst}
+use Rattle.dataflow.proofs.Common.{sym, ◌∙◌, refl, slice_get, NotNegative, get_map, Program, In, Placed, statements_of}
+use Rattle.dataflow.proofs.Common.{Visit, walk_of, Cell, in_from_place, place_of, All, Before, HasParameters, IsKernel}
+use Rattle.dataflow.proofs.Common.{IsPlaced, Runs, pos, ranks_of, visit_of, ◌<◌, ◌<ℤ◌, ◌≤ℤ◌, ◌^◌, ◌↔◌, Tree, Leaf}
+use Rattle.dataflow.proofs.Common.{value, model_of, modelled, Dependence, conflicts_of, IsEnd, TouchesAt, Names}
+use Rattle.dataflow.proofs.Common.{IsOrdered, IsAmong, Finds, Writes, joined, writer_end, reader_end, wanted_writer}
+use Rattle.dataflow.proofs.Common.{IsWritePoint, IsCandidate, IsSolved}
+use Rattle.scop_syntax.proofs.Common.{written, writes, cell_same, same_cells, Scope, loops_in as loops_of_scopes}
 use Rattle.quast_joins.specs.declared.way.Way.{Way}
 use Rattle.quast_joins.specs.declared.way.Way.TheVariants.{Later, Earlier}
-use Rattle.iteration_domains.specs.Model.{model_of, modelled}
-use Rattle.iteration_domains.specs.Dependence.{Dependence}
-use Rattle.conflict_deps.specs.Conflicts.{conflicts_of}
-use Rattle.conflict_deps.specs.Pairs.{IsEnd, TouchesAt}
 use Rattle.conflict_deps.proofs.Pairs.{PlaceLaws, KernelLaws}
 use Rattle.conflict_deps.proofs.Sources.{writers_are_points, points_are_writers, writers_behind_are_points}
 use Rattle.conflict_deps.proofs.Sources.{points_are_writers_behind}
-use Rattle.dataflow.specs.Places.{Names, IsOrdered}
-use Rattle.dataflow.specs.Candidates.{IsAmong, Finds, Writes, joined}
-use Rattle.dataflow.specs.Sources.{writer_end, reader_end, wanted_writer, IsWritePoint, loops_in, loops_round}
-use Rattle.dataflow.specs.Sources.{IsCandidate, IsSolved}
+use Rattle.dataflow.specs.Sources.{loops_in, loops_round}
 use Rattle.dataflow.proofs.Candidates.{candidate_finds, joined_finds, same_finds, finds_last, finds_next}
+use Rattle.quast_trees.specs.Tree as tree
 
 -- what the laws of the walk say of a program at its parameters
 pub record Laws (program : Program) (params : List ℤ) : Type 0 where

@@ -1,30 +1,24 @@
 -- A candidate's quast, or its stop, from those of its problem.
-use Rattle.scop_syntax.proofs.Common.{◌≡◌, ℕ, ◌+◌, List, [], ◌∷◌, Option, Some, None, Ok, Err, sym, ap, ap₂, subst, ◌∙◌}
-use Rattle.scop_syntax.proofs.Common.{All, slice_get, Affine, All-nil, All-cons}
+use Rattle.dataflow.proofs.Common.{◌≡◌, ℕ, ◌+◌, List, [], ◌∷◌, Option, Some, None, Ok, Err, sym, ap, ap₂, subst, ◌∙◌}
+use Rattle.dataflow.proofs.Common.{All, slice_get, Affine, All-nil, All-cons, problem_of, Counted, source_of, Tree}
+use Rattle.dataflow.proofs.Common.{Postfix, tree_of, leaf_limit, LeavesWithin, Modelled, KernelModel, Dependence}
+use Rattle.dataflow.proofs.Common.{IsPosed, posed_rows, posed_context, writer_end, reader_end, fitting, sourced}
+use Rattle.dataflow.proofs.Common.{turned_back, turned_tree, solve_between, turns_in}
 use Rattle.affine_forms.specs.Parts.{variables_of}
-use Rattle.tableau_rows.specs.Problem.{problem_of, Speaks as RowsSpeak}
-use Rattle.tableau_rows.specs.Run as run
+use Rattle.tableau_rows.specs.Problem.{Speaks as RowsSpeak}
 use Rattle.pip_solver.specs.Problem.{Problem}
-use Rattle.pip_solver.specs.Nodes.{Counted, lexmin_run}
-use Rattle.pip_solver.specs.declared.stop.Stop.TheVariants as solver
+use Rattle.pip_solver.specs.Nodes.{lexmin_run}
 use Rattle.pip_solver.specs.Solving.{solved, Stops}
-use Rattle.quast_trees.specs.Source.{source_of}
-use Rattle.quast_trees.specs.Tree.{Tree, named}
-use Rattle.quast_trees.specs.Postfix.{Postfix, tree_of}
-use Rattle.quast_joins.specs.Limits.{leaf_limit}
-use Rattle.quast_joins.specs.Sizes.{LeavesWithin}
+use Rattle.quast_trees.specs.Tree.{named}
 use Rattle.quast_joins.specs.declared.way.Way.{Way}
-use Rattle.iteration_domains.specs.Model.{Modelled, KernelModel}
-use Rattle.iteration_domains.specs.Dependence.{Dependence}
-use Rattle.dataflow.specs.Posed.{IsPosed, IsPosedOf}
-use Rattle.dataflow.specs.Problems.{posed_rows, posed_context}
-use Rattle.dataflow.specs.Sources.{writer_end, reader_end}
+use Rattle.dataflow.specs.Posed.{IsPosedOf}
 use Rattle.dataflow.specs.Steps.{Solves, IsToldAs}
-use Rattle.dataflow.specs.WriterRuns as writer
-use Rattle.dataflow.specs.WriterRuns.{fitting, sourced, turned_back, turned_tree, posed_run, solve_between, solve_run}
-use Rattle.dataflow.specs.WriterRuns.{turns_in}
+use Rattle.dataflow.specs.WriterRuns.{posed_run, solve_run}
 use Rattle.dataflow.proofs.Fits.{fitting_is, named_within}
 use Rattle.dataflow.proofs.ResolvedWriters.{posed-speaks, context-speaks}
+use Rattle.tableau_rows.specs.Run as run
+use Rattle.pip_solver.specs.declared.stop.Stop.TheVariants as solver
+use Rattle.dataflow.specs.WriterRuns as writer
 
 -- rows over n variables
 pub all_speak : (n : ℕ) (fs : List Affine) → RowsSpeak n fs → All (λ f. variables_of f ≡ n) fs

@@ -1,35 +1,25 @@
 -- The run over a read's candidates, one by one, and the sources of reads, one by one.
-use Rattle.scop_syntax.proofs.Common.{◌≡◌, ℕ, zero, suc, ◌+◌, ◌-◌, ◌<◌, ◌≤◌, Bool, true, false, List, [], ◌∷◌, ◌++◌}
-use Rattle.scop_syntax.proofs.Common.{drop, get_or, length, map, ℤ, Option, Some, Result, Ok, Err, refl, sym, ap, ap₂}
-use Rattle.scop_syntax.proofs.Common.{subst, ◌∙◌, arith, append_assoc, add-one, drop-cons, slice_get, nat_eq, nat_lt}
-use Rattle.scop_syntax.proofs.Common.{if◌then◌else◌, eqb-true, Cell, HasParameters, In, Program, Visit, walk_of}
-use Rattle.scop_syntax.proofs.Common.{place_of, IsKernel, Placed, statements_of}
+use Rattle.dataflow.proofs.Common.{◌≡◌, ℕ, zero, suc, ◌+◌, ◌-◌, ◌<◌, ◌≤◌, Bool, true, false, List, [], ◌∷◌, ◌++◌, drop}
+use Rattle.dataflow.proofs.Common.{get_or, length, map, ℤ, Option, Some, Result, Ok, Err, refl, sym, ap, ap₂, subst}
+use Rattle.dataflow.proofs.Common.{◌∙◌, arith, add-one, drop-cons, slice_get, nat_eq, nat_lt, if◌then◌else◌, eqb-true}
+use Rattle.dataflow.proofs.Common.{Cell, HasParameters, In, Program, Visit, walk_of, place_of, IsKernel, Placed}
+use Rattle.dataflow.proofs.Common.{statements_of, Tree, Postfix, tree_of, join, join_count, node_limit, leaf_limit}
+use Rattle.dataflow.proofs.Common.{LeavesWithin, join_within, value, Modelled, KernelModel, modelled, model_of}
+use Rattle.dataflow.proofs.Common.{IsKernelModel, model_is_one, TouchesAt, Dependence, IsSourceOf, AreSources}
+use Rattle.dataflow.proofs.Common.{reads_from, reads_in, reads_of_statement, reads_of, Names, Stopped, writers_run}
+use Rattle.dataflow.proofs.Common.{candidates_of, is_candidate, chosen_deps, turns_in, read_variables, Halt, then_join}
+use Rattle.dataflow.proofs.Common.{sources_run, writer_end, reader_end, wanted_writer}
+use Rattle.scop_syntax.proofs.Common.{append_assoc}
 use Rattle.std.proofs.lemmas.List.{append-nil}
-use Rattle.quast_trees.specs.Tree.{Tree, initial}
-use Rattle.quast_trees.specs.Postfix.{Postfix, tree_of}
-use Rattle.quast_joins.specs.Joins.{join}
-use Rattle.quast_joins.specs.Counts.{join_count, capped}
-use Rattle.quast_joins.specs.Limits.{node_limit, most_told, leaf_limit}
-use Rattle.quast_joins.specs.Sizes.{LeavesWithin}
+use Rattle.quast_trees.specs.Tree.{initial}
+use Rattle.quast_joins.specs.Counts.{capped}
+use Rattle.quast_joins.specs.Limits.{most_told}
 use Rattle.quast_joins.specs.declared.way.Way.{Way}
-use Rattle.quast_joins.proofs.Sizes.{join_within}
-use Rattle.quast_trees.specs.Value.{value}
-use Rattle.iteration_domains.specs.Model.{Modelled, KernelModel, modelled, model_of}
-use Rattle.iteration_domains.specs.Sizes.{IsKernelModel}
-use Rattle.iteration_domains.proofs.TreeStatements.{model_is_one}
-use Rattle.conflict_deps.specs.Pairs.{TouchesAt}
-use Rattle.iteration_domains.specs.Dependence.{Dependence}
-use Rattle.dataflow.specs.ReadSources.{IsSourceOf, AreSources, reads_from, reads_in}
-use Rattle.dataflow.specs.ReadSources.{reads_of_statement, reads_of, NameWriters}
-use Rattle.dataflow.specs.Places.{Names}
-use Rattle.dataflow.specs.WriterRuns.{Stopped, writers_run, solve_run, candidates_of, is_candidate, chosen_deps}
-use Rattle.dataflow.specs.WriterRuns.{turns_in}
-use Rattle.dataflow.specs.WriterRuns.{read_variables}
-use Rattle.dataflow.specs.Runs.{Halt, then_join, sources_run}
-use Rattle.dataflow.specs.Sources.{writer_end, reader_end, wanted_writer}
+use Rattle.dataflow.specs.ReadSources.{NameWriters}
+use Rattle.dataflow.specs.WriterRuns.{solve_run}
 use Rattle.dataflow.specs.Steps.{IsJoinable, GoesOn, GainsSources}
-use Rattle.dataflow.specs.declared.reads.Halted.TheVariants as halt
 use Rattle.dataflow.specs.declared.source.ReadSource.{ReadSource}
+use Rattle.dataflow.specs.declared.reads.Halted.TheVariants as halt
 use Rattle.dataflow.specs.declared.source.ReadSource.TheVariants as source
 use Rattle.dataflow.specs.declared.source.SourceStop.TheVariants as stop
 

@@ -1,32 +1,22 @@
 -- A solved candidate: the least point of the posed problem, turned back, is the wanted writer's turns.
-use Rattle.scop_syntax.proofs.Common.{◌≡◌, ℕ, ◌+◌, ◌^◌, ℤ, pos, ◌≤ℤ◌, ◌<ℤ◌, List, [], ◌∷◌, ◌++◌, length, map, Some, All}
-use Rattle.scop_syntax.proofs.Common.{refl, sym, ap, ap₂, subst, ◌∙◌, arith, length-append, append_assoc, slice_get}
-use Rattle.scop_syntax.proofs.Common.{ints, length-map, All-head, All-tail, Affine, value_of, NotNegative}
-use Rattle.scop_syntax.proofs.Common.{not_negative-append, Program, In, in_from_place, Cell, Visit, walk_of}
-use Rattle.tableau_rows.specs.Problem.{Problem, problem_of, row_values, IsPoint as IsProblemPoint}
-use Rattle.pip_solver.specs.Leaves.{IsAnswer}
-use Rattle.quast_trees.specs.Tree.{Tree}
-use Rattle.quast_trees.specs.Value.{value}
-use Rattle.quast_trees.specs.Leaf.{Leaf, initial, found}
+use Rattle.dataflow.proofs.Common.{◌≡◌, ℕ, ◌+◌, ◌^◌, ℤ, pos, ◌≤ℤ◌, ◌<ℤ◌, List, [], ◌∷◌, ◌++◌, length, map, Some, All}
+use Rattle.dataflow.proofs.Common.{refl, sym, ap, ap₂, subst, ◌∙◌, arith, length-append, slice_get, ints, length-map}
+use Rattle.dataflow.proofs.Common.{All-head, All-tail, Affine, value_of, NotNegative, not_negative-append, Program, In}
+use Rattle.dataflow.proofs.Common.{in_from_place, Cell, Visit, walk_of, problem_of, row_values, IsAnswer, Tree, value}
+use Rattle.dataflow.proofs.Common.{Leaf, found, Satisfies, variables, equalities_in, rows_in, Modelled, model_of}
+use Rattle.dataflow.proofs.Common.{Dependence, goes_on, goes_on_last, values-variables, length-variables, Side, After}
+use Rattle.dataflow.proofs.Common.{loops_of, source_form, target_form, cell_rows, pair_size, conflicts_of, TouchesAt}
+use Rattle.dataflow.proofs.Common.{HasParts, value_of-source, value_of-target, flipped, IsWanted, writer_end}
+use Rattle.dataflow.proofs.Common.{reader_end, writer_side, reader_side, IsCandidate, IsWritePoint, top, turned, moved}
+use Rattle.dataflow.proofs.Common.{flat, own, own_equalities_of, own_rows_of, all_below, posed_rows, posed_context}
+use Rattle.dataflow.proofs.Common.{turned_leaf, writer_turns}
+use Rattle.scop_syntax.proofs.Common.{append_assoc}
+use Rattle.tableau_rows.specs.Problem.{Problem, IsPoint as IsProblemPoint}
+use Rattle.quast_trees.specs.Leaf.{initial}
 use Rattle.quast_joins.specs.declared.way.Way.{Way}
 use Rattle.quast_joins.specs.declared.way.Way.TheVariants.{Later, Earlier}
-use Rattle.integer_sets.specs.Points.{Satisfies}
-use Rattle.iteration_domains.specs.Rows.{variables}
-use Rattle.iteration_domains.specs.Constraints.{equalities_in, rows_in}
-use Rattle.iteration_domains.specs.Model.{Modelled, model_of}
-use Rattle.iteration_domains.specs.Dependence.{Dependence}
-use Rattle.iteration_domains.proofs.RowLaws.{GoesOn, goes_on, goes_on_last, values-variables}
-use Rattle.iteration_domains.proofs.Surroundings.{length-variables}
-use Rattle.conflict_deps.specs.Conflicts.{Side, After, loops_of, source_form, target_form, cell_rows, pair_size}
-use Rattle.conflict_deps.specs.Conflicts.{conflicts_of}
-use Rattle.conflict_deps.specs.Pairs.{TouchesAt}
-use Rattle.conflict_deps.specs.Parts.{HasParts}
-use Rattle.conflict_deps.proofs.Orders.{value_of-source, value_of-target}
-use Rattle.dataflow.specs.Flips.{flipped}
-use Rattle.dataflow.specs.Candidates.{IsWanted}
-use Rattle.dataflow.specs.Sources.{writer_end, reader_end, writer_side, reader_side, IsCandidate, IsWritePoint}
-use Rattle.dataflow.specs.Problems.{top, turned, moved, flat, own, own_rows, own_equalities_of, own_rows_of, all_below}
-use Rattle.dataflow.specs.Problems.{posed_rows, posed_context, turned_leaf, writer_turns}
+use Rattle.iteration_domains.proofs.RowLaws.{GoesOn}
+use Rattle.dataflow.specs.Problems.{own_rows}
 use Rattle.dataflow.proofs.Maxima.{length-turns, turns_twice, wanted_from_min}
 use Rattle.dataflow.proofs.AccessWriters.{Laws, point_is_writer}
 use Rattle.dataflow.proofs.ProblemPoints.{Zero, Up, zero_of_all, all_of_zero, up_of_all, all_of_up, zero-append}

@@ -1,23 +1,18 @@
 -- A candidate's answer names the wanted one of its places.
-use Rattle.scop_syntax.proofs.Common.{◌≡◌, ℕ, ◌≤◌, ℤ, List, [], ◌∷◌, length, Option, Some, None, inl, inr, ◌⊎◌, ap, ap₂}
-use Rattle.scop_syntax.proofs.Common.{subst, sym, ◌∙◌, refl, arith, slice_get, LexLess, LexLe, LexLess-irrefl, In}
-use Rattle.scop_syntax.proofs.Common.{Visit, Cell, last_writer, next_writer, last_is, none_writes, next_is, nat_cases}
+use Rattle.dataflow.proofs.Common.{◌≡◌, ℕ, ◌≤◌, ℤ, List, [], ◌∷◌, length, Option, Some, None, inl, inr, ◌⊎◌, ap, ap₂}
+use Rattle.dataflow.proofs.Common.{subst, sym, ◌∙◌, refl, arith, slice_get, LexLess, LexLe, In, Visit, Cell}
+use Rattle.dataflow.proofs.Common.{last_writer, next_writer, last_is, next_is, nat_cases, Tree, Speaks, source_of, Leaf}
+use Rattle.dataflow.proofs.Common.{found, value, AtMost, IsBest, better, answer, Names, IsOrdered, join, TurnsAtMost}
+use Rattle.dataflow.proofs.Common.{IsAmong, IsWanted, Writes, Finds, joined, join-speaks}
+use Rattle.scop_syntax.proofs.Common.{LexLess-irrefl, none_writes}
 use Rattle.whole_numbers.proofs.Lexicographic.{LexLess-from_le}
-use Rattle.quast_trees.specs.Tree.{Tree, Speaks}
-use Rattle.quast_trees.specs.Source.{source_of}
-use Rattle.quast_trees.specs.Leaf.{Leaf, initial, found}
-use Rattle.quast_trees.specs.Value.{value}
+use Rattle.quast_trees.specs.Leaf.{initial}
 use Rattle.scop_syntax.proofs.Writers.{none_behind}
 use Rattle.quast_joins.specs.declared.way.Way.{Way}
 use Rattle.quast_joins.specs.declared.way.Way.TheVariants.{Later, Earlier}
-use Rattle.dataflow.specs.Wanted.{AtMost, IsBest, better}
-use Rattle.dataflow.specs.Places.{answer, Names, IsOrdered}
-use Rattle.quast_joins.specs.Joins.{join}
-use Rattle.dataflow.specs.Candidates.{TurnsAtMost, IsAmong, IsWanted, Writes, Finds, joined}
 use Rattle.scop_syntax.proofs.Order.{own_order}
 use Rattle.dataflow.proofs.Choices.{chosen_names, best_of_two}
 use Rattle.quast_joins.proofs.Values.{join-value}
-use Rattle.quast_joins.proofs.Variables.{join-speaks}
 
 not_both : (xs ys : List ℤ) → LexLess xs ys → LexLe ys xs → ⊥
 not_both xs ys h k = LexLess-irrefl xs (LexLess-from_le xs ys xs h k)

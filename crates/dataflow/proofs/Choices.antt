@@ -1,18 +1,16 @@
 -- Of two answers that name places of the walk the join chooses that of the wanted place.
-use Rattle.scop_syntax.proofs.Common.{◌≡◌, ℕ, suc, ◌<◌, ◌≤◌, Bool, true, false, ℤ, pos, List, [], ◌∷◌, ◌++◌, length}
-use Rattle.scop_syntax.proofs.Common.{take, Option, Some, None, inl, inr, ◌⊎◌, ap, ap₂, subst, sym, ◌∙◌, refl, arith}
-use Rattle.scop_syntax.proofs.Common.{slice_get, nat_eq, if◌then◌else◌, ints, lt-ltb, le-ltb, LexLess, nat_cases, Visit}
-use Rattle.scop_syntax.proofs.Common.{common, Before}
-use Rattle.quast_trees.specs.Leaf.{Leaf, initial, found}
+use Rattle.dataflow.proofs.Common.{◌≡◌, ℕ, suc, ◌<◌, ◌≤◌, Bool, true, false, ℤ, pos, List, [], ◌∷◌, ◌++◌, length, take}
+use Rattle.dataflow.proofs.Common.{Option, Some, None, inl, inr, ◌⊎◌, ap, ap₂, subst, sym, ◌∙◌, refl, arith, slice_get}
+use Rattle.dataflow.proofs.Common.{nat_eq, if◌then◌else◌, ints, LexLess, nat_cases, Visit, Before, Leaf, found, by_sign}
+use Rattle.dataflow.proofs.Common.{AtMost, IsBest, better, answer, Names, IsOrdered}
+use Rattle.scop_syntax.proofs.Common.{lt-ltb, le-ltb, common}
+use Rattle.quast_trees.specs.Leaf.{initial}
 use Rattle.scop_syntax.proofs.Order.{common-comm}
-use Rattle.quast_trees.specs.Value.{by_sign}
 use Rattle.quast_trees.proofs.SignChoices.{by_sign_first, by_sign_second}
 use Rattle.scop_syntax.specs.Order.{key}
 use Rattle.quast_joins.specs.declared.way.Way.{Way}
 use Rattle.quast_joins.specs.declared.way.Way.TheVariants.{Later, Earlier}
 use Rattle.quast_joins.specs.Ways.{ahead, text, first_stands, chosen}
-use Rattle.dataflow.specs.Wanted.{AtMost, IsBest, better}
-use Rattle.dataflow.specs.Places.{answer, Names, IsOrdered}
 
 text_second : (s t : ℕ) → s < t → text Later s t ≡ false
 text_second s t h = rw (lt-ltb s t h) refl

@@ -1,22 +1,14 @@
 -- The dependences of covers lie between statements of the model.
-use Rattle.scop_syntax.proofs.Common.{◌≡◌, ℕ, ◌+◌, ◌≤◌, Bool, true, false, List, [], ◌∷◌, Some, None, Option, Ok, Err}
-use Rattle.scop_syntax.proofs.Common.{Result, ap, subst, sym, ◌∙◌, refl, arith, inl, inr, slice_get, nat_eq}
-use Rattle.scop_syntax.proofs.Common.{if◌then◌else◌, In, is_marked, Access, in_append}
-use Rattle.quast_trees.specs.Source.{Source}
-use Rattle.quast_trees.specs.Paths.{LeafPath, live_paths}
-use Rattle.quast_trees.specs.Tree.{Tree}
+use Rattle.dataflow.proofs.Common.{◌≡◌, ℕ, ◌+◌, ◌≤◌, Bool, true, false, List, [], ◌∷◌, Some, None, Option, Ok, Err}
+use Rattle.dataflow.proofs.Common.{Result, ap, subst, sym, ◌∙◌, refl, arith, inl, inr, slice_get, nat_eq, if◌then◌else◌}
+use Rattle.dataflow.proofs.Common.{In, is_marked, Access, in_append, Source, LeafPath, live_paths, Tree, Modelled}
+use Rattle.dataflow.proofs.Common.{KernelModel, IsKernelModel, Dependence, Side, loops_of, sides_in, end_of}
+use Rattle.dataflow.proofs.Common.{conflicts_of, parts_of, stands, in_flat_map_from, in_unless_from, turns_in}
+use Rattle.dataflow.proofs.Common.{writers_run, leaf_dep, deps_with, deps_of_leaf, written_side, written_of, writer_of}
+use Rattle.dataflow.proofs.Common.{LiesBetween, is_in_role, told_deps, role_deps, roles_at, next_deps, covers_at}
+use Rattle.dataflow.proofs.Common.{covers_of}
 use Rattle.quast_joins.specs.declared.way.Way.{Way}
 use Rattle.quast_joins.specs.declared.way.Way.TheVariants.{Later, Earlier}
-use Rattle.iteration_domains.specs.Model.{Modelled, KernelModel}
-use Rattle.iteration_domains.specs.Sizes.{IsKernelModel}
-use Rattle.iteration_domains.specs.Dependence.{Dependence}
-use Rattle.conflict_deps.specs.Conflicts.{Side, loops_of, sides_in, end_of, conflicts_of}
-use Rattle.conflict_deps.proofs.Parts.{parts_of, stands}
-use Rattle.conflict_deps.proofs.Sides.{in_flat_map_from, in_unless_from}
-use Rattle.dataflow.specs.WriterRuns.{turns_in, writers_run}
-use Rattle.dataflow.specs.Leaves.{leaf_dep, deps_with, deps_of_leaf, written_side, written_of, writer_of}
-use Rattle.dataflow.specs.Covering.{LiesBetween, is_in_role, told_deps, role_deps, roles_at, next_deps}
-use Rattle.dataflow.specs.Covering.{covers_at, covers_of}
 use Rattle.dataflow.proofs.ResolvedWriters.{chosen_in}
 
 -- an access stands at its statement's place

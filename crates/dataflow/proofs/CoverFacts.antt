@@ -1,8 +1,6 @@
 -- What the laws of walks, quasts and points say of covers, from the laws themselves.
-use Rattle.scop_syntax.proofs.Common.{ℕ, ℤ, pos, ◌≤ℤ◌, ◌<ℤ◌, ◌^◌, List, All, refl, HasParameters, In, Placed, Program}
-use Rattle.scop_syntax.proofs.Common.{Runs, statements_of}
-use Rattle.iteration_domains.specs.Model.{model_of}
-use Rattle.iteration_domains.proofs.TreeStatements.{one_model}
+use Rattle.dataflow.proofs.Common.{ℕ, ℤ, pos, ◌≤ℤ◌, ◌<ℤ◌, ◌^◌, List, All, refl, HasParameters, In, Placed, Program}
+use Rattle.dataflow.proofs.Common.{Runs, statements_of, model_of, one_model}
 use Rattle.dataflow.proofs.AccessSides.{CoverLaws, PathLaws}
 use Rattle.dataflow.proofs.AccessWriters.{Laws, small_turns, writer_is_point}
 use Rattle.dataflow.proofs.CandidateSolutions.{up_bounded}

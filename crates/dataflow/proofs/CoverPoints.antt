@@ -1,41 +1,26 @@
 -- The whole points of an access's dependences in a role are its covers, or all its conflicts.
-use Rattle.scop_syntax.proofs.Common.{◌≡◌, ℕ, suc, ◌+◌, ℤ, List, [], ◌∷◌, ◌++◌, length, All, Option, Some, None, Ok}
-use Rattle.scop_syntax.proofs.Common.{Err, inl, inr, sym, ap, ap₂, subst, ◌∙◌, refl, arith, ◌↔◌, ◌-◌, slice_get, nat_eq}
-use Rattle.scop_syntax.proofs.Common.{option_and_then, option_map, Contains, eqb-true, values_of, PlacesConflict}
-use Rattle.scop_syntax.proofs.Common.{accesses, cell_at, cell_of, In, Access, Program, Visit, Instance, instance}
-use Rattle.scop_syntax.proofs.Common.{walk_of, both, in_from_place, place_of}
-use Rattle.integer_sets.specs.Points.{Satisfies}
-use Rattle.fm_projection.proofs.CondensedSystems.{condensed_points}
-use Rattle.quast_trees.specs.Leaf.{Leaf, initial, found}
-use Rattle.quast_trees.specs.Paths.{LeafPath, AreOver, binds_in, live_paths}
-use Rattle.quast_trees.specs.Source.{Source, source_of}
-use Rattle.quast_trees.specs.Tree.{Tree}
-use Rattle.quast_trees.specs.Value.{value}
+use Rattle.dataflow.proofs.Common.{◌≡◌, ℕ, suc, ◌+◌, ℤ, List, [], ◌∷◌, ◌++◌, length, All, Option, Some, None, Ok, Err}
+use Rattle.dataflow.proofs.Common.{inl, inr, sym, ap, ap₂, subst, ◌∙◌, refl, arith, ◌↔◌, ◌-◌, slice_get, nat_eq}
+use Rattle.dataflow.proofs.Common.{option_and_then, option_map, Contains, eqb-true, values_of, accesses, cell_at}
+use Rattle.dataflow.proofs.Common.{cell_of, In, Access, Program, Visit, Instance, instance, walk_of, both}
+use Rattle.dataflow.proofs.Common.{in_from_place, place_of, Satisfies, condensed_points, Leaf, found, LeafPath, AreOver}
+use Rattle.dataflow.proofs.Common.{binds_in, live_paths, Source, source_of, Tree, value, Dependence, Modelled, model_of}
+use Rattle.dataflow.proofs.Common.{Relates, IsKernelModel, Side, loops_of, sides_in, conflicts_of, IsEnd, parts_of}
+use Rattle.dataflow.proofs.Common.{stands, none_bound, in_flat_map_from, HavePoint, IsCoverOf, conflicts_at, is_in_role}
+use Rattle.dataflow.proofs.Common.{role_deps, told_deps, path_rows, turn_equalities, deps_of_leaf, deps_with, leaf_dep}
+use Rattle.dataflow.proofs.Common.{leaf_deps, leaf_layout, pair_system, writer_begins, writer_of, Names, Halt}
+use Rattle.dataflow.proofs.Common.{reader_end, wanted_writer, Stopped, read_variables, turns_in, writers_run}
+use Rattle.scop_syntax.proofs.Common.{PlacesConflict}
+use Rattle.quast_trees.specs.Leaf.{initial}
 use Rattle.quast_joins.specs.declared.way.Way.{Way}
 use Rattle.quast_joins.specs.declared.way.Way.TheVariants.{Later, Earlier}
-use Rattle.iteration_domains.specs.Dependence.{Dependence}
-use Rattle.iteration_domains.specs.Model.{Modelled, model_of}
-use Rattle.iteration_domains.specs.Related.{Relates, point_of}
-use Rattle.iteration_domains.specs.Sizes.{IsKernelModel}
+use Rattle.iteration_domains.specs.Related.{point_of}
 use Rattle.iteration_domains.proofs.Instances.{point_is_instance}
-use Rattle.conflict_deps.specs.Conflicts.{Side, loops_of, sides_in, conflicts_of}
-use Rattle.conflict_deps.specs.Pairs.{IsPoint, IsEnd, IsPair}
-use Rattle.conflict_deps.proofs.Parts.{parts_of, stands}
-use Rattle.conflict_deps.proofs.RelatedPairs.{none_bound}
-use Rattle.conflict_deps.proofs.Sides.{in_flat_map_from}
-use Rattle.dataflow.specs.CoverPoints.{HavePoint, IsConflictOf, IsCoverOf, IsPointOf, reader_of}
-use Rattle.dataflow.specs.Covering.{conflicts_at, is_in_role, role_deps, told_deps}
-use Rattle.dataflow.specs.LeafRows.{path_rows, turn_equalities}
-use Rattle.dataflow.specs.Leaves.{deps_of_leaf, deps_with, leaf_dep, leaf_deps, leaf_layout, pair_system, writer_begins}
-use Rattle.dataflow.specs.Leaves.{writer_of}
-use Rattle.dataflow.specs.Places.{Names}
-use Rattle.dataflow.specs.Runs.{Halt}
-use Rattle.dataflow.specs.Sources.{reader_end, wanted_writer}
-use Rattle.dataflow.specs.WriterRuns.{Stopped, read_variables, turns_in, writers_run}
+use Rattle.conflict_deps.specs.Pairs.{IsPoint, IsPair}
+use Rattle.dataflow.specs.CoverPoints.{IsConflictOf, IsPointOf, reader_of}
 use Rattle.dataflow.proofs.AccessSides.{CoverLaws, IsSideOf, has_side, is_side}
 use Rattle.dataflow.proofs.CoverEnds.{writer_slot}
-use Rattle.dataflow.proofs.HeldCovers.{forms_long, in_role, leaf_goes, leaf_turns, meets}
-use Rattle.dataflow.proofs.HeldCovers.{met_pair, role_point}
+use Rattle.dataflow.proofs.HeldCovers.{forms_long, in_role, leaf_goes, leaf_turns, meets, met_pair, role_point}
 use Rattle.dataflow.proofs.LeafPairs.{HoldsPair, Up, Zero, pair_parts}
 use Rattle.dataflow.proofs.ResolvedWriters.{chosen_in, in_chosen}
 

@@ -1,20 +1,18 @@
 -- Leaves whose numbers fit.
-use Rattle.scop_syntax.proofs.Common.{◌≡◌, ℕ, Bool, true, false, ℤ, List, [], ◌∷◌, ◌++◌, length, Option, Some, None}
-use Rattle.scop_syntax.proofs.Common.{Result, Ok, Err, refl, sym, ap, ap₂, subst, ◌∙◌, arith, All, if◌then◌else◌, neg_ℤ}
-use Rattle.scop_syntax.proofs.Common.{◌≤ℤ◌, le_z, ints, Affine, both, holds_le_z}
+use Rattle.dataflow.proofs.Common.{◌≡◌, ℕ, Bool, true, false, ℤ, List, [], ◌∷◌, ◌++◌, length, Option, Some, None}
+use Rattle.dataflow.proofs.Common.{Result, Ok, Err, refl, sym, ap, ap₂, subst, ◌∙◌, arith, All, if◌then◌else◌, neg_ℤ}
+use Rattle.dataflow.proofs.Common.{◌≤ℤ◌, ints, Affine, both, Source, Tree, leaf, branch, bind, count, LeavesHave, Suits}
+use Rattle.dataflow.proofs.Common.{leaf_limit, IsWithin, AreWithin, IsFormWithin, AreFormsWithin, LeavesWithin}
+use Rattle.dataflow.proofs.Common.{numbers_fit, forms_fit, leaves_fit, fitting, all_below, nodes_fit}
+use Rattle.scop_syntax.proofs.Common.{le_z, holds_le_z}
 use Rattle.wide_math.specs.declared.Wide.{Wide}
-use Rattle.quast_trees.specs.Source.{Source}
-use Rattle.quast_trees.specs.Tree.{Tree, initial, leaf, branch, bind, named, count, LeavesHave}
+use Rattle.quast_trees.specs.Tree.{initial, named}
 use Rattle.quast_trees.specs.Postfix.{written}
-use Rattle.quast_trees.specs.Mapped.{Suits}
 use Rattle.quast_trees.specs.declared.node.Node.{Node}
-use Rattle.quast_trees.specs.declared.node.Node.TheVariants as node
-use Rattle.quast_joins.specs.Limits.{leaf_limit}
-use Rattle.quast_joins.specs.Sizes.{IsWithin, AreWithin, IsFormWithin, AreFormsWithin, LeavesWithin}
-use Rattle.dataflow.specs.WriterRuns.{number_fits, numbers_fit, form_fits, forms_fit, leaves_fit, fitting}
-use Rattle.dataflow.specs.Problems.{all_below}
-use Rattle.dataflow.specs.Steps.{node_fits, nodes_fit}
+use Rattle.dataflow.specs.WriterRuns.{number_fits, form_fits}
+use Rattle.dataflow.specs.Steps.{node_fits}
 use Rattle.dataflow.proofs.ResolvedWriters.{size-below}
+use Rattle.quast_trees.specs.declared.node.Node.TheVariants as node
 
 -- numbers that fit are within the bound
 number_within : (most z : ℤ) → number_fits most z ≡ true → IsWithin most z

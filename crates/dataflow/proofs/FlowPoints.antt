@@ -1,18 +1,11 @@
 -- The whole points of the dependences of the reads' trees are the reads with their last writers.
-use Rattle.scop_syntax.proofs.Common.{◌≡◌, ℕ, suc, ℤ, List, [], ◌∷◌, map, Ok, inl, inr, sym, subst, ◌∙◌, refl, arith}
-use Rattle.scop_syntax.proofs.Common.{◌↔◌, In, Access, Program, Instance, instance, walk_of, in_append}
-use Rattle.quast_trees.specs.Tree.{Tree}
+use Rattle.dataflow.proofs.Common.{◌≡◌, ℕ, suc, ℤ, List, [], ◌∷◌, map, Ok, inl, inr, sym, subst, ◌∙◌, refl, arith, ◌↔◌}
+use Rattle.dataflow.proofs.Common.{In, Access, Program, Instance, instance, walk_of, in_append, Tree, Dependence}
+use Rattle.dataflow.proofs.Common.{Modelled, KernelModel, model_of, Relates, Side, in_flat_map_from, side_to, HavePoint}
+use Rattle.dataflow.proofs.Common.{IsCoverOf, AreLastTrees, behind_first, flow_from, flow_of, read_sides, read_sides_in}
+use Rattle.dataflow.proofs.Common.{leaf_deps, reads_of, writers_run}
 use Rattle.quast_joins.specs.declared.way.Way.TheVariants.{Later}
-use Rattle.iteration_domains.specs.Dependence.{Dependence}
-use Rattle.iteration_domains.specs.Model.{Modelled, KernelModel, model_of}
-use Rattle.iteration_domains.specs.Related.{Relates}
-use Rattle.conflict_deps.specs.Conflicts.{Side}
-use Rattle.conflict_deps.proofs.Sides.{in_flat_map_from, side_to}
-use Rattle.dataflow.specs.CoverPoints.{HavePoint, IsCoverOf}
-use Rattle.dataflow.specs.Flow.{AreLastTrees, ReadsFrom, behind_first, flow_from, flow_of, read_sides, read_sides_in}
-use Rattle.dataflow.specs.Leaves.{leaf_deps}
-use Rattle.dataflow.specs.ReadSources.{reads_of}
-use Rattle.dataflow.specs.WriterRuns.{writers_run}
+use Rattle.dataflow.specs.Flow.{ReadsFrom}
 use Rattle.dataflow.proofs.AccessSides.{CoverLaws}
 use Rattle.dataflow.proofs.CoverPoints.{point_cover, related_point}
 use Rattle.dataflow.proofs.HeldSources.{all_reads, read_of, sides_there, sources_held}

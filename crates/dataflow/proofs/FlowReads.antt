@@ -1,20 +1,13 @@
 -- Reads and their sources gone through together, as the code gathers their dependences.
-use Rattle.scop_syntax.proofs.Common.{◌≡◌, ℕ, zero, suc, ◌+◌, ◌-◌, ◌<◌, ◌≤◌, List, [], ◌∷◌, ◌++◌, length, map, take}
-use Rattle.scop_syntax.proofs.Common.{drop, get_or, Ok, refl, sym, ap, ap₂, subst, ◌∙◌, arith, add-one, drop-cons}
-use Rattle.scop_syntax.proofs.Common.{append_assoc, append-nil, flat_map, Access, In}
-use Rattle.quast_trees.specs.Tree.{Tree}
+use Rattle.dataflow.proofs.Common.{◌≡◌, ℕ, zero, suc, ◌+◌, ◌-◌, ◌<◌, ◌≤◌, List, [], ◌∷◌, ◌++◌, length, map, take, drop}
+use Rattle.dataflow.proofs.Common.{get_or, Ok, refl, sym, ap, ap₂, subst, ◌∙◌, arith, add-one, drop-cons, flat_map}
+use Rattle.dataflow.proofs.Common.{Access, In, Tree, Modelled, KernelModel, IsKernelModel, Dependence, Side, side}
+use Rattle.dataflow.proofs.Common.{sides_from, AreLastSourcesOf, behind_first, flow_from, read_sides, tree_in}
+use Rattle.dataflow.proofs.Common.{CanTellAll, leaf_deps, AreSources, IsSourceOf, reads_from, reads_in}
+use Rattle.dataflow.proofs.Common.{reads_of_statement, HoldsNumbers, IsQuastOver, writers_run}
+use Rattle.scop_syntax.proofs.Common.{append_assoc, append-nil}
 use Rattle.quast_joins.specs.declared.way.Way.{Way}
 use Rattle.quast_joins.specs.declared.way.Way.TheVariants.{Later}
-use Rattle.iteration_domains.specs.Model.{Modelled, KernelModel}
-use Rattle.iteration_domains.specs.Sizes.{IsKernelModel}
-use Rattle.iteration_domains.specs.Dependence.{Dependence}
-use Rattle.conflict_deps.specs.Conflicts.{Side, side, sides_from}
-use Rattle.dataflow.specs.Flow.{AreLastSourcesOf, behind_first, flow_from, read_sides, tree_in}
-use Rattle.dataflow.specs.LeafSteps.{CanTellAll}
-use Rattle.dataflow.specs.Leaves.{leaf_deps}
-use Rattle.dataflow.specs.ReadSources.{AreSources, IsSourceOf, reads_from, reads_in, reads_of_statement}
-use Rattle.dataflow.specs.Told.{HoldsNumbers, IsQuastOver}
-use Rattle.dataflow.specs.WriterRuns.{writers_run}
 use Rattle.dataflow.specs.declared.source.ReadSource.{ReadSource}
 use Rattle.dataflow.proofs.CandidateRuns.{variables_are}
 use Rattle.dataflow.proofs.LeafFacts.{all_told}

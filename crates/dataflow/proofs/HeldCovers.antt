@@ -1,47 +1,32 @@
 -- Each cover of a walk is a pair of one of the dependences of its accesses with their writers.
-use Rattle.scop_syntax.proofs.Common.{◌≡◌, ℕ, suc, ◌+◌, Bool, true, false, ℤ, pos, ◌≤ℤ◌, List, [], ◌∷◌, ◌++◌, length}
-use Rattle.scop_syntax.proofs.Common.{All, Option, Some, Result, Ok, Err, inl, inr, sym, ap, subst, ◌∙◌, refl, arith}
-use Rattle.scop_syntax.proofs.Common.{◌↔◌, slice_get, nat_eq, if◌then◌else◌, option_and_then, option_map, Contains}
-use Rattle.scop_syntax.proofs.Common.{eq-eqb, eqb-true, length-map, All-cons, All-nil, Affine, value_of, values_of}
-use Rattle.scop_syntax.proofs.Common.{NotNegative, Cell, accesses, cell_at, cell_of, written, In, is_marked, Access}
-use Rattle.scop_syntax.proofs.Common.{Program, Visit, instance, walk_of, last_writer, next_writer, in_back}
-use Rattle.scop_syntax.proofs.Common.{in_from_place, in_front, member_at, last_is, next_is}
+use Rattle.dataflow.proofs.Common.{◌≡◌, ℕ, suc, ◌+◌, Bool, true, false, ℤ, pos, ◌≤ℤ◌, List, [], ◌∷◌, ◌++◌, length, All}
+use Rattle.dataflow.proofs.Common.{Option, Some, Result, Ok, Err, inl, inr, sym, ap, subst, ◌∙◌, refl, arith, ◌↔◌}
+use Rattle.dataflow.proofs.Common.{slice_get, nat_eq, if◌then◌else◌, option_and_then, option_map, Contains, eq-eqb}
+use Rattle.dataflow.proofs.Common.{eqb-true, length-map, All-cons, All-nil, Affine, value_of, values_of, NotNegative}
+use Rattle.dataflow.proofs.Common.{Cell, accesses, cell_at, cell_of, In, is_marked, Access, Program, Visit, instance}
+use Rattle.dataflow.proofs.Common.{walk_of, last_writer, next_writer, in_back, in_from_place, in_front, member_at}
+use Rattle.dataflow.proofs.Common.{last_is, next_is, Satisfies, condensed_points, found, Turn, up, down, bound}
+use Rattle.dataflow.proofs.Common.{LeafPath, AreOver, Goes, binds_in, live_paths, Source, source_of, Tree, value}
+use Rattle.dataflow.proofs.Common.{Dependence, Modelled, KernelModel, model_of, InRange, Relates, IsKernelModel, Side}
+use Rattle.dataflow.proofs.Common.{loops_of, sides_in, conflicts_of, IsEnd, TouchesAt, in_flat_map, parts_of}
+use Rattle.dataflow.proofs.Common.{none_bound, Writes, covers_at, covers_of, is_in_role, next_deps, role_deps, roles_at}
+use Rattle.dataflow.proofs.Common.{told_deps, path_rows, turn_equalities, deps_of_leaf, deps_with, leaf_dep, leaf_deps}
+use Rattle.dataflow.proofs.Common.{leaf_layout, pair_dep, pair_equalities, pair_rows, pair_system, writer_begins}
+use Rattle.dataflow.proofs.Common.{writer_of, written_of, Names, Halt, IsWritePoint, reader_end, wanted_writer}
+use Rattle.dataflow.proofs.Common.{writer_end, Stopped, read_variables, turns_in, writers_run}
+use Rattle.scop_syntax.proofs.Common.{written}
 use Rattle.std.proofs.lemmas.Option.{option_and_then_some}
-use Rattle.integer_sets.specs.Points.{Satisfies}
-use Rattle.fm_projection.proofs.CondensedSystems.{condensed_points}
-use Rattle.quast_trees.specs.Leaf.{found}
-use Rattle.quast_trees.specs.Paths.{Turn, up, down, bound, LeafPath, AreOver, Goes, binds_in, live_paths}
-use Rattle.quast_trees.specs.Source.{Source, source_of}
-use Rattle.quast_trees.specs.Tree.{Tree}
-use Rattle.quast_trees.specs.Value.{value}
 use Rattle.quast_joins.specs.declared.way.Way.{Way}
 use Rattle.quast_joins.specs.declared.way.Way.TheVariants.{Later, Earlier}
-use Rattle.scop_syntax.proofs.Writers as writers
-use Rattle.iteration_domains.specs.Dependence.{Dependence}
 use Rattle.iteration_domains.specs.Held.{HoldCovers, IsPairIn}
-use Rattle.iteration_domains.specs.Model.{Modelled, KernelModel, model_of}
-use Rattle.iteration_domains.specs.Related.{InRange, Relates}
-use Rattle.iteration_domains.specs.Sizes.{IsKernelModel}
-use Rattle.conflict_deps.specs.Conflicts.{Side, loops_of, sides_in, conflicts_of}
-use Rattle.conflict_deps.specs.Pairs.{IsEnd, TouchesAt}
-use Rattle.iteration_domains.proofs.OutsideLaws.{in_flat_map}
-use Rattle.conflict_deps.proofs.Parts.{parts_of}
-use Rattle.conflict_deps.proofs.RelatedPairs.{none_bound, pair_of}
+use Rattle.conflict_deps.proofs.RelatedPairs.{pair_of}
 use Rattle.conflict_deps.proofs.Sides.{in_unless}
-use Rattle.dataflow.specs.Candidates.{Writes}
-use Rattle.dataflow.specs.Covering.{covers_at, covers_of, is_in_role, next_deps, role_deps, roles_at, told_deps}
-use Rattle.dataflow.specs.LeafRows.{path_rows, turn_equalities}
-use Rattle.dataflow.specs.Leaves.{deps_of_leaf, deps_with, first_of, leaf_dep, leaf_deps, leaf_layout, pair_dep}
-use Rattle.dataflow.specs.Leaves.{pair_equalities, pair_rows, pair_system, second_of, writer_begins, writer_of}
-use Rattle.dataflow.specs.Leaves.{written_of}
-use Rattle.dataflow.specs.Places.{Names}
-use Rattle.dataflow.specs.Runs.{Halt}
-use Rattle.dataflow.specs.Sources.{IsWritePoint, reader_end, wanted_writer, writer_end}
-use Rattle.dataflow.specs.WriterRuns.{Stopped, read_variables, turns_in, writers_run}
+use Rattle.dataflow.specs.Leaves.{first_of, second_of}
 use Rattle.dataflow.proofs.AccessSides.{CoverLaws, IsSideOf, has_side, is_side, map_from}
 use Rattle.dataflow.proofs.LeafPairs.{IsLeafPair, Up, Zero, pair_point, pair_up, pair_zero}
 use Rattle.dataflow.proofs.LeafPoints.{path_holds, turns_hold}
 use Rattle.dataflow.proofs.ResolvedWriters.{in_chosen}
+use Rattle.scop_syntax.proofs.Writers as writers
 
 pub all_up : (qs : List ℤ) → NotNegative qs → All (λ z. pos 0 ≤ℤ z) qs
 all_up [] h = All-nil (λ (z : ℤ). pos 0 ≤ℤ z)

@@ -1,28 +1,18 @@
 -- Each read of a walk and its last writer are a pair of one of the dependences of the reads' trees.
-use Rattle.scop_syntax.proofs.Common.{◌≡◌, ℕ, suc, ◌+◌, ◌-◌, ℤ, List, [], ◌∷◌, ◌++◌, length, map, All, Ok, inl, inr}
-use Rattle.scop_syntax.proofs.Common.{sym, ap, ap₂, subst, ◌∙◌, refl, arith, flat_map, map-append, All-head, All-tail}
-use Rattle.scop_syntax.proofs.Common.{In, Access, Program, in_append, in_back, in_front}
-use Rattle.quast_trees.specs.Tree.{Tree}
+use Rattle.dataflow.proofs.Common.{◌≡◌, ℕ, suc, ◌+◌, ◌-◌, ℤ, List, [], ◌∷◌, ◌++◌, length, map, All, Ok, inl, inr, sym}
+use Rattle.dataflow.proofs.Common.{ap, ap₂, subst, ◌∙◌, refl, arith, flat_map, map-append, All-head, All-tail, In}
+use Rattle.dataflow.proofs.Common.{Access, Program, in_append, in_back, in_front, Tree, Dependence, Modelled}
+use Rattle.dataflow.proofs.Common.{KernelModel, model_of, IsKernelModel, Side, sides_from, sides_in, sides_of, stands}
+use Rattle.dataflow.proofs.Common.{in_flat_map, in_flat_map_from, LiesBetween, told_deps, AreLastTrees, IsResolved}
+use Rattle.dataflow.proofs.Common.{behind_first, flow_from, flow_of, read_sides, read_sides_in, tree_in, leaf_deps}
+use Rattle.dataflow.proofs.Common.{AreSources, reads_from, reads_in, reads_of, writers_run}
 use Rattle.quast_joins.specs.declared.way.Way.TheVariants.{Later}
-use Rattle.iteration_domains.specs.Dependence.{Dependence}
 use Rattle.iteration_domains.specs.Held.{HoldSources}
-use Rattle.iteration_domains.specs.Model.{Modelled, KernelModel, model_of}
-use Rattle.iteration_domains.specs.Sizes.{IsKernelModel}
-use Rattle.conflict_deps.specs.Conflicts.{Side, sides_from, sides_in, sides_of}
-use Rattle.conflict_deps.proofs.Parts.{stands}
-use Rattle.iteration_domains.proofs.OutsideLaws.{in_flat_map}
-use Rattle.conflict_deps.proofs.Sides.{in_flat_map_from}
-use Rattle.dataflow.specs.Covering.{LiesBetween, told_deps}
-use Rattle.dataflow.specs.Flow.{AreLastTrees, IsResolved, behind_first, flow_from, flow_of, read_sides, read_sides_in}
-use Rattle.dataflow.specs.Flow.{tree_in}
-use Rattle.dataflow.specs.Leaves.{leaf_deps}
-use Rattle.dataflow.specs.ReadSources.{AreSources, reads_from, reads_in, reads_of}
-use Rattle.dataflow.specs.WriterRuns.{writers_run}
 use Rattle.dataflow.specs.declared.source.ReadSource.{ReadSource}
-use Rattle.dataflow.specs.declared.source.ReadSource.TheVariants as source
 use Rattle.dataflow.proofs.AccessSides.{CoverLaws}
 use Rattle.dataflow.proofs.CoverEnds.{leaf_between}
 use Rattle.dataflow.proofs.HeldCovers.{meets, some_pair}
+use Rattle.dataflow.specs.declared.source.ReadSource.TheVariants as source
 
 -- ---- the reads as accesses and as numbers
 

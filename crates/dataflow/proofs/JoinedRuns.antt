@@ -1,14 +1,9 @@
 -- Where no candidate stops, the run gives the join over all (`run_joined`), and keeps what joins keep (`run_keeps`).
-use Rattle.scop_syntax.proofs.Common.{◌≡◌, ℕ, ◌≤◌, Bool, true, false, List, [], ◌∷◌, Result, Ok, Err, inl, inr, refl}
-use Rattle.scop_syntax.proofs.Common.{sym, subst, arith, nat_lt, if◌then◌else◌, In}
-use Rattle.quast_trees.specs.Tree.{Tree, count}
+use Rattle.dataflow.proofs.Common.{◌≡◌, ℕ, ◌≤◌, Bool, true, false, List, [], ◌∷◌, Result, Ok, Err, inl, inr, refl, sym}
+use Rattle.dataflow.proofs.Common.{subst, arith, nat_lt, if◌then◌else◌, In, Tree, count, join, join_count, node_limit}
+use Rattle.dataflow.proofs.Common.{join-count, joined, Halt, then_join, sources_run, or_initial}
 use Rattle.quast_joins.specs.declared.way.Way.{Way}
-use Rattle.quast_joins.specs.Joins.{join}
-use Rattle.quast_joins.specs.Counts.{join_count}
-use Rattle.quast_joins.specs.Limits.{node_limit}
-use Rattle.quast_joins.proofs.Counts.{join-count}
-use Rattle.dataflow.specs.Candidates.{joined}
-use Rattle.dataflow.specs.Runs.{Halt, nodes, then_join, sources_run, or_initial}
+use Rattle.dataflow.specs.Runs.{nodes}
 
 passes : {E : Type 0} (b : Bool) (k : ℕ) (rest : Result Tree (Halt E)) (u : Tree)
     → (if b then Err (nodes k) else rest) ≡ Ok u → rest ≡ Ok u

@@ -1,35 +1,26 @@
 -- The leaves of an access's quast and the writers that they name can be told.
-use Rattle.scop_syntax.proofs.Common.{◌≡◌, ℕ, suc, ◌+◌, ◌≤◌, Bool, true, false, ℤ, pos, negsuc, List, [], ◌∷◌, ◌++◌}
-use Rattle.scop_syntax.proofs.Common.{length, not, Option, Some, None, Result, ap, subst, sym, ◌∙◌, refl, arith, get_or}
-use Rattle.scop_syntax.proofs.Common.{drop, add-one, drop-cons, append_assoc, ◌<◌, if◌then◌else◌, All, ◌*ℤ◌, neg_ℤ}
-use Rattle.scop_syntax.proofs.Common.{◌≤ℤ◌, ints, All-nil, All-cons, All-head, All-tail, All-append, All-filter, Affine}
-use Rattle.scop_syntax.proofs.Common.{fits, In, in_from_place, all_in}
+use Rattle.dataflow.proofs.Common.{◌≡◌, ℕ, suc, ◌+◌, ◌≤◌, Bool, true, false, ℤ, pos, negsuc, List, [], ◌∷◌, ◌++◌}
+use Rattle.dataflow.proofs.Common.{length, Option, Some, None, Result, ap, subst, sym, ◌∙◌, refl, arith, get_or, drop}
+use Rattle.dataflow.proofs.Common.{add-one, drop-cons, ◌<◌, if◌then◌else◌, All, ◌*ℤ◌, neg_ℤ, ◌≤ℤ◌, ints, All-nil}
+use Rattle.dataflow.proofs.Common.{All-cons, All-head, All-tail, All-append, Affine, fits, In, in_from_place, Source}
+use Rattle.dataflow.proofs.Common.{Tree, leaf, branch, bind, count, Speaks, Turn, up, down, bound, LeafPath, leaf_paths}
+use Rattle.dataflow.proofs.Common.{binds_in, AreOver, CanTell, HasForms, leaf_limit, IsWithin, AreWithin, IsFormWithin}
+use Rattle.dataflow.proofs.Common.{AreFormsWithin, LeavesWithin, Modelled, KernelModel, IsKernelModel, Side, loops_of}
+use Rattle.dataflow.proofs.Common.{conflicts_at, told_deps, Halt, Stopped, chosen_deps, Dependence, written_side}
+use Rattle.dataflow.proofs.Common.{written_of, writer_of, HoldsRows, HoldsOpposite, HoldOpposites, CanTellWriter}
+use Rattle.dataflow.proofs.Common.{CanTellAll, IsInstance, NamesInstances, IsQuastOver}
+use Rattle.scop_syntax.proofs.Common.{not, append_assoc, All-filter, all_in}
 use Rattle.whole_numbers.proofs.Fits.{fits_range}
-use Rattle.quast_trees.specs.Source.{Source}
-use Rattle.quast_trees.specs.Tree.{Tree, initial, leaf, branch, bind, count, Speaks}
-use Rattle.quast_trees.specs.Paths.{Turn, up, down, bound, LeafPath, path_to, behind, leaf_paths}
-use Rattle.quast_trees.specs.Paths.{binds_in, AreOver, has_no_point}
-use Rattle.quast_trees.specs.Turns.{CanTell}
-use Rattle.quast_joins.specs.Counts.{HasForms}
-use Rattle.quast_joins.specs.Limits.{leaf_limit}
-use Rattle.quast_joins.specs.Sizes.{IsWithin, AreWithin, IsFormWithin, AreFormsWithin, LeavesWithin}
-use Rattle.quast_joins.specs.Ways as ways
-use Rattle.iteration_domains.specs.Model.{Modelled, KernelModel}
-use Rattle.iteration_domains.specs.Sizes.{IsKernelModel, HaveOneCount}
-use Rattle.conflict_deps.specs.Conflicts.{Side, loops_of}
-use Rattle.dataflow.specs.Covering.{conflicts_at, told_deps}
+use Rattle.quast_trees.specs.Tree.{initial}
+use Rattle.quast_trees.specs.Paths.{path_to, behind, has_no_point}
+use Rattle.iteration_domains.specs.Sizes.{HaveOneCount}
 use Rattle.dataflow.specs.ReadSources.{Unresolves}
-use Rattle.dataflow.specs.Runs.{Halt}
-use Rattle.dataflow.specs.WriterRuns.{Stopped, chosen_deps}
-use Rattle.iteration_domains.specs.Dependence.{Dependence}
 use Rattle.dataflow.specs.declared.source.SourceStop.{SourceStop}
-use Rattle.dataflow.specs.declared.source.SourceStop.TheVariants as stop
 use Rattle.quast_joins.specs.declared.way.Way.{Way}
-use Rattle.dataflow.specs.Leaves.{written_side, written_of, writer_of}
-use Rattle.dataflow.specs.LeafSteps.{HoldsRows, HoldsOpposite, HoldOpposites, CanTellWriter, CanTellAll}
-use Rattle.dataflow.specs.Told.{IsInstance, NamesInstances, IsQuastOver}
 use Rattle.dataflow.proofs.CoverEnds.{written_is}
 use Rattle.dataflow.proofs.LeafForms.{opposed_of}
+use Rattle.quast_joins.specs.Ways as ways
+use Rattle.dataflow.specs.declared.source.SourceStop.TheVariants as stop
 
 -- all that a tree says of a leaf by its place: n variables stand at the root
 pub record IsLeafOf (model : KernelModel) (n most : ℕ) (p : LeafPath) : Type 0 where

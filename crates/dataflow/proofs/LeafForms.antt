@@ -1,14 +1,13 @@
 -- The forms of a leaf's rows as the code puts them together: numbers at their variables, opposites, one number more.
-use Rattle.scop_syntax.proofs.Common.{◌≡◌, ℕ, zero, suc, ◌+◌, ◌-◌, ◌<◌, ℤ, pos, negsuc, List, [], ◌∷◌, ◌++◌, length}
-use Rattle.scop_syntax.proofs.Common.{take, drop, ap, ap₂, sym, ◌∙◌, refl, arith, get_or, length-append, set, ◌+ℤ◌}
-use Rattle.scop_syntax.proofs.Common.{◌-ℤ◌, ◌*ℤ◌, neg_ℤ, true, All, ints, length-take-le, get_or-append-add}
-use Rattle.scop_syntax.proofs.Common.{get_or_append_left, All-nil, All-cons, All-head, All-tail, fits, zeros, multiples}
-use Rattle.scop_syntax.proofs.Common.{sums, Affine, form_of, complement, length-zeros, length-multiples, get_or-zeros}
-use Rattle.scop_syntax.proofs.Common.{multiples-append, multiples-one}
-use Rattle.std.proofs.Common.{length-drop}
+use Rattle.dataflow.proofs.Common.{◌≡◌, ℕ, zero, suc, ◌+◌, ◌-◌, ◌<◌, ℤ, pos, negsuc, List, [], ◌∷◌, ◌++◌, length, take}
+use Rattle.dataflow.proofs.Common.{drop, ap, ap₂, sym, ◌∙◌, refl, arith, get_or, length-append, set, ◌+ℤ◌, ◌-ℤ◌, ◌*ℤ◌}
+use Rattle.dataflow.proofs.Common.{neg_ℤ, true, All, ints, length-take-le, get_or-append-add, get_or_append_left}
+use Rattle.dataflow.proofs.Common.{All-nil, All-cons, All-head, All-tail, fits, zeros, multiples, Affine, form_of}
+use Rattle.dataflow.proofs.Common.{complement, length-zeros, length-multiples, get_or-zeros, length-drop, width}
+use Rattle.dataflow.proofs.Common.{placed_numbers, placed, bind_begins, bind_ends, turn_equality, CanPlace}
+use Rattle.dataflow.proofs.Common.{HoldOpposites}
+use Rattle.scop_syntax.proofs.Common.{sums, multiples-append, multiples-one}
 use Rattle.whole_numbers.proofs.Lists.{drop-multiples}
-use Rattle.dataflow.specs.LeafRows.{width, placed_numbers, placed, bind_begins, bind_ends, turn_equality}
-use Rattle.dataflow.specs.LeafSteps.{CanPlace, HoldOpposites}
 use Rattle.dataflow.specs.declared.leaf_rows.Layout.{Layout}
 
 pub length-placed : (l : Layout) (cs : List ℤ) → CanPlace l cs → length (placed_numbers l cs) ≡ width l

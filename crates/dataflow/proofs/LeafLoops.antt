@@ -1,13 +1,11 @@
 -- The rows of a path and the equalities of a leaf, put one behind another.
-use Rattle.scop_syntax.proofs.Common.{◌≡◌, ℕ, suc, ◌+◌, ◌<◌, ◌≤◌, pos, List, [], ◌∷◌, ◌++◌, length, drop, ap, subst}
-use Rattle.scop_syntax.proofs.Common.{sym, ◌∙◌, refl, arith, get_or, add-one, drop-cons, append_assoc, All, drop_all}
-use Rattle.scop_syntax.proofs.Common.{All-get_or, Affine, all_unmapped}
+use Rattle.dataflow.proofs.Common.{◌≡◌, ℕ, suc, ◌+◌, ◌<◌, ◌≤◌, pos, List, [], ◌∷◌, ◌++◌, length, drop, ap, subst, sym}
+use Rattle.dataflow.proofs.Common.{◌∙◌, refl, arith, get_or, add-one, drop-cons, All, All-get_or, Affine, all_unmapped}
+use Rattle.dataflow.proofs.Common.{Turn, up, down, bound, binds_in, AreOver, turn_held, turns_held, placed_numbers}
+use Rattle.dataflow.proofs.Common.{path_rows, turn_equality, turn_equalities, AreFree}
+use Rattle.scop_syntax.proofs.Common.{append_assoc, drop_all}
 use Rattle.std.proofs.lemmas.List.{append-nil}
-use Rattle.quast_trees.specs.Paths.{Turn, up, down, bound, binds_in, AreOver}
-use Rattle.quast_trees.specs.steps.Ways.{turn_held, turns_held}
 use Rattle.quast_trees.specs.declared.paths.Turn.{Turn as Held}
-use Rattle.dataflow.specs.LeafRows.{placed_numbers, path_rows, turn_equality, turn_equalities}
-use Rattle.dataflow.specs.LeafSteps.{AreFree}
 use Rattle.dataflow.specs.declared.leaf_rows.Layout.{Layout}
 
 -- something passed and what is passed behind it

@@ -1,14 +1,9 @@
 -- Where the variables of a leaf stand, by the way in which its writer is looked for.
-use Rattle.scop_syntax.proofs.Common.{◌≡◌, ℕ, ◌+◌, ◌-◌, ◌≤◌, pos, List, [], ◌∷◌, ◌++◌, length, take, drop, get_or, ap}
-use Rattle.scop_syntax.proofs.Common.{subst, sym, ◌∙◌, refl, arith, length-take-le, get_or-append-add}
-use Rattle.scop_syntax.proofs.Common.{get_or_append_left, zeros, length-zeros, get_or-zeros}
-use Rattle.std.proofs.Common.{length-drop}
-use Rattle.quast_trees.specs.Paths.{Turn, up, down, bound, LeafPath, binds_in}
+use Rattle.dataflow.proofs.Common.{◌≡◌, ℕ, ◌+◌, ◌-◌, ◌≤◌, pos, List, [], ◌∷◌, ◌++◌, length, take, drop, get_or, ap}
+use Rattle.dataflow.proofs.Common.{subst, sym, ◌∙◌, refl, arith, length-take-le, get_or-append-add, get_or_append_left}
+use Rattle.dataflow.proofs.Common.{zeros, length-zeros, get_or-zeros, length-drop, Turn, up, down, bound, LeafPath}
+use Rattle.dataflow.proofs.Common.{binds_in, Side, loops_of, placed_numbers, leaf_layout, AreFree, CanWrite, CanLay}
 use Rattle.quast_joins.specs.declared.way.Way.TheVariants.{Later, Earlier}
-use Rattle.conflict_deps.specs.Conflicts.{Side, loops_of}
-use Rattle.dataflow.specs.LeafRows.{placed_numbers}
-use Rattle.dataflow.specs.Leaves.{leaf_layout}
-use Rattle.dataflow.specs.LeafSteps.{AreFree, CanWrite, CanLay}
 use Rattle.dataflow.specs.declared.leaf_rows.Layout.{Layout}
 
 -- no more binds than turns are passed

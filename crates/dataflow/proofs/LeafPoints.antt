@@ -1,16 +1,14 @@
 -- The rows of what is passed hold just where the point goes so.
-use Rattle.scop_syntax.proofs.Common.{◌≡◌, ℕ, zero, suc, ◌+◌, ◌-◌, ◌<◌, ◌≤◌, ℤ, pos, negsuc, List, [], ◌∷◌, ◌++◌}
-use Rattle.scop_syntax.proofs.Common.{length, take, drop, ap, ap₂, subst, sym, ◌∙◌, refl, arith, get_or, length-append}
-use Rattle.scop_syntax.proofs.Common.{◌↔◌, ◌≤ℤ◌, ◌<ℤ◌, ◌+ℤ◌, ◌-ℤ◌, ◌*ℤ◌, neg_ℤ, All, set, ints, length-take-le}
-use Rattle.scop_syntax.proofs.Common.{get_or-append-add, get_or_append_left, All-nil, All-cons, All-head, All-tail, dot}
-use Rattle.scop_syntax.proofs.Common.{zeros, Affine, form_of, value_of, values_of, multiple_of_form, complement}
-use Rattle.scop_syntax.proofs.Common.{IsFloor, dot-nil, dot-zeros, dot-append, dot-unit, length-zeros, dot-split}
-use Rattle.scop_syntax.proofs.Common.{mul_comm_int, mul_neg_left, value_of-sum, value_of-multiple, value_of-complement}
-use Rattle.std.proofs.Common.{length-drop}
+use Rattle.dataflow.proofs.Common.{◌≡◌, ℕ, zero, suc, ◌+◌, ◌-◌, ◌<◌, ◌≤◌, ℤ, pos, negsuc, List, [], ◌∷◌, ◌++◌, length}
+use Rattle.dataflow.proofs.Common.{take, drop, ap, ap₂, subst, sym, ◌∙◌, refl, arith, get_or, length-append, ◌↔◌, ◌≤ℤ◌}
+use Rattle.dataflow.proofs.Common.{◌<ℤ◌, ◌+ℤ◌, ◌-ℤ◌, ◌*ℤ◌, neg_ℤ, All, set, ints, length-take-le, get_or-append-add}
+use Rattle.dataflow.proofs.Common.{get_or_append_left, All-nil, All-cons, All-head, All-tail, zeros, Affine, form_of}
+use Rattle.dataflow.proofs.Common.{value_of, values_of, multiple_of_form, complement, length-zeros, value_of-multiple}
+use Rattle.dataflow.proofs.Common.{length-drop, Turn, up, down, bound, binds_in, AreOver, Goes, width, bound_form}
+use Rattle.dataflow.proofs.Common.{placed, bind_begins, bind_ends, path_rows, turn_equality, turn_equalities}
+use Rattle.scop_syntax.proofs.Common.{dot, IsFloor, dot-nil, dot-zeros, dot-append, dot-unit, dot-split, mul_comm_int}
+use Rattle.scop_syntax.proofs.Common.{mul_neg_left, value_of-sum, value_of-complement}
 use Rattle.std.proofs.lemmas.List.{append_assoc, append-nil}
-use Rattle.quast_trees.specs.Paths.{Turn, up, down, bound, binds_in, AreOver, Goes}
-use Rattle.dataflow.specs.LeafRows.{width, bound_form, placed, bind_begins, bind_ends, path_rows, turn_equality}
-use Rattle.dataflow.specs.LeafRows.{turn_equalities}
 use Rattle.dataflow.specs.declared.leaf_rows.Layout.{Layout}
 
 dot_front : (n : ℕ) (xs ys : List ℤ) → length ys ≤ n → dot (take n xs) ys ≡ dot xs ys

@@ -1,21 +1,17 @@
 -- The equalities and rows of a leaf as the code puts them together, and how many variables they have.
-use Rattle.scop_syntax.proofs.Common.{◌≡◌, ℕ, suc, ◌+◌, ◌≤◌, negsuc, List, [], ◌∷◌, ◌++◌, length, map, ap, ap₂, subst}
-use Rattle.scop_syntax.proofs.Common.{sym, ◌∙◌, refl, arith, append_assoc, All, neg_ℤ, All-nil, All-cons, All-head}
-use Rattle.scop_syntax.proofs.Common.{All-tail, All-append, Affine, complement, multiple_of_form, length-multiples}
-use Rattle.scop_syntax.proofs.Common.{length-sums}
-use Rattle.integer_sets.specs.Constraints.{Constraints, variables_in}
+use Rattle.dataflow.proofs.Common.{◌≡◌, ℕ, suc, ◌+◌, ◌≤◌, negsuc, List, [], ◌∷◌, ◌++◌, length, map, ap, ap₂, subst, sym}
+use Rattle.dataflow.proofs.Common.{◌∙◌, refl, arith, All, neg_ℤ, All-nil, All-cons, All-head, All-tail, All-append}
+use Rattle.dataflow.proofs.Common.{Affine, complement, multiple_of_form, length-multiples, Constraints, variables_in}
+use Rattle.dataflow.proofs.Common.{equalities_in, variable, IsNarrow, Turn, up, down, bound, binds_in, AreOver, Side}
+use Rattle.dataflow.proofs.Common.{loops_of, source_form, target_form, same_subscripts, width, placed, bound_form}
+use Rattle.dataflow.proofs.Common.{bind_begins, bind_ends, path_rows, turn_equality, turn_equalities, first_form}
+use Rattle.dataflow.proofs.Common.{second_form, CanPlace}
+use Rattle.scop_syntax.proofs.Common.{append_assoc, length-sums}
 use Rattle.iteration_domains.specs.Parts.{variables_of}
-use Rattle.iteration_domains.specs.Constraints.{equalities_in}
-use Rattle.iteration_domains.specs.Rows.{variable}
-use Rattle.iteration_domains.specs.Sizes.{IsNarrow}
 use Rattle.iteration_domains.proofs.Surroundings.{length-variable}
-use Rattle.quast_trees.specs.Paths.{Turn, up, down, bound, binds_in, AreOver}
-use Rattle.conflict_deps.specs.Conflicts.{Side, loops_of, source_form, target_form, same_subscripts, difference_of_forms}
+use Rattle.conflict_deps.specs.Conflicts.{difference_of_forms}
 use Rattle.conflict_deps.proofs.Shapes.{length-source, length-target, length-difference, size-source}
-use Rattle.dataflow.specs.LeafRows.{width, placed, bound_form, bind_begins, bind_ends, path_rows, turn_equality}
-use Rattle.dataflow.specs.LeafRows.{turn_equalities}
-use Rattle.dataflow.specs.Leaves.{first_form, second_form}
-use Rattle.dataflow.specs.LeafSteps.{IsSmall, CanPlace}
+use Rattle.dataflow.specs.LeafSteps.{IsSmall}
 use Rattle.dataflow.specs.declared.leaf_rows.Layout.{Layout}
 use Rattle.dataflow.proofs.LeafForms.{length-placed}
 

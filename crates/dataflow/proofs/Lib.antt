@@ -1,3 +1,4 @@
+pub mod Common
 pub mod Choices
 pub mod Candidates
 pub mod AccessWriters

@@ -1,17 +1,15 @@
 -- Forms of a problem, put one behind another; multiples of small forms are never too wide.
-use Rattle.scop_syntax.proofs.Common.{◌≡◌, ℕ, zero, suc, ◌+◌, ◌-◌, ◌^◌, ◌<◌, ◌≤◌, ℤ, pos, negsuc, ◌*ℤ◌, List, [], ◌∷◌}
-use Rattle.scop_syntax.proofs.Common.{◌++◌, set, map, take, drop, get_or, length, refl, sym, ap, ap₂, subst, ◌∙◌, arith}
-use Rattle.scop_syntax.proofs.Common.{append_assoc, add-one, drop-cons, Ok, All, unsigned_abs, w128, take-length}
-use Rattle.scop_syntax.proofs.Common.{map-append, unsigned_abs-mul, fits_signed_from_abs, zeros, multiples, Affine}
-use Rattle.scop_syntax.proofs.Common.{multiple_of_form, composed, fits_iff}
-use Rattle.std.proofs.Common.{length-drop}
+use Rattle.dataflow.proofs.Common.{◌≡◌, ℕ, zero, suc, ◌+◌, ◌-◌, ◌^◌, ◌<◌, ◌≤◌, ℤ, pos, negsuc, ◌*ℤ◌, List, [], ◌∷◌}
+use Rattle.dataflow.proofs.Common.{◌++◌, set, map, take, drop, get_or, length, refl, sym, ap, ap₂, subst, ◌∙◌, arith}
+use Rattle.dataflow.proofs.Common.{add-one, drop-cons, Ok, All, w128, map-append, zeros, multiples, Affine}
+use Rattle.dataflow.proofs.Common.{multiple_of_form, composed, fits_iff, length-drop, size, form_size, CanCompose}
+use Rattle.dataflow.proofs.Common.{below, all_below, flat, own}
+use Rattle.scop_syntax.proofs.Common.{append_assoc, unsigned_abs, take-length, unsigned_abs-mul, fits_signed_from_abs}
 use Rattle.wide_math.specs.declared.Op.TheVariants.{Mul}
 use Rattle.wide_math.specs.Checked.{product_of}
 use Rattle.wide_math.proofs.Steps.{checked-fits}
 use Rattle.affine_forms.specs.Runs.{map_run, multiplied_run, scaled_run}
-use Rattle.iteration_domains.specs.Sizes.{size, form_size, CanCompose}
 use Rattle.iteration_domains.proofs.Sizes.{size-composed}
-use Rattle.dataflow.specs.Problems.{below, all_below, flat, own}
 
 -- the opposite of a unit
 opposite_zeros : (n : ℕ) → multiples (negsuc 0) (zeros n) ≡ zeros n

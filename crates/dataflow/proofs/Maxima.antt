@@ -1,12 +1,9 @@
 -- A maximum by a minimum, and a wanted point either way by the least point of a problem.
-use Rattle.scop_syntax.proofs.Common.{◌≡◌, ℕ, ℤ, ◌-ℤ◌, List, [], ◌∷◌, length, inl, inr, ◌⊎◌, refl, sym, ap₂, subst, ◌∙◌}
-use Rattle.scop_syntax.proofs.Common.{arith, length-map, ints, LexLess, LexLe}
+use Rattle.dataflow.proofs.Common.{◌≡◌, ℕ, ℤ, ◌-ℤ◌, List, [], ◌∷◌, length, inl, inr, ◌⊎◌, refl, sym, ap₂, subst, ◌∙◌}
+use Rattle.dataflow.proofs.Common.{arith, length-map, ints, LexLess, LexLe, TurnsAtMost, flipped, top, writer_turns}
 use Rattle.whole_numbers.proofs.Lexicographic.{lex_total, LexLe-from_less, LexLe-refl}
 use Rattle.quast_joins.specs.declared.way.Way.{Way}
 use Rattle.quast_joins.specs.declared.way.Way.TheVariants.{Later, Earlier}
-use Rattle.dataflow.specs.Candidates.{TurnsAtMost}
-use Rattle.dataflow.specs.Flips.{flipped}
-use Rattle.dataflow.specs.Problems.{top, writer_turns}
 
 lex_le_or_less : (xs ys : List ℤ) → LexLe xs ys ⊎ LexLess ys xs
 lex_le_or_less xs ys = elim (lex_total xs ys) [

@@ -1,11 +1,10 @@
 -- What holds of each of a list that a loop looks at, and of a tree's nodes: numbers that their type holds.
-use Rattle.scop_syntax.proofs.Common.{List, [], ◌∷◌, ◌++◌, All, All-nil, All-cons, All-head, All-tail}
-use Rattle.quast_trees.specs.Tree.{Tree, initial, leaf, branch, bind, count}
+use Rattle.dataflow.proofs.Common.{List, [], ◌∷◌, ◌++◌, All, All-nil, All-cons, All-head, All-tail, Tree, leaf, branch}
+use Rattle.dataflow.proofs.Common.{bind, count, IsHeldNode, HoldsNumbers}
+use Rattle.quast_trees.specs.Tree.{initial}
 use Rattle.quast_trees.specs.Postfix.{written}
 use Rattle.quast_trees.specs.declared.node.Node.{Node}
 use Rattle.quast_trees.specs.declared.node.Node.TheVariants as node
-use Rattle.dataflow.specs.Steps.{IsHeldNode}
-use Rattle.dataflow.specs.Told.{HoldsNumbers}
 
 -- both parts of a list
 all_parts : (P : Node → Type 0) (xs ys : List Node) → All P (xs ++ ys) → All P xs × All P ys

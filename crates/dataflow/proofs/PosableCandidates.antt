@@ -1,30 +1,25 @@
 -- A candidate of a kernel's model can be posed: nothing on the way is too wide.
-use Rattle.scop_syntax.proofs.Common.{◌≡◌, ℕ, zero, suc, ◌+◌, ◌-◌, ◌*◌, ◌^◌, ◌≤◌, ℤ, negsuc, List, [], ◌∷◌, ◌++◌}
-use Rattle.scop_syntax.proofs.Common.{length, map, Some, take, drop, get_or, ap, ap₂, subst, sym, ◌∙◌, refl, arith}
-use Rattle.scop_syntax.proofs.Common.{length-append, All, slice_get, length-map, All-nil, All-cons, All-head, All-tail}
-use Rattle.scop_syntax.proofs.Common.{All-append, Affine, composed, AreAtMost, IsKernel, IsPlaced, ranks_of, In, Placed}
-use Rattle.scop_syntax.proofs.Common.{statements_of, Program, in_from_place, All-weaker}
+use Rattle.dataflow.proofs.Common.{◌≡◌, ℕ, zero, suc, ◌+◌, ◌-◌, ◌^◌, ◌≤◌, ℤ, negsuc, List, [], ◌∷◌, ◌++◌, length, map}
+use Rattle.dataflow.proofs.Common.{Some, take, drop, get_or, ap, ap₂, subst, sym, ◌∙◌, refl, arith, length-append, All}
+use Rattle.dataflow.proofs.Common.{slice_get, length-map, All-nil, All-cons, All-head, All-tail, All-append, Affine}
+use Rattle.dataflow.proofs.Common.{composed, IsKernel, IsPlaced, ranks_of, In, Placed, statements_of, Program}
+use Rattle.dataflow.proofs.Common.{in_from_place, Constraints, variables_in, variable, variables, equalities_in}
+use Rattle.dataflow.proofs.Common.{rows_in, Modelled, KernelModel, modelled, model_of, Dependence, size, form_size}
+use Rattle.dataflow.proofs.Common.{CanCompose, IsKernelModel, IsNarrow, model_is_one, length-variables, sized-variables}
+use Rattle.dataflow.proofs.Common.{loops_of, pair_size, conflicts_of, source_form, target_form, cell_rows, HasParts}
+use Rattle.dataflow.proofs.Common.{CanPose, top, below, all_below, moved_pair, moved_variables, flat, own}
+use Rattle.dataflow.proofs.Common.{own_equalities_of, reader_begins, turned, writer_end, reader_end, writer_side}
+use Rattle.dataflow.proofs.Common.{reader_side}
+use Rattle.scop_syntax.proofs.Common.{◌*◌, AreAtMost, All-weaker}
 use Rattle.affine_forms.specs.Parts.{variables_of}
-use Rattle.integer_sets.specs.Constraints.{Constraints, variables_in}
 use Rattle.quast_joins.specs.declared.way.Way.{Way}
 use Rattle.quast_joins.specs.declared.way.Way.TheVariants.{Later, Earlier}
-use Rattle.iteration_domains.specs.Rows.{variable, variables}
-use Rattle.iteration_domains.specs.Constraints.{equalities_in, rows_in}
-use Rattle.iteration_domains.specs.Model.{Modelled, KernelModel, modelled, model_of}
-use Rattle.iteration_domains.specs.Dependence.{Dependence}
-use Rattle.iteration_domains.specs.Sizes.{size, form_size, forms_size, CanCompose, IsKernelModel, IsNarrow}
+use Rattle.iteration_domains.specs.Sizes.{forms_size}
 use Rattle.iteration_domains.proofs.NarrowStatements.{statement_narrow}
-use Rattle.iteration_domains.proofs.TreeStatements.{model_is_one}
 use Rattle.iteration_domains.proofs.Sizes.{size-multiple, size-variable, size-variables}
-use Rattle.iteration_domains.proofs.Surroundings.{length-variables, sized-variables}
-use Rattle.conflict_deps.specs.Conflicts.{loops_of, pair_size, conflicts_of, source_form, target_form, cell_rows}
-use Rattle.conflict_deps.specs.Parts.{HasParts}
 use Rattle.conflict_deps.proofs.Shapes.{Fits}
 use Rattle.conflict_deps.proofs.Systems.{conflict_fits}
-use Rattle.dataflow.specs.Posed.{CanPose, IsSmall}
-use Rattle.dataflow.specs.Problems.{top, below, all_below, moved_pair, moved_variables, flat, own, own_equalities_of}
-use Rattle.dataflow.specs.Problems.{reader_begins, turned}
-use Rattle.dataflow.specs.Sources.{writer_end, reader_end, writer_side, reader_side}
+use Rattle.dataflow.specs.Posed.{IsSmall}
 use Rattle.dataflow.proofs.CandidateSolutions.{writer_slot, reader_slot}
 use Rattle.dataflow.proofs.Lists.{equalities_put}
 use Rattle.dataflow.proofs.ResolvedWriters.{length-all_below, size-pair}

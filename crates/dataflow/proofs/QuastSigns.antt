@@ -1,33 +1,23 @@
 -- No quotient that an access's quast binds on the way of a walked instance is negative, and 128 bits hold the numbers by
 -- which its turns are told.
-use Rattle.scop_syntax.proofs.Common.{◌≡◌, ℕ, ◌+◌, ◌^◌, ℤ, pos, ◌≤ℤ◌, ◌<ℤ◌, List, [], ◌∷◌, ◌++◌, length, All, Option}
-use Rattle.scop_syntax.proofs.Common.{Some, None, Result, Ok, Err, sym, ap₂, subst, ◌∙◌, refl, arith, length-append}
-use Rattle.scop_syntax.proofs.Common.{slice_get, ints, All-head, All-tail, NotNegative, not_negative-append, Cell}
-use Rattle.scop_syntax.proofs.Common.{Program, Visit}
+use Rattle.dataflow.proofs.Common.{◌≡◌, ℕ, ◌+◌, ◌^◌, ℤ, pos, ◌≤ℤ◌, ◌<ℤ◌, List, [], ◌∷◌, ◌++◌, length, All, Option, Some}
+use Rattle.dataflow.proofs.Common.{None, Result, Ok, Err, sym, ap₂, subst, ◌∙◌, refl, arith, length-append, slice_get}
+use Rattle.dataflow.proofs.Common.{ints, All-head, All-tail, NotNegative, not_negative-append, Cell, Program, Visit}
+use Rattle.dataflow.proofs.Common.{row_values, Counted, source_of, Tree, Speaks, BindsUp, CanTell, leaf_limit}
+use Rattle.dataflow.proofs.Common.{LeavesWithin, join_within, join-speaks, Modelled, KernelModel, model_of, Dependence}
+use Rattle.dataflow.proofs.Common.{parts_of, all_below, posed_context, posed_rows, top, writer_end, reader_end}
+use Rattle.dataflow.proofs.Common.{writer_side, reader_side, IsCandidate, candidates_of, fitting, solve_between}
+use Rattle.dataflow.proofs.Common.{sourced, turned_back, read_variables, turned_tree, turns_in, writers_run}
 use Rattle.wide_math.specs.declared.Wide.{Wide}
-use Rattle.tableau_rows.specs.Problem.{row_values}
-use Rattle.pip_solver.specs.Nodes.{Counted}
 use Rattle.pip_solver.proofs.BoundSigns.{lexmin-up}
 use Rattle.pip_solver.proofs.TurnNumbers.{lexmin-tells}
-use Rattle.quast_trees.specs.Source.{source_of}
-use Rattle.quast_trees.specs.Tree.{Tree, initial, named, Speaks}
-use Rattle.quast_trees.specs.Turns.{BindsUp, CanTell}
+use Rattle.quast_trees.specs.Tree.{initial, named}
 use Rattle.quast_trees.proofs.MappedTurns.{mapped_keeps, named_tells, named_up}
-use Rattle.quast_joins.specs.Limits.{leaf_limit}
-use Rattle.quast_joins.specs.Sizes.{LeavesWithin}
 use Rattle.quast_joins.specs.declared.way.Way.{Way}
 use Rattle.quast_joins.specs.declared.way.Way.TheVariants.{Later, Earlier}
 use Rattle.quast_joins.proofs.JoinSigns.{join-up}
 use Rattle.quast_joins.proofs.JoinTurns.{join-tells}
-use Rattle.quast_joins.proofs.Sizes.{join_within}
-use Rattle.quast_joins.proofs.Variables.{join-speaks}
-use Rattle.iteration_domains.specs.Model.{Modelled, KernelModel, model_of}
-use Rattle.iteration_domains.specs.Dependence.{Dependence}
-use Rattle.conflict_deps.proofs.Parts.{parts_of}
-use Rattle.dataflow.specs.Problems.{all_below, posed_context, posed_rows, top}
-use Rattle.dataflow.specs.Sources.{writer_end, reader_end, writer_side, reader_side, IsCandidate}
-use Rattle.dataflow.specs.WriterRuns.{candidates_of, fitting, solve_between, solve_run, sourced, turned_back, posed_run}
-use Rattle.dataflow.specs.WriterRuns.{read_variables, turned_tree, turns_in, writers_run}
+use Rattle.dataflow.specs.WriterRuns.{solve_run, posed_run}
 use Rattle.dataflow.proofs.CandidateSolutions.{Reads, context_up, in_statements, reader_slot, up_bounded, writer_slot}
 use Rattle.dataflow.proofs.Fits.{fitting_is, named_within}
 use Rattle.dataflow.proofs.JoinedRuns.{run_keeps}

@@ -1,52 +1,38 @@
 -- A resolved access's quast names the wanted writer.
-use Rattle.scop_syntax.proofs.Common.{◌≡◌, ℕ, zero, suc, ◌+◌, ◌^◌, Bool, true, false, ℤ, pos, negsuc, ◌≤ℤ◌, ◌<ℤ◌, List}
-use Rattle.scop_syntax.proofs.Common.{[], ◌∷◌, ◌++◌, length, map, Option, Some, None, Result, Ok, Err, All, refl, sym}
-use Rattle.scop_syntax.proofs.Common.{ap, ap₂, subst, ◌∙◌, arith, length-append, inl, inr, slice_get, nat_eq}
-use Rattle.scop_syntax.proofs.Common.{if◌then◌else◌, eqb-true, eq-eqb, All-nil, All-cons, Affine, form_of, value_of}
-use Rattle.scop_syntax.proofs.Common.{values_of, composed, zeros, NotNegative, floor, length-set, length-map}
-use Rattle.scop_syntax.proofs.Common.{length-zeros, length-multiples, get_map, Program, In, Placed, statements_of}
-use Rattle.scop_syntax.proofs.Common.{in_from_place, place_of, Cell, HasParameters, Visit, walk_of}
+use Rattle.dataflow.proofs.Common.{◌≡◌, ℕ, zero, suc, ◌+◌, ◌^◌, Bool, true, false, ℤ, pos, negsuc, ◌≤ℤ◌, ◌<ℤ◌, List, []}
+use Rattle.dataflow.proofs.Common.{◌∷◌, ◌++◌, length, map, Option, Some, None, Result, Ok, Err, All, refl, sym, ap, ap₂}
+use Rattle.dataflow.proofs.Common.{subst, ◌∙◌, arith, length-append, inl, inr, slice_get, nat_eq, if◌then◌else◌}
+use Rattle.dataflow.proofs.Common.{eqb-true, eq-eqb, All-nil, All-cons, Affine, form_of, value_of, values_of, composed}
+use Rattle.dataflow.proofs.Common.{zeros, NotNegative, length-map, length-zeros, length-multiples, get_map, Program, In}
+use Rattle.dataflow.proofs.Common.{Placed, statements_of, in_from_place, place_of, Cell, HasParameters, Visit, walk_of}
+use Rattle.dataflow.proofs.Common.{problem_of, row_values, Counted, IsAnswer, lexmin-speaks, lexmin-forms, Source}
+use Rattle.dataflow.proofs.Common.{source_of, Tree, leaf, branch, bind, Speaks, LeavesHave, Leaf, found, value, by_sign}
+use Rattle.dataflow.proofs.Common.{leaf_limit, named-speaks, Satisfies, IsKernelModel, parts_of, Names, or_initial}
+use Rattle.dataflow.proofs.Common.{variable, variables, Modelled, model_of, modelled, Dependence, instance_is_point}
+use Rattle.dataflow.proofs.Common.{goes_on_last, one_model, conflicts_of, TouchesAt, IsWanted, writer_end, reader_end}
+use Rattle.dataflow.proofs.Common.{wanted_writer, IsCandidate, IsSolved, IsWritePoint, writer_side, reader_side, top}
+use Rattle.dataflow.proofs.Common.{below, all_below, turned, moved_pair, moved, moved_variables, flat}
+use Rattle.dataflow.proofs.Common.{own_equalities_of, own_rows_of, posed_rows, posed_context, turned_leaf, leaves_fit}
+use Rattle.dataflow.proofs.Common.{fitting, sourced, turned_back, turned_tree, solve_between, is_candidate, chosen_deps}
+use Rattle.dataflow.proofs.Common.{candidates_of, turns_in, writers_run}
+use Rattle.scop_syntax.proofs.Common.{floor, length-set}
 use Rattle.whole_numbers.proofs.Values.{length-combination}
 use Rattle.wide_math.specs.declared.Wide.{Wide}
-use Rattle.tableau_rows.specs.Problem.{problem_of, row_values, Speaks as RowsSpeak}
-use Rattle.pip_solver.specs.Nodes.{Counted, lexmin_run}
-use Rattle.pip_solver.specs.Leaves.{IsAnswer}
+use Rattle.tableau_rows.specs.Problem.{Speaks as RowsSpeak}
+use Rattle.pip_solver.specs.Nodes.{lexmin_run}
 use Rattle.pip_solver.proofs.Trees.{lexmin-right}
-use Rattle.pip_solver.proofs.KeptSolutions.{lexmin-speaks, lexmin-forms}
-use Rattle.quast_trees.specs.Source.{Source, source_of}
-use Rattle.quast_trees.specs.Tree.{Tree, initial, leaf, branch, bind, named, Speaks, LeavesHave}
-use Rattle.quast_trees.specs.Leaf.{Leaf, found, mapped_leaf}
-use Rattle.quast_trees.specs.Leaf as answer
-use Rattle.quast_trees.specs.Value.{value, by_sign}
-use Rattle.quast_joins.specs.Limits.{leaf_limit}
+use Rattle.quast_trees.specs.Tree.{initial, named}
+use Rattle.quast_trees.specs.Leaf.{mapped_leaf}
 use Rattle.quast_trees.proofs.MappedTrees.{map_run-speaks, map_run-value}
-use Rattle.quast_trees.proofs.NamedTrees.{named-speaks}
 use Rattle.quast_joins.specs.declared.way.Way.{Way}
 use Rattle.quast_joins.specs.declared.way.Way.TheVariants.{Later, Earlier}
-use Rattle.integer_sets.specs.Points.{Satisfies}
-use Rattle.iteration_domains.specs.Sizes.{IsKernelModel}
-use Rattle.conflict_deps.proofs.Parts.{parts_of}
-use Rattle.dataflow.specs.Places.{Names}
-use Rattle.dataflow.specs.Runs.{or_initial}
 use Rattle.dataflow.proofs.JoinedRuns.{run_joined}
 use Rattle.dataflow.proofs.AccessWriters.{Laws, wanted_is_found}
 use Rattle.dataflow.proofs.CandidateSolutions.{writer_slot, reader_slot, minimum_wanted, in_statements, up_bounded}
-use Rattle.iteration_domains.specs.Rows.{variable, variables}
-use Rattle.iteration_domains.specs.Model.{Modelled, model_of, modelled}
-use Rattle.iteration_domains.specs.Dependence.{Dependence}
-use Rattle.iteration_domains.proofs.Instances.{instance_is_point}
-use Rattle.iteration_domains.proofs.RowLaws.{goes_on_last}
-use Rattle.iteration_domains.proofs.TreeStatements.{one_model}
-use Rattle.conflict_deps.specs.Conflicts.{conflicts_of}
-use Rattle.conflict_deps.specs.Pairs.{TouchesAt}
-use Rattle.dataflow.specs.Candidates.{IsWanted}
-use Rattle.dataflow.specs.Sources.{writer_end, reader_end, wanted_writer, IsCandidate, IsSolved, IsWritePoint, loops_in}
-use Rattle.dataflow.specs.Sources.{writer_side, reader_side}
-use Rattle.dataflow.specs.Problems.{top, below, all_below, turned, moved_pair, moved, moved_variables, flat}
-use Rattle.dataflow.specs.Problems.{own_equalities_of, own_rows_of, posed_rows, posed_context, turned_leaf}
-use Rattle.dataflow.specs.WriterRuns.{leaves_fit, fitting, sourced, turned_back, turned_tree, solve_between, solve_run}
-use Rattle.dataflow.specs.WriterRuns.{is_candidate, chosen_deps, candidates_of, turns_in, writers_run}
+use Rattle.dataflow.specs.Sources.{loops_in}
+use Rattle.dataflow.specs.WriterRuns.{solve_run}
 use Rattle.dataflow.proofs.ProblemPoints.{all_below-values}
+use Rattle.quast_trees.specs.Leaf as answer
 
 -- the chosen ones of a list
 pub chosen_in : (test : Dependence → Bool) (ds : List Dependence) (d : Dependence) → In d (chosen_deps test ds)

@@ -1,46 +1,39 @@
 -- Sources are what a text can tell: their quasts speak of the variables at their places, and name instances.
-use Rattle.scop_syntax.proofs.Common.{◌≡◌, ℕ, zero, suc, ◌+◌, ◌^◌, ◌<◌, ◌≤◌, List, [], ◌∷◌, ◌++◌, length, All, ◌-◌}
-use Rattle.scop_syntax.proofs.Common.{Option, Some, None, Result, Ok, Err, refl, sym, ap, subst, ◌∙◌, arith, inl, inr}
-use Rattle.scop_syntax.proofs.Common.{⊤, IfOk, slice_get, All-head, All-tail, length-map, Affine, In, Placed, loops_in}
-use Rattle.scop_syntax.proofs.Common.{statements_of, Program, in_from_place, in_map_from, place_of}
+use Rattle.dataflow.proofs.Common.{◌≡◌, ℕ, zero, suc, ◌+◌, ◌^◌, ◌<◌, ◌≤◌, List, [], ◌∷◌, ◌++◌, length, All, ◌-◌, Option}
+use Rattle.dataflow.proofs.Common.{Some, None, Result, Ok, Err, refl, sym, ap, subst, ◌∙◌, arith, inl, inr, ⊤, IfOk}
+use Rattle.dataflow.proofs.Common.{slice_get, All-head, All-tail, length-map, Affine, In, Placed, statements_of}
+use Rattle.dataflow.proofs.Common.{Program, in_from_place, in_map_from, place_of, lexmin-speaks, lexmin-forms, Source}
+use Rattle.dataflow.proofs.Common.{source_of, Tree, leaf, branch, bind, count, Speaks, LeavesHave, tree_of}
+use Rattle.dataflow.proofs.Common.{named-speaks, HasForms, node_limit, join-speaks, Dependence, Modelled, KernelModel}
+use Rattle.dataflow.proofs.Common.{model_of, modelled, conflicts_of, AreSources, IsSourceOf, reads_from}
+use Rattle.dataflow.proofs.Common.{reads_of_statement, reads_in, reads_of, Stopped, writers_run, solve_between}
+use Rattle.dataflow.proofs.Common.{turned_back, is_candidate, candidates_of, turns_in, read_variables, top, all_below}
+use Rattle.dataflow.proofs.Common.{posed_rows, posed_context, writer_end, reader_end, IsHeldSource, IsInstance}
+use Rattle.dataflow.proofs.Common.{NamesInstances, IsToldOver}
+use Rattle.scop_syntax.proofs.Common.{loops_in}
 use Rattle.wide_math.specs.Checked.{◌>>=◌}
 use Rattle.wide_math.proofs.Steps.{chain-ok}
 use Rattle.affine_forms.specs.Runs.{compose_run}
-use Rattle.pip_solver.specs.declared.stop.Stop.TheVariants as solver
-use Rattle.tableau_rows.specs.Run as run
-use Rattle.pip_solver.proofs.KeptSolutions.{lexmin-speaks, lexmin-forms}
-use Rattle.quast_trees.specs.Source.{Source, source_of}
-use Rattle.quast_trees.specs.Tree.{Tree, initial, leaf, branch, bind, count, named, Speaks, LeavesHave}
+use Rattle.quast_trees.specs.Tree.{initial, named}
 use Rattle.quast_trees.specs.Mapped.{composed_run, leaf_run, map_run}
 use Rattle.quast_trees.proofs.ListRuns.{each_run-map}
-use Rattle.quast_trees.specs.Postfix.{tree_of}
-use Rattle.quast_trees.proofs.NamedTrees.{named-speaks}
-use Rattle.quast_joins.specs.Counts.{HasForms}
-use Rattle.quast_joins.specs.Limits.{node_limit}
 use Rattle.quast_joins.specs.declared.way.Way.{Way}
 use Rattle.quast_joins.specs.declared.way.Way.TheVariants.{Later, Earlier}
 use Rattle.quast_joins.proofs.Counts.{join-forms}
 use Rattle.quast_joins.proofs.JoinedLeaves.{join_leaves}
-use Rattle.quast_joins.proofs.Variables.{join-speaks}
-use Rattle.iteration_domains.specs.Dependence.{Dependence}
-use Rattle.iteration_domains.specs.Model.{Modelled, KernelModel, model_of, modelled}
-use Rattle.conflict_deps.specs.Conflicts.{conflicts_of}
-use Rattle.dataflow.specs.ReadSources.{AreSources, IsSourceOf, TellsStop, reads_from, reads_of_statement, reads_in}
-use Rattle.dataflow.specs.ReadSources.{reads_of}
-use Rattle.dataflow.specs.WriterRuns as writer
-use Rattle.dataflow.specs.WriterRuns.{Stopped, writers_run, solve_run, solve_between, turned_back, is_candidate}
-use Rattle.dataflow.specs.WriterRuns.{candidates_of, turns_in, read_variables}
-use Rattle.dataflow.specs.Problems.{top, all_below, posed_rows, posed_context}
-use Rattle.dataflow.specs.Sources.{writer_end, reader_end}
-use Rattle.dataflow.specs.Steps.{IsHeldSource}
-use Rattle.dataflow.specs.Told.{IsInstance, NamesInstances, IsToldStop, IsToldOver, IsToldAt, AreTold}
+use Rattle.dataflow.specs.ReadSources.{TellsStop}
+use Rattle.dataflow.specs.WriterRuns.{solve_run}
+use Rattle.dataflow.specs.Told.{IsToldStop, IsToldAt, AreTold}
 use Rattle.dataflow.specs.declared.source.ReadSource.{ReadSource}
-use Rattle.dataflow.specs.declared.source.ReadSource.TheVariants as source
-use Rattle.dataflow.specs.declared.source.SourceStop.TheVariants as stop
 use Rattle.dataflow.proofs.CandidateRuns.{reader_is, variables_are}
 use Rattle.dataflow.proofs.JoinedRuns.{run_keeps}
 use Rattle.dataflow.proofs.ResolvedWriters.{chosen_in, posed-speaks, context-speaks, solved_of, back_speaks}
 use Rattle.dataflow.proofs.ResolvedWriters.{length-all_below}
+use Rattle.pip_solver.specs.declared.stop.Stop.TheVariants as solver
+use Rattle.tableau_rows.specs.Run as run
+use Rattle.dataflow.specs.WriterRuns as writer
+use Rattle.dataflow.specs.declared.source.ReadSource.TheVariants as source
+use Rattle.dataflow.specs.declared.source.SourceStop.TheVariants as stop
 
 -- ---- leaves name instances
 

@@ -1,20 +1,16 @@
 -- The conflicts with an access to an array that is not marked are all among those without the marked arrays.
-use Rattle.scop_syntax.proofs.Common.{◌≡◌, ℕ, ◌+◌, Bool, true, false, List, [], ◌∷◌, ◌++◌, map, Some, inl, inr, ap, ap₂}
-use Rattle.scop_syntax.proofs.Common.{subst, sym, ◌∙◌, refl, arith, slice_get, nat_eq, if◌then◌else◌, flat_map}
-use Rattle.scop_syntax.proofs.Common.{eqb-true, In, is_marked, Access, both, in_if_from, in_map_from, place_of}
+use Rattle.dataflow.proofs.Common.{◌≡◌, ℕ, ◌+◌, Bool, true, false, List, [], ◌∷◌, ◌++◌, map, Some, inl, inr, ap, ap₂}
+use Rattle.dataflow.proofs.Common.{subst, sym, ◌∙◌, refl, arith, slice_get, nat_eq, if◌then◌else◌, flat_map, eqb-true}
+use Rattle.dataflow.proofs.Common.{In, is_marked, Access, both, in_map_from, place_of, Dependence, KernelModel}
+use Rattle.dataflow.proofs.Common.{Modelled, IsKernelModel, in_flat_map, Side, sides_of, sides_in, After, conflicts_of}
+use Rattle.dataflow.proofs.Common.{stands, in_flat_map_from, in_unless_from, side_to, is_in_role, reader_end}
+use Rattle.dataflow.proofs.Common.{writer_end, candidates_of, chosen_deps, is_candidate}
+use Rattle.scop_syntax.proofs.Common.{in_if_from}
 use Rattle.quast_joins.specs.declared.way.Way.{Way}
 use Rattle.quast_joins.specs.declared.way.Way.TheVariants.{Later, Earlier}
-use Rattle.iteration_domains.specs.Dependence.{Dependence}
-use Rattle.iteration_domains.specs.Model.{KernelModel, Modelled}
-use Rattle.iteration_domains.specs.Sizes.{IsKernelModel}
-use Rattle.iteration_domains.proofs.OutsideLaws.{in_flat_map}
-use Rattle.conflict_deps.specs.Conflicts.{Side, sides_of, sides_in, dep_of, afters_of, may_conflict, deps_between}
-use Rattle.conflict_deps.specs.Conflicts.{After, deps_on, conflicts_of, conflicts_without}
-use Rattle.conflict_deps.proofs.Parts.{stands}
-use Rattle.conflict_deps.proofs.Sides.{in_flat_map_from, in_unless_from, may_to, side_to}
-use Rattle.dataflow.specs.Covering.{HoldConflicts, is_in_role}
-use Rattle.dataflow.specs.Sources.{reader_end, writer_end}
-use Rattle.dataflow.specs.WriterRuns.{candidates_of, chosen_deps, is_candidate}
+use Rattle.conflict_deps.specs.Conflicts.{dep_of, afters_of, may_conflict, deps_between, deps_on, conflicts_without}
+use Rattle.conflict_deps.proofs.Sides.{may_to}
+use Rattle.dataflow.specs.Covering.{HoldConflicts}
 
 -- ---- choosing
 

@@ -1,7 +1,4 @@
-use Rattle.scop_syntax.proofs.Common.{◌∙◌, Ok, ap, refl, sym}
-use Rattle.quast_trees.specs.Postfix.{tree_of}
-use Rattle.quast_joins.specs.Limits.{leaf_limit}
-use Rattle.dataflow.specs.Steps.{nodes_fit}
+use Rattle.dataflow.proofs.Common.{◌∙◌, Ok, ap, refl, sym, tree_of, leaf_limit, nodes_fit}
 use Rattle.dataflow.proofs.Fits.{fitting_no, fitting_yes}
 use Rattle.dataflow.proofs.candidate.fitting.Goals as goal
 

@@ -1,6 +1,4 @@
-use Rattle.scop_syntax.proofs.Common.{◌≡◌, drop}
-use Rattle.quast_joins.specs.Limits.{leaf_limit}
-use Rattle.dataflow.specs.WriterRuns.{forms_fit}
+use Rattle.dataflow.proofs.Common.{◌≡◌, drop, leaf_limit, forms_fit}
 use Rattle.dataflow.proofs.candidate.forms_fit.Given as goal
 
 abbrev pub invariant-loop-form : goal.invariant-loop-form

@@ -1,12 +1,9 @@
-use Rattle.scop_syntax.proofs.Common.{◌≡◌, ◌++◌, ◌∙◌, ℕ, List, Ok, ap, sym, subst, Affine}
-use Rattle.quast_trees.specs.Mapped.{Suits, map_run}
-use Rattle.quast_trees.specs.Postfix.{tree_of}
-use Rattle.dataflow.specs.Problems.{all_below, top}
-use Rattle.dataflow.specs.Steps.{HeldOver}
-use Rattle.dataflow.specs.WriterRuns.{fitting}
+use Rattle.dataflow.proofs.Common.{◌≡◌, ◌++◌, ◌∙◌, ℕ, List, Ok, ap, sym, subst, Affine, Suits, tree_of, all_below, top}
+use Rattle.dataflow.proofs.Common.{HeldOver, fitting}
+use Rattle.quast_trees.specs.Mapped.{map_run}
 use Rattle.dataflow.proofs.Fits.{suits_below}
-use Rattle.dataflow.proofs.candidate.greatest_of.Goals as goal
 use Rattle.dataflow.proofs.candidate.greatest_of.Goals.{After-deref}
+use Rattle.dataflow.proofs.candidate.greatest_of.Goals as goal
 
 -- the forms are 2^46 less each
 forms : (c : After-deref) → c.deref.result.now ≡ all_below top c.args.unknowns 0 c.args.unknowns

@@ -1,6 +1,4 @@
-use Rattle.scop_syntax.proofs.Common.{◌≡◌, drop}
-use Rattle.quast_joins.specs.Limits.{leaf_limit}
-use Rattle.dataflow.specs.Steps.{nodes_fit}
+use Rattle.dataflow.proofs.Common.{◌≡◌, drop, leaf_limit, nodes_fit}
 use Rattle.dataflow.proofs.candidate.nodes_fit.Given as goal
 
 abbrev pub invariant-loop-node : goal.invariant-loop-node

@@ -1,11 +1,10 @@
-use Rattle.scop_syntax.proofs.Common.{rules, ◌≡◌, ◌<◌, ◌∙◌, List, Some, ap, length, slice_get_within, subst, sym}
+use Rattle.dataflow.proofs.Common.{rules, ◌≡◌, ◌<◌, ◌∙◌, List, Some, ap, length, subst, sym, Modelled, CanPose}
+use Rattle.dataflow.proofs.Common.{reader_end, writer_end}
+use Rattle.scop_syntax.proofs.Common.{slice_get_within}
 use Rattle.iteration_domains.specs.declared.dep.DepEnd.{DepEnd}
-use Rattle.iteration_domains.specs.Model.{Modelled}
-use Rattle.dataflow.specs.Posed.{CanPose}
-use Rattle.dataflow.specs.Sources.{reader_end, writer_end}
 use Rattle.dataflow.proofs.PosableCandidates.{IsReady, item_is, ready}
-use Rattle.dataflow.proofs.candidate.solved.Goals as goal
 use Rattle.dataflow.proofs.candidate.solved.Goals.{After-index-statements-reads, After-statements-statements}
+use Rattle.dataflow.proofs.candidate.solved.Goals as goal
 
 -- the candidate's statements
 found : (c : After-statements-statements) → IsReady c.args.way c.args.model.now c.args.dep.now

@@ -1,14 +1,11 @@
-use Rattle.scop_syntax.proofs.Common.{◌≡◌, ◌∙◌, ℕ, List, Some, None, ap, ap₂, sym, subst, length}
-use Rattle.quast_trees.specs.Postfix.{tree_of}
-use Rattle.quast_trees.specs.Source.{source_of}
+use Rattle.dataflow.proofs.Common.{◌≡◌, ◌∙◌, ℕ, List, Some, None, ap, ap₂, sym, subst, length, tree_of, source_of}
+use Rattle.dataflow.proofs.Common.{IsPosed, HeldOver, fitting, turned_back}
 use Rattle.quast_trees.specs.Tree.{named}
 use Rattle.iteration_domains.specs.declared.dep.DepEnd.{DepEnd}
-use Rattle.dataflow.specs.Posed.{IsPosed}
-use Rattle.dataflow.specs.Steps.{HeldOver, tree_held}
-use Rattle.dataflow.specs.WriterRuns.{fitting, turned_back}
+use Rattle.dataflow.specs.Steps.{tree_held}
 use Rattle.dataflow.proofs.CandidateQuasts.{IsBetween, found_told, leaf_told, posed_over, stop_told}
-use Rattle.dataflow.proofs.candidate.solved_between.Goals as goal
 use Rattle.dataflow.proofs.candidate.solved_between.Goals.{In-Ok}
+use Rattle.dataflow.proofs.candidate.solved_between.Goals as goal
 
 -- the problem is that of the two statements
 between : (c : In-Ok)

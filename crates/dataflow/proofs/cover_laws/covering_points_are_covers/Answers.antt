@@ -1,5 +1,4 @@
-use Rattle.scop_syntax.proofs.Common.{pos, [], refl}
-use Rattle.iteration_domains.proofs.TreeStatements.{one_model}
+use Rattle.dataflow.proofs.Common.{pos, [], refl, one_model}
 use Rattle.dataflow.proofs.AccessWriters.{laws_of}
 use Rattle.dataflow.proofs.CandidateSolutions.{up_bounded}
 use Rattle.dataflow.proofs.CoverFacts.{cover_laws}

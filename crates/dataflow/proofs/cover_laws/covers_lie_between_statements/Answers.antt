@@ -1,6 +1,4 @@
-use Rattle.scop_syntax.proofs.Common.{subst, sym}
-use Rattle.iteration_domains.specs.Sizes.{IsKernelModel}
-use Rattle.iteration_domains.proofs.TreeStatements.{one_model}
+use Rattle.dataflow.proofs.Common.{subst, sym, IsKernelModel, one_model}
 use Rattle.dataflow.proofs.CoverEnds.{covers_between}
 use Rattle.dataflow.proofs.cover_laws.covers_lie_between_statements.Goals as goal
 

@@ -1,7 +1,4 @@
-use Rattle.scop_syntax.proofs.Common.{ℕ, ℤ, List, map, HasParameters, Program}
-use Rattle.iteration_domains.specs.Model.{model_of}
-use Rattle.dataflow.specs.Flow.{tree_in}
-use Rattle.dataflow.specs.ReadSources.{reads_of}
+use Rattle.dataflow.proofs.Common.{ℕ, ℤ, List, map, HasParameters, Program, model_of, tree_in, reads_of}
 use Rattle.dataflow.proofs.AccessSides.{CoverLaws}
 use Rattle.dataflow.proofs.AccessWriters.{laws_of}
 use Rattle.dataflow.proofs.CoverFacts.{cover_laws}

@@ -1,7 +1,5 @@
-use Rattle.scop_syntax.proofs.Common.{◌≡◌, subst, In, flat_map, member_at}
-use Rattle.conflict_deps.specs.Conflicts.{sides_of}
+use Rattle.dataflow.proofs.Common.{◌≡◌, subst, In, flat_map, member_at, sides_of, covers_at}
 use Rattle.conflict_deps.proofs.GatheredDependences.{statement_has, statements_step}
-use Rattle.dataflow.specs.Covering.{covers_at}
 use Rattle.dataflow.proofs.covers.covering.Goals as goal
 
 pub push_statement-requires-clause-parameters : goal.push_statement-requires-clause-parameters

@@ -1,6 +1,4 @@
-use Rattle.scop_syntax.proofs.Common.{◌≡◌, ◌++◌, drop, flat_map}
-use Rattle.conflict_deps.specs.Conflicts.{sides_of}
-use Rattle.dataflow.specs.Covering.{covers_at}
+use Rattle.dataflow.proofs.Common.{◌≡◌, ◌++◌, drop, flat_map, sides_of, covers_at}
 use Rattle.dataflow.proofs.covers.covering.Given as goal
 
 abbrev pub invariant-loop-statement : goal.invariant-loop-statement

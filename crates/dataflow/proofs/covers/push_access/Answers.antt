@@ -1,7 +1,4 @@
-use Rattle.scop_syntax.proofs.Common.{◌∙◌, ap, subst, sym, is_marked, Access}
-use Rattle.iteration_domains.specs.Sizes.{IsKernelModel}
-use Rattle.iteration_domains.proofs.TreeStatements.{one_model}
-use Rattle.conflict_deps.specs.View.{side_of}
+use Rattle.dataflow.proofs.Common.{◌∙◌, ap, subst, sym, is_marked, Access, IsKernelModel, one_model, side_of}
 use Rattle.dataflow.proofs.UnmarkedConflicts.{unmarked_held}
 use Rattle.dataflow.proofs.covers.push_access.Goals as goal
 

@@ -1,6 +1,4 @@
-use Rattle.scop_syntax.proofs.Common.{◌++◌, ◌∷◌, []}
-use Rattle.dataflow.specs.Covering.{is_in_role}
-use Rattle.dataflow.specs.WriterRuns.{chosen_deps}
+use Rattle.dataflow.proofs.Common.{◌++◌, ◌∷◌, [], is_in_role, chosen_deps}
 use Rattle.dataflow.proofs.LeafFacts.{chosen_next, given_more}
 use Rattle.dataflow.proofs.covers.push_conflicts.Goals as goal
 

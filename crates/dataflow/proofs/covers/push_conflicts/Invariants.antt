@@ -1,6 +1,4 @@
-use Rattle.scop_syntax.proofs.Common.{◌≡◌, ◌++◌, drop}
-use Rattle.dataflow.specs.Covering.{is_in_role}
-use Rattle.dataflow.specs.WriterRuns.{chosen_deps}
+use Rattle.dataflow.proofs.Common.{◌≡◌, ◌++◌, drop, is_in_role, chosen_deps}
 use Rattle.dataflow.proofs.covers.push_conflicts.Given as goal
 
 abbrev pub invariant-loop-dep : goal.invariant-loop-dep

@@ -1,6 +1,4 @@
-use Rattle.scop_syntax.proofs.Common.{ℕ, subst, sym}
-use Rattle.conflict_deps.specs.View.{side_of}
-use Rattle.dataflow.specs.LeafSteps.{CanWrite}
+use Rattle.dataflow.proofs.Common.{ℕ, subst, sym, side_of, CanWrite}
 use Rattle.dataflow.proofs.covers.push_leaf.Goals as goal
 
 pub leaf_dep-requires : goal.leaf_dep-requires

@@ -1,7 +1,5 @@
-use Rattle.scop_syntax.proofs.Common.{◌∙◌, refl, subst, sym, All, flat_map, All-get_or}
-use Rattle.conflict_deps.specs.View.{side_of}
-use Rattle.dataflow.specs.LeafSteps.{CanTellWriter}
-use Rattle.dataflow.specs.Leaves.{deps_of_leaf}
+use Rattle.dataflow.proofs.Common.{◌∙◌, refl, subst, sym, All, flat_map, All-get_or, side_of, CanTellWriter}
+use Rattle.dataflow.proofs.Common.{deps_of_leaf}
 use Rattle.dataflow.proofs.LeafFacts.{given_more}
 use Rattle.dataflow.proofs.covers.push_leaves.Goals as goal
 

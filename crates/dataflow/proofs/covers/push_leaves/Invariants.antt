@@ -1,6 +1,4 @@
-use Rattle.scop_syntax.proofs.Common.{◌≡◌, ◌++◌, drop, flat_map}
-use Rattle.conflict_deps.specs.View.{side_of}
-use Rattle.dataflow.specs.Leaves.{deps_of_leaf}
+use Rattle.dataflow.proofs.Common.{◌≡◌, ◌++◌, drop, flat_map, side_of, deps_of_leaf}
 use Rattle.dataflow.proofs.covers.push_leaves.Given as goal
 
 abbrev pub invariant-loop-path : goal.invariant-loop-path

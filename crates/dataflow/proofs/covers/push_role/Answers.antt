@@ -1,13 +1,6 @@
-use Rattle.scop_syntax.proofs.Common.{◌+◌, ◌++◌, ◌∙◌, ℕ, List, ap, length, subst, sym, on_ok_weaker}
-use Rattle.quast_trees.specs.Postfix.{tree_of}
-use Rattle.iteration_domains.specs.Dependence.{Dependence}
-use Rattle.iteration_domains.specs.Sizes.{IsKernelModel}
-use Rattle.iteration_domains.proofs.TreeStatements.{one_model}
-use Rattle.conflict_deps.specs.View.{side_of}
-use Rattle.dataflow.specs.Covering.{is_in_role, told_deps}
-use Rattle.dataflow.specs.ReadSources.{IsSourceOf}
-use Rattle.dataflow.specs.Told.{IsQuastOver, IsToldOver}
-use Rattle.dataflow.specs.WriterRuns.{chosen_deps}
+use Rattle.dataflow.proofs.Common.{◌+◌, ◌++◌, ◌∙◌, ℕ, List, ap, length, subst, sym, on_ok_weaker, tree_of, Dependence}
+use Rattle.dataflow.proofs.Common.{IsKernelModel, one_model, side_of, is_in_role, told_deps, IsSourceOf, IsQuastOver}
+use Rattle.dataflow.proofs.Common.{IsToldOver, chosen_deps}
 use Rattle.dataflow.proofs.LeafFacts.{all_told, unresolved_told}
 use Rattle.dataflow.proofs.QuastSigns.{resolved_tells}
 use Rattle.dataflow.proofs.covers.push_role.Goals as goal

@@ -1,8 +1,7 @@
-use Rattle.scop_syntax.proofs.Common.{◌≡◌, ◌∙◌, ◌++◌, List, Some, ap, subst, sym, slice_get, flat_map, slice_get-get_or}
-use Rattle.scop_syntax.proofs.Common.{Access}
-use Rattle.conflict_deps.specs.Conflicts.{sides_from}
-use Rattle.conflict_deps.proofs.GatheredDependences.{pair_can, sides_step}
-use Rattle.dataflow.specs.Covering.{covers_at}
+use Rattle.dataflow.proofs.Common.{◌≡◌, ◌∙◌, ◌++◌, List, Some, ap, subst, sym, slice_get, flat_map, Access, sides_from}
+use Rattle.dataflow.proofs.Common.{pair_can, covers_at}
+use Rattle.scop_syntax.proofs.Common.{slice_get-get_or}
+use Rattle.conflict_deps.proofs.GatheredDependences.{sides_step}
 use Rattle.dataflow.proofs.covers.push_statement.Goals as goal
 
 pub push_access-requires-clause-reader : goal.push_access-requires-clause-reader

@@ -1,6 +1,4 @@
-use Rattle.scop_syntax.proofs.Common.{◌≡◌, ◌++◌, drop, flat_map}
-use Rattle.conflict_deps.specs.Conflicts.{sides_from}
-use Rattle.dataflow.specs.Covering.{covers_at}
+use Rattle.dataflow.proofs.Common.{◌≡◌, ◌++◌, drop, flat_map, sides_from, covers_at}
 use Rattle.dataflow.proofs.covers.push_statement.Given as goal
 
 abbrev pub invariant-loop-number : goal.invariant-loop-number

@@ -1,9 +1,8 @@
-use Rattle.scop_syntax.proofs.Common.{◌+◌, All, drop, map, subst, sym, All-drop, flat_map, In, member_at}
-use Rattle.dataflow.specs.Flow.{AreLastSourcesOf, IsResolved, flow_from, read_sides, tree_in}
-use Rattle.dataflow.specs.ReadSources.{reads_in, reads_of_statement}
+use Rattle.dataflow.proofs.Common.{◌+◌, All, drop, map, subst, sym, All-drop, flat_map, In, member_at, AreLastSourcesOf}
+use Rattle.dataflow.proofs.Common.{IsResolved, flow_from, read_sides, tree_in, reads_in, reads_of_statement}
 use Rattle.dataflow.proofs.FlowReads.{OwnSources, flow_step, own_sources}
-use Rattle.dataflow.proofs.flow_deps.flow.Goals as goal
 use Rattle.dataflow.proofs.flow_deps.flow.Goals.{After-reads_in}
+use Rattle.dataflow.proofs.flow_deps.flow.Goals as goal
 
 own : (c : After-reads_in) → OwnSources c.args.model.now c.statement-item.result
     (drop (c.loop-statement.statement-index + 1) c.statements-statement-items.result.now) c.reads_in.result

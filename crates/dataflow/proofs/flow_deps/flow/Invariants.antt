@@ -1,6 +1,5 @@
-use Rattle.scop_syntax.proofs.Common.{◌≡◌, ◌++◌, All, drop, map, flat_map}
-use Rattle.dataflow.specs.Flow.{AreLastSourcesOf, IsResolved, flow_from, read_sides, tree_in}
-use Rattle.dataflow.specs.ReadSources.{reads_in}
+use Rattle.dataflow.proofs.Common.{◌≡◌, ◌++◌, All, drop, map, flat_map, AreLastSourcesOf, IsResolved, flow_from}
+use Rattle.dataflow.proofs.Common.{read_sides, tree_in, reads_in}
 use Rattle.dataflow.proofs.flow_deps.flow.Given as goal
 
 abbrev pub invariant-loop-statement : goal.invariant-loop-statement

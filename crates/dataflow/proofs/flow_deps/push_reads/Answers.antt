@@ -1,6 +1,4 @@
-use Rattle.scop_syntax.proofs.Common.{◌+◌, ◌++◌, map}
-use Rattle.conflict_deps.proofs.GatheredDependences.{pair_can}
-use Rattle.dataflow.specs.Flow.{flow_from, read_sides, tree_in}
+use Rattle.dataflow.proofs.Common.{◌+◌, ◌++◌, map, pair_can, flow_from, read_sides, tree_in}
 use Rattle.dataflow.proofs.FlowReads.{access_inside, own_source, read_step, reads_end}
 use Rattle.dataflow.proofs.flow_deps.push_reads.Goals as goal
 

@@ -1,6 +1,4 @@
-use Rattle.scop_syntax.proofs.Common.{◌≡◌, ◌+◌, ◌++◌, drop, map}
-use Rattle.conflict_deps.specs.Conflicts.{sides_from}
-use Rattle.dataflow.specs.Flow.{flow_from, read_sides, tree_in}
+use Rattle.dataflow.proofs.Common.{◌≡◌, ◌+◌, ◌++◌, drop, map, sides_from, flow_from, read_sides, tree_in}
 use Rattle.dataflow.proofs.flow_deps.push_reads.Given as goal
 
 abbrev pub invariant-loop-index : goal.invariant-loop-index

@@ -1,8 +1,4 @@
-use Rattle.scop_syntax.proofs.Common.{subst, sym}
-use Rattle.quast_trees.specs.Postfix.{tree_of}
-use Rattle.iteration_domains.specs.Sizes.{IsKernelModel}
-use Rattle.iteration_domains.proofs.TreeStatements.{one_model}
-use Rattle.conflict_deps.specs.View.{side_of}
+use Rattle.dataflow.proofs.Common.{subst, sym, tree_of, IsKernelModel, one_model, side_of}
 use Rattle.dataflow.specs.Flow.{IsLastSource}
 use Rattle.dataflow.proofs.FlowReads.{source_tells}
 use Rattle.dataflow.proofs.TellableSources.{loops_are}

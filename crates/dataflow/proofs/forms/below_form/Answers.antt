@@ -1,5 +1,4 @@
-use Rattle.scop_syntax.proofs.Common.{◌≡◌, List, ℤ, pos, negsuc, set, sym, subst, rules, to_z, IfOk, w128, form_of}
-use Rattle.scop_syntax.proofs.Common.{zeros}
+use Rattle.dataflow.proofs.Common.{◌≡◌, List, ℤ, pos, negsuc, set, sym, subst, rules, to_z, IfOk, w128, form_of, zeros}
 use Rattle.dataflow.proofs.Lists.{opposite_unit}
 use Rattle.dataflow.proofs.forms.below_form.Goals as goal
 

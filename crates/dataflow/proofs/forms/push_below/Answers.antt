@@ -1,5 +1,4 @@
-use Rattle.scop_syntax.proofs.Common.{◌++◌, arith, pos}
-use Rattle.dataflow.specs.Problems.{all_below}
+use Rattle.dataflow.proofs.Common.{◌++◌, arith, pos, all_below}
 use Rattle.dataflow.proofs.Lists.{below_put}
 use Rattle.dataflow.proofs.forms.push_below.Goals as goal
 

@@ -1,5 +1,4 @@
-use Rattle.scop_syntax.proofs.Common.{◌≡◌, ◌+◌, ◌-◌, ◌++◌, pos}
-use Rattle.dataflow.specs.Problems.{all_below}
+use Rattle.dataflow.proofs.Common.{◌≡◌, ◌+◌, ◌-◌, ◌++◌, pos, all_below}
 use Rattle.dataflow.proofs.forms.push_below.Given as goal
 
 abbrev pub invariant-loop-step : goal.invariant-loop-step

@@ -1,6 +1,5 @@
-use Rattle.scop_syntax.proofs.Common.{◌++◌, ◌^◌, ◌≤◌, arith, map, subst, sym, Affine, composed}
-use Rattle.iteration_domains.specs.Sizes.{CanCompose, form_size}
-use Rattle.dataflow.specs.Problems.{flat}
+use Rattle.dataflow.proofs.Common.{◌++◌, ◌^◌, ◌≤◌, arith, map, subst, sym, Affine, composed, CanCompose, form_size}
+use Rattle.dataflow.proofs.Common.{flat}
 use Rattle.dataflow.proofs.Lists.{composed_small, flat_put, one_at}
 use Rattle.dataflow.proofs.forms.push_flat.Goals as goal
 

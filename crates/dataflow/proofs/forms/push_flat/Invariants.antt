@@ -1,5 +1,4 @@
-use Rattle.scop_syntax.proofs.Common.{◌≡◌, ◌++◌, map, drop, composed}
-use Rattle.dataflow.specs.Problems.{flat}
+use Rattle.dataflow.proofs.Common.{◌≡◌, ◌++◌, map, drop, composed, flat}
 use Rattle.dataflow.proofs.forms.push_flat.Given as goal
 
 abbrev pub invariant-loop-form : goal.invariant-loop-form

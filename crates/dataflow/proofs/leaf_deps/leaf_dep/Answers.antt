@@ -1,12 +1,8 @@
-use Rattle.scop_syntax.proofs.Common.{◌≡◌, ◌∙◌, ℕ, List, ap, ap₂, length, subst, sym, arith, length-map, IfOk-weaker}
-use Rattle.quast_trees.specs.Paths.{LeafPath, Turn, binds_in}
-use Rattle.quast_trees.specs.steps.Ways.{turn_held, turns_held}
+use Rattle.dataflow.proofs.Common.{◌≡◌, ◌∙◌, ℕ, List, ap, ap₂, length, subst, sym, arith, length-map, IfOk-weaker}
+use Rattle.dataflow.proofs.Common.{LeafPath, Turn, binds_in, turn_held, turns_held, side_of, path_rows, turn_equalities}
+use Rattle.dataflow.proofs.Common.{CanLay, leaf_dep, leaf_layout, pair_dep}
 use Rattle.quast_joins.specs.declared.way.Way.{Way}
 use Rattle.quast_joins.specs.declared.way.Way.TheVariants.{Earlier, Later}
-use Rattle.conflict_deps.specs.View.{side_of}
-use Rattle.dataflow.specs.LeafRows.{path_rows, turn_equalities}
-use Rattle.dataflow.specs.LeafSteps.{CanLay}
-use Rattle.dataflow.specs.Leaves.{leaf_dep, leaf_layout, pair_dep}
 use Rattle.dataflow.specs.declared.leaf_rows.Layout.{Layout}
 use Rattle.dataflow.proofs.LeafPlaces.{earlier_lay, later_lay}
 use Rattle.dataflow.proofs.leaf_deps.leaf_dep.Goals.{After-leaf_layout-layout}

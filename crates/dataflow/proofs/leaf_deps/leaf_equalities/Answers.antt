@@ -1,12 +1,8 @@
-use Rattle.scop_syntax.proofs.Common.{◌≡◌, ◌++◌, ◌∙◌, List, ap, map, Affine}
-use Rattle.integer_sets.specs.Constraints.{Constraints}
-use Rattle.quast_trees.specs.Paths.{LeafPath}
+use Rattle.dataflow.proofs.Common.{◌≡◌, ◌++◌, ◌∙◌, List, ap, map, Affine, Constraints, LeafPath, loops_of, side_of}
+use Rattle.dataflow.proofs.Common.{turn_equalities, cell_equalities, first_form, pair_equalities, second_form}
 use Rattle.quast_trees.specs.Source.{Forms}
-use Rattle.conflict_deps.specs.Conflicts.{loops_of}
-use Rattle.conflict_deps.specs.View.{side_of}
-use Rattle.dataflow.specs.LeafRows.{turn_equalities}
-use Rattle.dataflow.specs.Leaves.{cell_equalities, first_form, pair_equalities, second_form}
-use Rattle.dataflow.proofs.LeafShapes.{all_placed, both_shown, cells_sized, end_sized, parts_put, parts_sized, turns_sized}
+use Rattle.dataflow.proofs.LeafShapes.{all_placed, both_shown, cells_sized, end_sized, parts_put, parts_sized}
+use Rattle.dataflow.proofs.LeafShapes.{turns_sized}
 use Rattle.dataflow.proofs.leaf_deps.leaf_equalities.Goals.{In_ok-push_cells}
 use Rattle.dataflow.proofs.leaf_deps.leaf_equalities.Goals as goal
 

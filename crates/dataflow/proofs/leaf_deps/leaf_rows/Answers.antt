@@ -1,15 +1,7 @@
-use Rattle.scop_syntax.proofs.Common.{◌≡◌, ◌+◌, ◌++◌, ◌∙◌, ℕ, ap, map, subst, arith}
-use Rattle.integer_sets.specs.Constraints.{Constraints}
-use Rattle.iteration_domains.specs.Rows.{variables}
-use Rattle.iteration_domains.proofs.Surroundings.{sized-variables}
-use Rattle.quast_trees.specs.Paths.{LeafPath}
-use Rattle.quast_trees.specs.steps.Ways.{turns_held}
-use Rattle.conflict_deps.specs.Conflicts.{loops_of}
-use Rattle.conflict_deps.specs.View.{side_of}
-use Rattle.dataflow.specs.LeafRows.{path_rows}
-use Rattle.dataflow.specs.Leaves.{first_form, pair_rows, second_form}
+use Rattle.dataflow.proofs.Common.{◌≡◌, ◌+◌, ◌++◌, ◌∙◌, ℕ, ap, map, subst, arith, Constraints, variables}
+use Rattle.dataflow.proofs.Common.{sized-variables, LeafPath, turns_held, loops_of, side_of, path_rows, first_form}
+use Rattle.dataflow.proofs.Common.{pair_rows, second_form, AreOver}
 use Rattle.dataflow.proofs.LeafShapes.{both_shown, end_sized, parts_put, parts_sized, path_sized}
-use Rattle.quast_trees.specs.Paths.{AreOver}
 use Rattle.dataflow.proofs.leaf_deps.leaf_rows.Goals.{In_ok-push_variables}
 use Rattle.dataflow.proofs.leaf_deps.leaf_rows.Goals as goal
 

@@ -1,11 +1,8 @@
-use Rattle.scop_syntax.proofs.Common.{◌≡◌, ◌+◌, ◌∙◌, ℕ, List, ap, ap₂, subst, sym, arith, Affine}
+use Rattle.dataflow.proofs.Common.{◌≡◌, ◌+◌, ◌∙◌, ℕ, List, ap, ap₂, subst, sym, arith, Affine, end_of, loops_of}
+use Rattle.dataflow.proofs.Common.{side_of, path_rows, turn_equalities, pair_dep}
 use Rattle.integer_sets.specs.Constraints.{IsSized, system_of}
 use Rattle.fm_projection.specs.Condensed.{condensed}
 use Rattle.iteration_domains.specs.Dependence.{IsDependence, dependence}
-use Rattle.conflict_deps.specs.Conflicts.{end_of, loops_of}
-use Rattle.conflict_deps.specs.View.{side_of}
-use Rattle.dataflow.specs.LeafRows.{path_rows, turn_equalities}
-use Rattle.dataflow.specs.Leaves.{pair_dep}
 use Rattle.dataflow.proofs.leaf_deps.pair_dep.Goals.{After-end-2}
 use Rattle.dataflow.proofs.leaf_deps.pair_dep.Goals as goal
 

@@ -1,6 +1,4 @@
-use Rattle.scop_syntax.proofs.Common.{◌+◌, ◌∙◌, ap, subst, sym, All, Access}
-use Rattle.iteration_domains.specs.Sizes.{IsNarrow}
-use Rattle.conflict_deps.specs.View.{side_of}
+use Rattle.dataflow.proofs.Common.{◌+◌, ◌∙◌, ap, subst, sym, All, Access, IsNarrow, side_of}
 use Rattle.dataflow.proofs.LeafShapes.{narrow_bound}
 use Rattle.dataflow.proofs.leaf_deps.push_cells.Goals as goal
 

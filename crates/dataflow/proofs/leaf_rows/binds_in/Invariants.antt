@@ -1,6 +1,4 @@
-use Rattle.scop_syntax.proofs.Common.{◌≡◌, ◌+◌, ◌≤◌, drop}
-use Rattle.quast_trees.specs.Paths.{binds_in}
-use Rattle.quast_trees.specs.steps.Ways.{turns_held}
+use Rattle.dataflow.proofs.Common.{◌≡◌, ◌+◌, ◌≤◌, drop, binds_in, turns_held}
 use Rattle.dataflow.proofs.leaf_rows.binds_in.Given as goal
 
 abbrev pub invariant-loop-turn : goal.invariant-loop-turn

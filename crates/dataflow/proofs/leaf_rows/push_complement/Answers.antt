@@ -1,6 +1,5 @@
-use Rattle.scop_syntax.proofs.Common.{rules, ℤ, negsuc, List, ap, ◌∙◌, FitsSigned, ◌++◌, ◌∷◌, [], ◌-ℤ◌, w128, to_z-of_z}
-use Rattle.scop_syntax.proofs.Common.{on_ok_weaker, Affine, form_of, multiples}
-use Rattle.dataflow.specs.LeafRows.{placed_numbers}
+use Rattle.dataflow.proofs.Common.{rules, ℤ, negsuc, List, ap, ◌∙◌, FitsSigned, ◌++◌, ◌∷◌, [], ◌-ℤ◌, w128, to_z-of_z}
+use Rattle.dataflow.proofs.Common.{on_ok_weaker, Affine, form_of, multiples, placed_numbers}
 use Rattle.dataflow.proofs.LeafForms.{can_opposite, complement_put}
 use Rattle.dataflow.proofs.leaf_rows.push_complement.Goals as goal
 

@@ -1,6 +1,5 @@
-use Rattle.scop_syntax.proofs.Common.{rules, ◌≡◌, ℤ, negsuc, pos, ap, ◌∙◌, sym, subst, FitsSigned, ◌++◌, ◌∷◌, [], ◌-ℤ◌}
-use Rattle.scop_syntax.proofs.Common.{w128, to_z-of_z, on_ok_weaker, Affine, fits, multiples, fits_iff}
-use Rattle.dataflow.specs.LeafSteps.{HoldOpposites}
+use Rattle.dataflow.proofs.Common.{rules, ◌≡◌, ℤ, negsuc, pos, ap, ◌∙◌, sym, subst, FitsSigned, ◌++◌, ◌∷◌, [], ◌-ℤ◌}
+use Rattle.dataflow.proofs.Common.{w128, to_z-of_z, on_ok_weaker, Affine, fits, multiples, fits_iff, HoldOpposites}
 use Rattle.dataflow.proofs.LeafForms.{can_opposite, end_put, opposed_of}
 use Rattle.dataflow.proofs.leaf_rows.push_end.Goals as goal
 

@@ -1,6 +1,5 @@
-use Rattle.scop_syntax.proofs.Common.{◌≡◌, ◌+◌, ◌++◌, length, subst, sym, arith, All-get_or, Affine}
-use Rattle.dataflow.specs.LeafRows.{turn_equalities}
-use Rattle.dataflow.specs.LeafSteps.{HoldsOpposite}
+use Rattle.dataflow.proofs.Common.{◌≡◌, ◌+◌, ◌++◌, length, subst, sym, arith, All-get_or, Affine, turn_equalities}
+use Rattle.dataflow.proofs.Common.{HoldsOpposite}
 use Rattle.dataflow.proofs.LeafLoops.{equality_end, equality_more, free_at}
 use Rattle.dataflow.proofs.LeafShapes.{can_place}
 use Rattle.dataflow.proofs.leaf_rows.push_turn_equalities.Goals as goal

@@ -1,5 +1,4 @@
-use Rattle.scop_syntax.proofs.Common.{◌≡◌, ◌+◌, ◌++◌, drop}
-use Rattle.dataflow.specs.LeafRows.{turn_equalities}
+use Rattle.dataflow.proofs.Common.{◌≡◌, ◌+◌, ◌++◌, drop, turn_equalities}
 use Rattle.dataflow.proofs.leaf_rows.push_turn_equalities.Given as goal
 
 abbrev pub invariant-loop-step : goal.invariant-loop-step

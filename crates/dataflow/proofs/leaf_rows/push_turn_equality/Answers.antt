@@ -1,7 +1,6 @@
-use Rattle.scop_syntax.proofs.Common.{rules, ◌≡◌, ◌+◌, negsuc, pos, ap, ◌∙◌, subst, FitsSigned, ◌++◌, ◌∷◌, [], arith}
-use Rattle.scop_syntax.proofs.Common.{get_or, ◌-ℤ◌, neg_ℤ, w128, ints, to_z-of_z, on_ok_weaker, Affine, fits, multiples}
-use Rattle.scop_syntax.proofs.Common.{fits_iff}
-use Rattle.dataflow.specs.LeafRows.{placed_numbers}
+use Rattle.dataflow.proofs.Common.{rules, ◌≡◌, ◌+◌, negsuc, pos, ap, ◌∙◌, subst, FitsSigned, ◌++◌, ◌∷◌, [], arith}
+use Rattle.dataflow.proofs.Common.{get_or, ◌-ℤ◌, neg_ℤ, w128, ints, to_z-of_z, on_ok_weaker, Affine, fits, multiples}
+use Rattle.dataflow.proofs.Common.{fits_iff, placed_numbers}
 use Rattle.dataflow.proofs.LeafForms.{can_opposite, equality_put}
 use Rattle.dataflow.proofs.leaf_rows.push_turn_equality.Goals as goal
 

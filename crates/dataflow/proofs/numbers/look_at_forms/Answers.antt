@@ -1,5 +1,4 @@
-use Rattle.scop_syntax.proofs.Common.{all_next, all_taken}
-use Rattle.quast_trees.specs.Turns.{IsHeld}
+use Rattle.dataflow.proofs.Common.{all_next, all_taken, IsHeld}
 use Rattle.dataflow.proofs.numbers.look_at_forms.Goals as goal
 
 pub loop-form-preserved : goal.loop-form-preserved

@@ -1,5 +1,4 @@
-use Rattle.scop_syntax.proofs.Common.{All, take}
-use Rattle.quast_trees.specs.Turns.{IsHeld}
+use Rattle.dataflow.proofs.Common.{All, take, IsHeld}
 use Rattle.dataflow.proofs.numbers.look_at_forms.Given as goal
 
 abbrev pub invariant-loop-form : goal.invariant-loop-form

@@ -1,5 +1,4 @@
-use Rattle.scop_syntax.proofs.Common.{all_next, all_taken}
-use Rattle.dataflow.specs.Steps.{IsHeldNode}
+use Rattle.dataflow.proofs.Common.{all_next, all_taken, IsHeldNode}
 use Rattle.dataflow.proofs.numbers.look_at_nodes.Goals as goal
 
 pub loop-node-preserved : goal.loop-node-preserved

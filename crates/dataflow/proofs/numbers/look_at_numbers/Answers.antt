@@ -1,7 +1,5 @@
-use Rattle.scop_syntax.proofs.Common.{subst, All, List}
+use Rattle.dataflow.proofs.Common.{subst, All, List, tree_of, IsHeldNode}
 use Rattle.quast_trees.specs.declared.node.Node.{Node}
-use Rattle.quast_trees.specs.Postfix.{tree_of}
-use Rattle.dataflow.specs.Steps.{IsHeldNode}
 use Rattle.dataflow.proofs.NodeNumbers.{tree_holds}
 use Rattle.dataflow.proofs.numbers.look_at_numbers.Goals as goal
 

@@ -1,5 +1,4 @@
-use Rattle.scop_syntax.proofs.Common.{◌∙◌, ap, length}
-use Rattle.integer_sets.specs.Constraints.{Constraints}
+use Rattle.dataflow.proofs.Common.{◌∙◌, ap, length, Constraints}
 use Rattle.dataflow.proofs.PosableCandidates.{reader_can}
 use Rattle.dataflow.proofs.problem.context_of.Goals as goal
 

@@ -1,5 +1,4 @@
-use Rattle.scop_syntax.proofs.Common.{◌+◌}
-use Rattle.iteration_domains.specs.Rows.{variables}
+use Rattle.dataflow.proofs.Common.{◌+◌, variables}
 use Rattle.dataflow.proofs.Lists.{three_put}
 use Rattle.dataflow.proofs.problem.pair_ahead.Goals as goal
 

@@ -1,6 +1,4 @@
-use Rattle.scop_syntax.proofs.Common.{◌+◌}
-use Rattle.iteration_domains.specs.Rows.{variables}
-use Rattle.dataflow.specs.Problems.{all_below, top}
+use Rattle.dataflow.proofs.Common.{◌+◌, variables, all_below, top}
 use Rattle.dataflow.proofs.Lists.{three_put}
 use Rattle.dataflow.proofs.problem.pair_behind.Goals as goal
 

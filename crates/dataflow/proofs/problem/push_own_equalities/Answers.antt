@@ -1,11 +1,8 @@
-use Rattle.scop_syntax.proofs.Common.{◌+◌, ◌-◌, ◌∙◌, All, ap, drop, length, All-take, All-drop, Affine}
-use Rattle.integer_sets.specs.Constraints.{Constraints}
-use Rattle.iteration_domains.specs.Dependence.{Dependence}
-use Rattle.iteration_domains.specs.Sizes.{CanCompose}
-use Rattle.dataflow.specs.Problems.{reader_begins}
+use Rattle.dataflow.proofs.Common.{◌+◌, ◌-◌, ◌∙◌, All, ap, drop, length, All-take, All-drop, Affine, Constraints}
+use Rattle.dataflow.proofs.Common.{Dependence, CanCompose, reader_begins}
 use Rattle.dataflow.proofs.PosableCandidates.{own_can, own_put}
-use Rattle.dataflow.proofs.problem.push_own_equalities.Goals as goal
 use Rattle.dataflow.proofs.problem.push_own_equalities.Goals.{After-equalities-system}
+use Rattle.dataflow.proofs.problem.push_own_equalities.Goals as goal
 
 -- the conflict's equalities can be composed
 can : (c : After-equalities-system) → All (CanCompose (length c.loops.result.now + (c.args.parameters + length

@@ -1,10 +1,8 @@
-use Rattle.scop_syntax.proofs.Common.{◌+◌, ◌-◌, ◌∙◌, All, ap, drop, length, All-take, All-drop, Affine}
-use Rattle.integer_sets.specs.Constraints.{Constraints}
-use Rattle.iteration_domains.specs.Dependence.{Dependence}
-use Rattle.iteration_domains.specs.Sizes.{CanCompose}
+use Rattle.dataflow.proofs.Common.{◌+◌, ◌-◌, ◌∙◌, All, ap, drop, length, All-take, All-drop, Affine, Constraints}
+use Rattle.dataflow.proofs.Common.{Dependence, CanCompose}
 use Rattle.dataflow.proofs.PosableCandidates.{own_can}
-use Rattle.dataflow.proofs.problem.push_own_rows.Goals as goal
 use Rattle.dataflow.proofs.problem.push_own_rows.Goals.{After-rows-system}
+use Rattle.dataflow.proofs.problem.push_own_rows.Goals as goal
 
 -- the conflict's rows can be composed
 can : (c : After-rows-system) → All (CanCompose (length c.loops.result.now + (c.args.parameters + length

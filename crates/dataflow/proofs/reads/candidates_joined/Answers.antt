@@ -1,9 +1,8 @@
-use Rattle.scop_syntax.proofs.Common.{◌+◌, ◌∙◌, ℕ, ap, ap₂, subst, sym, member_at}
-use Rattle.dataflow.specs.WriterRuns.{is_candidate}
+use Rattle.dataflow.proofs.Common.{◌+◌, ◌∙◌, ℕ, ap, ap₂, subst, sym, member_at, is_candidate}
 use Rattle.dataflow.proofs.CandidateRuns.{Running, numbers_are, run_begins, run_on, run_past}
 use Rattle.dataflow.proofs.UnmarkedConflicts.{candidates_held}
-use Rattle.dataflow.proofs.reads.candidates_joined.Goals as goal
 use Rattle.dataflow.proofs.reads.candidates_joined.Goals.{then-is_candidate+in-Ok-joined, else-is_candidate}
+use Rattle.dataflow.proofs.reads.candidates_joined.Goals as goal
 
 pub loop-dep-init : goal.loop-dep-init
 loop-dep-init c =

@@ -1,11 +1,6 @@
-use Rattle.scop_syntax.proofs.Common.{◌≤◌, ◌∙◌, ℕ, ap, subst}
-use Rattle.quast_trees.specs.Tree.{count}
-use Rattle.quast_trees.specs.Postfix.{tree_of}
-use Rattle.quast_joins.specs.Counts.{join_count}
-use Rattle.quast_joins.specs.Limits.{IsStopOf, node_limit}
-use Rattle.quast_joins.proofs.Counts.{join-count}
-use Rattle.dataflow.specs.Sources.{reader_end}
-use Rattle.dataflow.specs.WriterRuns.{read_variables}
+use Rattle.dataflow.proofs.Common.{◌≤◌, ◌∙◌, ℕ, ap, subst, count, tree_of, join_count, node_limit, join-count}
+use Rattle.dataflow.proofs.Common.{reader_end, read_variables}
+use Rattle.quast_joins.specs.Limits.{IsStopOf}
 use Rattle.dataflow.proofs.CandidateRuns.{joins_on, joins_too_many}
 use Rattle.dataflow.proofs.reads.joined.Goals as goal
 

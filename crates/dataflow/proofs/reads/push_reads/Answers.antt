@@ -1,6 +1,5 @@
-use Rattle.scop_syntax.proofs.Common.{◌++◌, ◌<◌, ℕ, All, List, ap, length, subst, sym, All-push}
-use Rattle.dataflow.specs.ReadSources.{reads_of_statement}
-use Rattle.dataflow.specs.Steps.{IsHeldSource}
+use Rattle.dataflow.proofs.Common.{◌++◌, ◌<◌, ℕ, All, List, ap, length, subst, sym, reads_of_statement, IsHeldSource}
+use Rattle.scop_syntax.proofs.Common.{All-push}
 use Rattle.dataflow.specs.declared.source.ReadSource.{ReadSource}
 use Rattle.dataflow.proofs.CandidateRuns.{read_gathered}
 use Rattle.dataflow.proofs.UnmarkedConflicts.{all_held}

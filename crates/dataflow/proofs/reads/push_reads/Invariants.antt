@@ -1,6 +1,5 @@
-use Rattle.scop_syntax.proofs.Common.{ℕ, List, ◌++◌, ◌-◌, All, length}
-use Rattle.dataflow.specs.ReadSources.{AreSources, reads_from, reads_of_statement}
-use Rattle.dataflow.specs.Steps.{IsHeldSource}
+use Rattle.dataflow.proofs.Common.{ℕ, List, ◌++◌, ◌-◌, All, length, AreSources, reads_from, reads_of_statement}
+use Rattle.dataflow.proofs.Common.{IsHeldSource}
 use Rattle.dataflow.proofs.CandidateRuns.{Gathered}
 use Rattle.dataflow.proofs.reads.push_reads.Given as goal
 

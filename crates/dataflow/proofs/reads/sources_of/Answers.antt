@@ -1,9 +1,8 @@
-use Rattle.scop_syntax.proofs.Common.{rules, List, subst, ◌<◌, ◌^◌, In, member_at}
-use Rattle.iteration_domains.specs.Model.{Modelled}
-use Rattle.dataflow.specs.ReadSources.{AreSources, reads_in, reads_of}
+use Rattle.dataflow.proofs.Common.{rules, List, subst, ◌<◌, ◌^◌, In, member_at, Modelled, AreSources, reads_in}
+use Rattle.dataflow.proofs.Common.{reads_of}
 use Rattle.dataflow.proofs.CandidateRuns.{Gathered, all_gathered, dropped, statement_gathered}
-use Rattle.dataflow.proofs.reads.sources_of.Goals as goal
 use Rattle.dataflow.proofs.reads.sources_of.Goals.{After-loop-statement}
+use Rattle.dataflow.proofs.reads.sources_of.Goals as goal
 
 pub push_reads-requires-clause-statement : goal.push_reads-requires-clause-statement
 push_reads-requires-clause-statement c =

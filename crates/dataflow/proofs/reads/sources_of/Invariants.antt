@@ -1,6 +1,4 @@
-use Rattle.scop_syntax.proofs.Common.{All, drop}
-use Rattle.dataflow.specs.ReadSources.{reads_in}
-use Rattle.dataflow.specs.Steps.{IsHeldSource}
+use Rattle.dataflow.proofs.Common.{All, drop, reads_in, IsHeldSource}
 use Rattle.dataflow.proofs.CandidateRuns.{Gathered}
 use Rattle.dataflow.proofs.reads.sources_of.Given as goal
 

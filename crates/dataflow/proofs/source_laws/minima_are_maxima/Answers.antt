@@ -1,5 +1,4 @@
-use Rattle.scop_syntax.proofs.Common.{[], length, refl}
-use Rattle.iteration_domains.proofs.RowLaws.{goes_on_last}
+use Rattle.dataflow.proofs.Common.{[], length, refl, goes_on_last}
 use Rattle.dataflow.proofs.Maxima.{flip-order, flip_twice}
 use Rattle.dataflow.proofs.ProblemPoints.{all_below-values}
 use Rattle.dataflow.proofs.source_laws.minima_are_maxima.Goals as goal

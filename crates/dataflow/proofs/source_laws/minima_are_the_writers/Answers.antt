@@ -1,6 +1,4 @@
-use Rattle.scop_syntax.proofs.Common.{sym, walk_of, in_from_place}
-use Rattle.iteration_domains.proofs.Instances.{instance_is_point}
-use Rattle.dataflow.specs.Sources.{reader_side}
+use Rattle.dataflow.proofs.Common.{sym, walk_of, in_from_place, instance_is_point, reader_side}
 use Rattle.dataflow.proofs.AccessWriters.{laws_of, small_turns}
 use Rattle.dataflow.proofs.CandidateSolutions.{minimum_wanted, in_statements}
 use Rattle.dataflow.proofs.source_laws.minima_are_the_writers.Goals as goal
