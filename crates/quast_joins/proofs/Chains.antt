@@ -1,18 +1,10 @@
 -- The tests between two leaves, one common loop behind another.
-use Rattle.whole_numbers.proofs.Common.{◌≡◌, ℕ, zero, suc, ◌+◌, ◌<◌, ◌≤◌, Bool, true, false, ℤ, List, [], ◌∷◌, length}
-use Rattle.whole_numbers.proofs.Common.{drop, get_or, refl, sym, ap, ap₂, subst, ◌∙◌, arith, nat_eq, if◌then◌else◌}
-use Rattle.whole_numbers.proofs.Common.{Affine}
-use Rattle.quast_trees.specs.Source.{Forms}
-use Rattle.quast_trees.specs.Tree.{Tree, leaf, branch}
-use Rattle.quast_trees.specs.Postfix.{branched}
-use Rattle.quast_trees.specs.declared.node.Node.TheVariants as node
-use Rattle.quast_joins.specs.Joins.{test_of, chain, last_leaf}
-use Rattle.quast_joins.specs.Counts.{tested}
-use Rattle.quast_joins.specs.Limits.{leaf_limit}
-use Rattle.quast_joins.specs.Steps.{FitsAt}
-use Rattle.quast_joins.specs.Sizes.{IsFormWithin, AreFormsWithin}
-use Rattle.quast_joins.specs.Ways.{loops_of}
+use Rattle.quast_joins.proofs.Common.{◌≡◌, ℕ, zero, suc, ◌+◌, ◌<◌, ◌≤◌, Bool, true, false, ℤ, List, [], ◌∷◌, length}
+use Rattle.quast_joins.proofs.Common.{drop, get_or, refl, sym, ap, ap₂, subst, ◌∙◌, arith, nat_eq, if◌then◌else◌}
+use Rattle.quast_joins.proofs.Common.{Affine, Forms, Tree, leaf, branch, branched, test_of, chain, last_leaf, tested}
+use Rattle.quast_joins.proofs.Common.{leaf_limit, FitsAt, IsFormWithin, AreFormsWithin, loops_of}
 use Rattle.quast_joins.specs.declared.way.Way.{Way}
+use Rattle.quast_trees.specs.declared.node.Node.TheVariants as node
 
 -- behind the last common loop stands the end
 chain_end : (way : Way) (a b end : Tree) (ks ls : List ℕ) (fs gs : List Affine) (at : ℕ) → tested ks ls fs gs ≤ at

@@ -1,20 +1,17 @@
 -- How many nodes a join has, by its two trees and by their nodes, and as the code counts them.
-use Rattle.whole_numbers.proofs.Common.{◌≡◌, ℕ, zero, suc, ◌+◌, ◌*◌, ◌<◌, ◌≤◌, Bool, true, false, List, [], ◌∷◌, ◌++◌}
-use Rattle.whole_numbers.proofs.Common.{length, map, drop, get_or, min, refl, ap, ap₂, ◌∙◌, arith, drop-cons, fold}
-use Rattle.whole_numbers.proofs.Common.{nat_eq, pos, sum_by, if◌then◌else◌, eq-eqb, length-map, Affine, form_of}
+use Rattle.quast_joins.proofs.Common.{◌≡◌, ℕ, zero, suc, ◌+◌, ◌<◌, ◌≤◌, Bool, true, false, List, [], ◌∷◌, ◌++◌, length}
+use Rattle.quast_joins.proofs.Common.{map, drop, get_or, min, refl, ap, ap₂, ◌∙◌, arith, fold, nat_eq, pos, sum_by}
+use Rattle.quast_joins.proofs.Common.{if◌then◌else◌, length-map, Affine, form_of, Forms, Tree, initial, leaf, branch}
+use Rattle.quast_joins.proofs.Common.{bind, count, written, statement_of, loops_of, text, shifted_form, shifted_leaf}
+use Rattle.quast_joins.proofs.Common.{widened, test_of, last_leaf, chain, meet, under, moved, join_from, join, tested}
+use Rattle.quast_joins.proofs.Common.{under_node, join_node, capped, join_count}
+use Rattle.whole_numbers.proofs.Common.{◌*◌, drop-cons, eq-eqb}
 use Rattle.std.proofs.lemmas.List.Sums.{sum_by-append, sum_by-cons}
-use Rattle.quast_trees.specs.Source.{Forms}
-use Rattle.quast_trees.specs.Tree.{Tree, initial, leaf, branch, bind, count}
-use Rattle.quast_trees.specs.Postfix.{written}
-use Rattle.quast_trees.specs.declared.node.Node.TheVariants as node
 use Rattle.quast_trees.proofs.WrittenNodes.{length-written}
-use Rattle.quast_joins.specs.Ways.{statement_of, loops_of, text}
 use Rattle.quast_joins.specs.declared.way.Way.{Way}
-use Rattle.quast_joins.specs.Shifts.{shifted_form, shifted_leaf, widened}
-use Rattle.quast_joins.specs.Joins.{test_of, last_leaf, chain, meet, under, moved, join_from, join}
-use Rattle.quast_joins.specs.Counts.{tested, under_node, join_node, capped, meet_count, under_count, join_count}
-use Rattle.quast_joins.specs.Counts.{HasForms}
+use Rattle.quast_joins.specs.Counts.{meet_count, under_count, HasForms}
 use Rattle.quast_joins.proofs.JoinedLeaves.{join_leaves}
+use Rattle.quast_trees.specs.declared.node.Node.TheVariants as node
 
 -- a choice of two leaves is one node
 leaf_count : (b : Bool) (s t : Forms) → count (if b then leaf s else leaf t) ≡ 1

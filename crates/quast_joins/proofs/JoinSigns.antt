@@ -1,14 +1,11 @@
 -- No quotient that a join binds on the way of a point is negative, where none is that its sides bind.
-use Rattle.whole_numbers.proofs.Common.{◌≡◌, ℕ, suc, Bool, true, false, ℤ, pos, List, [], ◌∷◌, ◌++◌, length, refl, sym}
-use Rattle.whole_numbers.proofs.Common.{ap, subst, ◌∙◌, length-append, arith, nat_eq, if◌then◌else◌, ◌≤ℤ◌, ◌<ℤ◌, Affine}
-use Rattle.whole_numbers.proofs.Common.{value_of, floor}
+use Rattle.quast_joins.proofs.Common.{◌≡◌, ℕ, suc, Bool, true, false, ℤ, pos, List, [], ◌∷◌, ◌++◌, length, refl, sym}
+use Rattle.quast_joins.proofs.Common.{ap, subst, ◌∙◌, length-append, arith, nat_eq, if◌then◌else◌, ◌≤ℤ◌, ◌<ℤ◌, Affine}
+use Rattle.quast_joins.proofs.Common.{value_of, floor, Forms, Tree, initial, leaf, branch, bind, Speaks, statement_of}
+use Rattle.quast_joins.proofs.Common.{loops_of, text, shifted_leaf, widened, test_of, chain, meet, under, moved}
+use Rattle.quast_joins.proofs.Common.{join_from, join}
 use Rattle.std.proofs.lemmas.List.{append_assoc, append-nil}
-use Rattle.quast_trees.specs.Source.{Forms}
-use Rattle.quast_trees.specs.Tree.{Tree, initial, leaf, branch, bind, Speaks}
-use Rattle.quast_joins.specs.Ways.{statement_of, loops_of, text}
 use Rattle.quast_joins.specs.declared.way.Way.{Way}
-use Rattle.quast_joins.specs.Shifts.{shifted_leaf, widened}
-use Rattle.quast_joins.specs.Joins.{test_of, chain, meet, under, moved, join_from, join}
 use Rattle.quast_trees.specs.Turns.{BindsUp}
 use Rattle.quast_joins.proofs.Values.{value-shifted}
 

@@ -1,16 +1,13 @@
 -- 128 bits hold the rows by which a join is told.
-use Rattle.whole_numbers.proofs.Common.{◌≡◌, ℕ, zero, suc, ◌^◌, Bool, true, false, ℤ, pos, ◌+ℤ◌, ◌-ℤ◌, ◌≤ℤ◌, List, []}
-use Rattle.whole_numbers.proofs.Common.{◌∷◌, arith, nat_eq, if◌then◌else◌, ◌<ℤ◌, neg_ℤ, ints, Affine, complement}
-use Rattle.whole_numbers.proofs.Common.{negsuc, ◌*ℤ◌, All-append, All-cons, All-head, All-nil, All-tail, fits, zeros}
+use Rattle.quast_joins.proofs.Common.{◌≡◌, ℕ, zero, suc, ◌^◌, Bool, true, false, ℤ, pos, ◌+ℤ◌, ◌-ℤ◌, ◌≤ℤ◌, List, []}
+use Rattle.quast_joins.proofs.Common.{◌∷◌, arith, nat_eq, if◌then◌else◌, ◌<ℤ◌, neg_ℤ, ints, Affine, complement, negsuc}
+use Rattle.quast_joins.proofs.Common.{◌*ℤ◌, fits, zeros, Forms, Tree, initial, leaf, branch, bind, statement_of}
+use Rattle.quast_joins.proofs.Common.{loops_of, text, shifted, shifted_form, shifted_leaf, widened, test_of, chain}
+use Rattle.quast_joins.proofs.Common.{under, moved, join_from, join, leaf_limit, AreWithin, IsFormWithin}
+use Rattle.quast_joins.proofs.Common.{AreFormsWithin, LeavesWithin}
+use Rattle.whole_numbers.proofs.Common.{All-append, All-cons, All-head, All-nil, All-tail}
 use Rattle.whole_numbers.proofs.Fits.{fits_range}
-use Rattle.quast_trees.specs.Source.{Forms}
-use Rattle.quast_trees.specs.Tree.{Tree, initial, leaf, branch, bind}
-use Rattle.quast_joins.specs.Ways.{statement_of, loops_of, text}
 use Rattle.quast_joins.specs.declared.way.Way.{Way}
-use Rattle.quast_joins.specs.Shifts.{shifted, shifted_form, shifted_leaf, widened}
-use Rattle.quast_joins.specs.Joins.{test_of, chain, under, moved, join_from, join}
-use Rattle.quast_joins.specs.Limits.{leaf_limit}
-use Rattle.quast_joins.specs.Sizes.{AreWithin, IsFormWithin, AreFormsWithin, LeavesWithin}
 use Rattle.quast_joins.proofs.Sizes.{test_within, forms_shifted}
 use Rattle.quast_trees.specs.Turns.{CanTell, IsHeld, rest_of}
 use Rattle.quast_trees.proofs.HeldNumbers.{Opposed, opposed_of, opposed_to, opposed_zeros}

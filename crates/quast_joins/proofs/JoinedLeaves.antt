@@ -1,11 +1,8 @@
 -- What holds of each leaf of two trees, and of a leaf whose variables are moved, holds of each leaf of their join.
-use Rattle.whole_numbers.proofs.Common.{ℕ, suc, Bool, true, false, List, [], ◌∷◌, nat_eq, if◌then◌else◌, Affine}
-use Rattle.quast_trees.specs.Source.{Forms}
-use Rattle.quast_trees.specs.Tree.{Tree, initial, leaf, branch, bind}
-use Rattle.quast_joins.specs.Ways.{statement_of, loops_of, text}
+use Rattle.quast_joins.proofs.Common.{ℕ, suc, Bool, true, false, List, [], ◌∷◌, nat_eq, if◌then◌else◌, Affine, Forms}
+use Rattle.quast_joins.proofs.Common.{Tree, initial, leaf, branch, bind, statement_of, loops_of, text, shifted_leaf}
+use Rattle.quast_joins.proofs.Common.{widened, test_of, last_leaf, chain, meet, under, moved, join_from, join}
 use Rattle.quast_joins.specs.declared.way.Way.{Way}
-use Rattle.quast_joins.specs.Shifts.{shifted_leaf, widened}
-use Rattle.quast_joins.specs.Joins.{test_of, last_leaf, chain, meet, under, moved, join_from, join}
 use Rattle.quast_joins.specs.Leaves.{LeavesAre}
 
 module _ (P : Forms → Type 0) (shifts : (n k : ℕ) (l : Forms) → P l → P (shifted_leaf n k l)) (way : Way) where

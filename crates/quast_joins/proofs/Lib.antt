@@ -1,3 +1,4 @@
+pub mod Common
 pub mod JoinedLeaves
 pub mod Values
 pub mod Variables

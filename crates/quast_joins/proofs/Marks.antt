@@ -1,19 +1,15 @@
 -- The nodes of a quast with the numbers of binds round them, as the code goes over them.
-use Rattle.whole_numbers.proofs.Common.{◌≡◌, ℕ, zero, suc, ◌+◌, ◌<◌, ◌≤◌, ℤ, pos, List, [], ◌∷◌, length, drop, refl}
-use Rattle.whole_numbers.proofs.Common.{sym, ap, ap₂, subst, ◌∙◌, arith, ◌≤ℤ◌, get_or, drop_all, length-map, ints}
-use Rattle.quast_trees.specs.Source.{Forms}
-use Rattle.quast_trees.specs.Tree.{Tree, leaf, Speaks}
-use Rattle.quast_trees.specs.Postfix.{written}
+use Rattle.quast_joins.proofs.Common.{◌≡◌, ℕ, zero, suc, ◌+◌, ◌<◌, ◌≤◌, ℤ, pos, List, [], ◌∷◌, length, drop, refl, sym}
+use Rattle.quast_joins.proofs.Common.{ap, ap₂, subst, ◌∙◌, arith, ◌≤ℤ◌, get_or, length-map, ints, Forms, Tree, leaf}
+use Rattle.quast_joins.proofs.Common.{Speaks, written, shifted_leaf, widened, LeavesWithin, leaf_limit, Placed_node, at}
+use Rattle.quast_joins.proofs.Common.{pairs, paired, depths, steps, Enough, FitsAt, AllFit}
+use Rattle.whole_numbers.proofs.Common.{drop_all}
 use Rattle.quast_trees.specs.declared.node.Node.{Node}
-use Rattle.quast_trees.specs.declared.node.Node.TheVariants as node
-use Rattle.quast_joins.specs.Shifts.{shifted_leaf, widened}
-use Rattle.quast_joins.specs.Sizes.{LeavesWithin}
-use Rattle.quast_joins.specs.Limits.{leaf_limit}
-use Rattle.quast_joins.specs.Steps.{Placed_node, at, pairs, paired, depths, steps, Takes, Enough, FitsAt, AllFit}
-use Rattle.quast_joins.specs.Steps.{IsMarked}
+use Rattle.quast_joins.specs.Steps.{Takes, IsMarked}
 use Rattle.quast_joins.proofs.Variables.{shifted-speaks, widened-speaks}
 use Rattle.quast_joins.proofs.Sizes.{forms_shifted}
 use Rattle.quast_joins.proofs.Steps.{Step, Builds, paired_fit, paired_nodes, paired_depths, pairs_are}
+use Rattle.quast_trees.specs.declared.node.Node.TheVariants as node
 
 limit_up : pos 0 ≤ℤ leaf_limit
 limit_up = omega (arith, ints)

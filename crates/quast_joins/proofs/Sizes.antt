@@ -1,21 +1,19 @@
 -- The numbers of a join: its leaves' are as small as those of both, and its tests fit 128 bits.
-use Rattle.whole_numbers.proofs.Common.{◌≡◌, ℕ, zero, suc, ◌^◌, ℤ, pos, negsuc, ◌+ℤ◌, ◌-ℤ◌, ◌*ℤ◌, ◌≤ℤ◌, List, [], ◌∷◌}
-use Rattle.whole_numbers.proofs.Common.{◌++◌, map, Result, Ok, Err, refl, arith, lt-ltb, ints, Affine, form_of, fits}
-use Rattle.whole_numbers.proofs.Common.{zeros, sums, multiples}
+use Rattle.quast_joins.proofs.Common.{◌≡◌, ℕ, zero, suc, ◌^◌, ℤ, pos, negsuc, ◌+ℤ◌, ◌-ℤ◌, ◌*ℤ◌, ◌≤ℤ◌, List, [], ◌∷◌}
+use Rattle.quast_joins.proofs.Common.{◌++◌, map, refl, arith, ints, Affine, form_of, fits, zeros, sums, multiples, Tree}
+use Rattle.quast_joins.proofs.Common.{shifted, shifted_form, less_by_one, test_of, join, leaf_limit, AreWithin}
+use Rattle.quast_joins.proofs.Common.{IsFormWithin, AreFormsWithin, LeavesWithin}
+use Rattle.whole_numbers.proofs.Common.{Result, Ok, Err, lt-ltb}
 use Rattle.std.proofs.Common.{IsTrue}
 use Rattle.wide_math.specs.declared.Op.TheVariants.{Sub, Mul}
 use Rattle.wide_math.specs.declared.Wide.{Wide}
 use Rattle.wide_math.specs.Checked.{cross_of}
 use Rattle.wide_math.proofs.Steps.{checked-fits}
 use Rattle.affine_forms.specs.Runs.{zip_run, multiples_difference_run, forms_difference_run}
-use Rattle.quast_trees.specs.Tree.{Tree}
 use Rattle.quast_joins.specs.declared.way.Way.{Way}
 use Rattle.quast_joins.specs.declared.way.Way.TheVariants.{Later, Earlier}
-use Rattle.quast_joins.specs.Shifts.{shifted, shifted_form}
-use Rattle.quast_joins.specs.Joins.{less_by_one, test_of, join}
-use Rattle.quast_joins.specs.Limits.{leaf_limit}
 use Rattle.quast_joins.proofs.JoinedLeaves.{join_leaves}
-use Rattle.quast_joins.specs.Sizes.{IsWithin, AreWithin, IsFormWithin, AreFormsWithin, LeavesWithin}
+use Rattle.quast_joins.specs.Sizes.{IsWithin}
 
 -- numbers within a bound are within twice that
 wider : (bound : ℤ) (xs : List ℤ) → pos 0 ≤ℤ bound → AreWithin bound xs → AreWithin (bound +ℤ bound) xs

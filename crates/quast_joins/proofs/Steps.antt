@@ -1,18 +1,16 @@
 -- The join made node by node on a stack of trees is the join's tree; the numbers of binds that it goes by.
-use Rattle.whole_numbers.proofs.Common.{◌≡◌, ℕ, suc, ◌+◌, ℤ, List, [], ◌∷◌, ◌++◌, map, refl, sym, ap, ap₂, subst, ◌∙◌}
-use Rattle.whole_numbers.proofs.Common.{arith, map-append, Affine}
+use Rattle.quast_joins.proofs.Common.{◌≡◌, ℕ, suc, ◌+◌, ℤ, List, [], ◌∷◌, ◌++◌, map, refl, sym, ap, ap₂, subst, ◌∙◌}
+use Rattle.quast_joins.proofs.Common.{arith, Affine, Forms, Tree, initial, leaf, branch, bind, count, Speaks, written}
+use Rattle.quast_joins.proofs.Common.{branched, shifted_form, under, moved, join_from, LeavesWithin, Placed_node, at}
+use Rattle.quast_joins.proofs.Common.{paired, pairs, Depths, depths_of, from_last, depths, steps, under_step}
+use Rattle.quast_joins.proofs.Common.{moved_step, join_step, Enough, AllFit}
+use Rattle.whole_numbers.proofs.Common.{map-append}
 use Rattle.std.proofs.lemmas.List.{append_assoc}
-use Rattle.quast_trees.specs.Source.{Forms}
-use Rattle.quast_trees.specs.Tree.{Tree, initial, leaf, branch, bind, count, Speaks}
-use Rattle.quast_trees.specs.Postfix.{written, branched, bound}
+use Rattle.quast_trees.specs.Postfix.{bound}
 use Rattle.quast_trees.specs.declared.node.Node.{Node}
-use Rattle.quast_trees.specs.declared.node.Node.TheVariants as node
-use Rattle.quast_joins.specs.Shifts.{shifted_form}
-use Rattle.quast_joins.specs.Joins.{under, moved, join_from}
-use Rattle.quast_joins.specs.Sizes.{LeavesWithin}
-use Rattle.quast_joins.specs.Steps.{Placed_node, at, paired, pairs, Depths, depths_of, depth_step, from_last}
-use Rattle.quast_joins.specs.Steps.{depths, steps, under_step, moved_step, join_step, Enough, AllFit}
+use Rattle.quast_joins.specs.Steps.{depth_step}
 use Rattle.quast_joins.specs.declared.way.Way.{Way}
+use Rattle.quast_trees.specs.declared.node.Node.TheVariants as node
 
 -- what one node does to the stack
 abbrev pub Step : Type 0

@@ -1,19 +1,17 @@
 -- The value of a join is the wanted one of the two values.
-use Rattle.whole_numbers.proofs.Common.{◌≡◌, ℕ, zero, suc, ◌+◌, Bool, true, false, ℤ, pos, negsuc, ◌+ℤ◌, ◌-ℤ◌, ◌*ℤ◌}
-use Rattle.whole_numbers.proofs.Common.{List, [], ◌∷◌, ◌++◌, length, map, refl, sym, ap, ap₂, subst, ◌∙◌, length-append}
-use Rattle.whole_numbers.proofs.Common.{arith, nat_eq, if◌then◌else◌, ints, Affine, value_of, values_of, complement}
-use Rattle.whole_numbers.proofs.Common.{floor, dot, zeros, dot-append, dot-zeros, length-zeros, value_of-sum}
-use Rattle.whole_numbers.proofs.Common.{value_of-complement}
+use Rattle.quast_joins.proofs.Common.{◌≡◌, ℕ, zero, suc, ◌+◌, Bool, true, false, ℤ, pos, negsuc, ◌+ℤ◌, ◌-ℤ◌, ◌*ℤ◌, List}
+use Rattle.quast_joins.proofs.Common.{[], ◌∷◌, ◌++◌, length, map, refl, sym, ap, ap₂, subst, ◌∙◌, length-append, arith}
+use Rattle.quast_joins.proofs.Common.{nat_eq, if◌then◌else◌, ints, Affine, value_of, complement, floor, zeros}
+use Rattle.quast_joins.proofs.Common.{length-zeros, Forms, Tree, initial, leaf, branch, bind, Speaks, value}
+use Rattle.quast_joins.proofs.Common.{statement_of, loops_of, text, shifted, shifted_form, shifted_leaf, widened}
+use Rattle.quast_joins.proofs.Common.{less_by_one, test_of, chain, meet, under, moved, join_from, join}
+use Rattle.whole_numbers.proofs.Common.{values_of, dot, dot-append, dot-zeros, value_of-sum, value_of-complement}
 use Rattle.std.proofs.lemmas.List.{append_assoc, append-nil}
-use Rattle.quast_trees.specs.Source.{Forms}
-use Rattle.quast_trees.specs.Tree.{Tree, initial, leaf, branch, bind, Speaks}
 use Rattle.quast_trees.specs.Leaf.{Leaf, found}
-use Rattle.quast_trees.specs.Value.{value, by_sign}
-use Rattle.quast_joins.specs.Ways.{statement_of, loops_of, ahead, text, first_stands, chosen}
+use Rattle.quast_trees.specs.Value.{by_sign}
+use Rattle.quast_joins.specs.Ways.{ahead, first_stands, chosen}
 use Rattle.quast_joins.specs.declared.way.Way.{Way}
 use Rattle.quast_joins.specs.declared.way.Way.TheVariants.{Later, Earlier}
-use Rattle.quast_joins.specs.Shifts.{shifted, shifted_form, shifted_leaf, widened}
-use Rattle.quast_joins.specs.Joins.{less_by_one, test_of, chain, meet, under, moved, join_from, join}
 
 -- moved variables read the same values
 dot-shifted : (n k : ℕ) (cs point middle rest : List ℤ) → length point ≡ n → length middle ≡ k

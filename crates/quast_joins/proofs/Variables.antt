@@ -1,14 +1,12 @@
 -- A join speaks of the variables that stand at each place.
-use Rattle.whole_numbers.proofs.Common.{◌≡◌, ℕ, zero, suc, ◌+◌, Bool, true, false, ℤ, negsuc, List, [], ◌∷◌, length}
-use Rattle.whole_numbers.proofs.Common.{map, All, sym, subst, ◌∙◌, length-append, arith, nat_eq, if◌then◌else◌, All-map}
-use Rattle.whole_numbers.proofs.Common.{Affine, zeros, multiples, length-zeros, length-multiples, length-sums}
-use Rattle.quast_trees.specs.Source.{Forms}
-use Rattle.quast_trees.specs.Tree.{Tree, initial, leaf, branch, bind, Speaks}
-use Rattle.quast_joins.specs.Ways.{statement_of, loops_of, text}
+use Rattle.quast_joins.proofs.Common.{◌≡◌, ℕ, zero, suc, ◌+◌, Bool, true, false, ℤ, negsuc, List, [], ◌∷◌, length, map}
+use Rattle.quast_joins.proofs.Common.{sym, subst, ◌∙◌, length-append, arith, nat_eq, if◌then◌else◌, Affine, zeros}
+use Rattle.quast_joins.proofs.Common.{multiples, length-zeros, Forms, Tree, initial, leaf, branch, bind, Speaks}
+use Rattle.quast_joins.proofs.Common.{statement_of, loops_of, text, shifted, shifted_form, shifted_leaf, widened}
+use Rattle.quast_joins.proofs.Common.{less_by_one, test_of, last_leaf, chain, meet, under, moved, join_from, join}
+use Rattle.whole_numbers.proofs.Common.{All, All-map, length-multiples, length-sums}
 use Rattle.quast_joins.specs.declared.way.Way.{Way}
 use Rattle.quast_joins.specs.declared.way.Way.TheVariants.{Later, Earlier}
-use Rattle.quast_joins.specs.Shifts.{shifted, shifted_form, shifted_leaf, widened}
-use Rattle.quast_joins.specs.Joins.{less_by_one, test_of, last_leaf, chain, meet, under, moved, join_from, join}
 
 -- the forms are over n variables
 abbrev pub AreOver : ℕ → List Affine → Type 0

@@ -1,5 +1,4 @@
-use Rattle.whole_numbers.proofs.Common.{◌≡◌, ◌≤◌, length, drop, [], ◌∷◌, reverse}
-use Rattle.quast_joins.specs.Steps.{depths_of, from_last}
+use Rattle.quast_joins.proofs.Common.{◌≡◌, ◌≤◌, length, drop, [], ◌∷◌, reverse, depths_of, from_last}
 use Rattle.quast_joins.proofs.binds.binds_round.Given as goal
 
 abbrev pub invariant-loop-at : goal.invariant-loop-at

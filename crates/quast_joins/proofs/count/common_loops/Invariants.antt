@@ -1,5 +1,4 @@
-use Rattle.whole_numbers.proofs.Common.{◌≡◌, ◌+◌, drop}
-use Rattle.quast_joins.specs.Counts.{tested}
+use Rattle.quast_joins.proofs.Common.{◌≡◌, ◌+◌, drop, tested}
 use Rattle.quast_joins.proofs.count.common_loops.Given as goal
 
 abbrev pub invariant-loop-at : goal.invariant-loop-at

@@ -1,6 +1,4 @@
-use Rattle.whole_numbers.proofs.Common.{rules, ◌≡◌, ◌+◌, ◌∙◌, fold}
-use Rattle.quast_joins.specs.Counts.{capped, join_node}
-use Rattle.quast_joins.specs.Limits.{most_told}
+use Rattle.quast_joins.proofs.Common.{rules, ◌≡◌, ◌+◌, ◌∙◌, fold, capped, join_node, most_told}
 use Rattle.quast_joins.proofs.Counts.{counted}
 use Rattle.quast_joins.proofs.count.count_nodes.Goals as goal
 

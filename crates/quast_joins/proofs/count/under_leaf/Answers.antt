@@ -1,6 +1,4 @@
-use Rattle.whole_numbers.proofs.Common.{rules, ◌≡◌, ◌+◌, ◌∙◌, fold}
-use Rattle.quast_joins.specs.Counts.{capped, under_node}
-use Rattle.quast_joins.specs.Limits.{most_told}
+use Rattle.quast_joins.proofs.Common.{rules, ◌≡◌, ◌+◌, ◌∙◌, fold, capped, under_node, most_told}
 use Rattle.quast_joins.proofs.Counts.{counted}
 use Rattle.quast_joins.proofs.count.under_leaf.Goals as goal
 

@@ -1,5 +1,4 @@
-use Rattle.whole_numbers.proofs.Common.{◌≡◌, ◌++◌, map, drop}
-use Rattle.quast_joins.specs.Shifts.{shifted_form}
+use Rattle.quast_joins.proofs.Common.{◌≡◌, ◌++◌, map, drop, shifted_form}
 use Rattle.quast_joins.proofs.forms.move_forms.Given as goal
 
 abbrev pub invariant-loop-form : goal.invariant-loop-form

@@ -1,15 +1,11 @@
-use Rattle.whole_numbers.proofs.Common.{◌≡◌, ℕ, subst, sym, ap, ap₂, ◌∙◌, arith, sum_by}
-use Rattle.quast_trees.specs.Tree.{Tree, count, Speaks}
-use Rattle.quast_trees.specs.Postfix.{tree_of, read, top}
-use Rattle.quast_trees.specs.Value.{value}
-use Rattle.quast_joins.specs.Joins.{join}
-use Rattle.quast_joins.specs.Counts.{capped, join_count, join_node}
-use Rattle.quast_joins.specs.Limits.{most_told}
+use Rattle.quast_joins.proofs.Common.{◌≡◌, ℕ, subst, sym, ap, ap₂, ◌∙◌, arith, sum_by, Tree, count, Speaks, tree_of}
+use Rattle.quast_joins.proofs.Common.{value, join, capped, join_count, join_node, most_told}
+use Rattle.quast_trees.specs.Postfix.{read, top}
 use Rattle.quast_joins.proofs.Counts.{join-count, join_added}
 use Rattle.quast_joins.proofs.Values.{join-value}
 use Rattle.quast_joins.proofs.Variables.{join-speaks}
-use Rattle.quast_joins.proofs.join.joined.Goals as goal
 use Rattle.quast_joins.proofs.join.joined.Goals.{After-count_nodes-nodes, In-Ok}
+use Rattle.quast_joins.proofs.join.joined.Goals as goal
 
 -- what is counted
 told : (c : After-count_nodes-nodes)

@@ -1,7 +1,5 @@
-use Rattle.whole_numbers.proofs.Common.{◌∷◌, ℕ, List, sym, ap, ap₂, ◌∙◌, on_ok_weaker}
-use Rattle.quast_trees.specs.Postfix.{standing, tree_of}
-use Rattle.quast_joins.specs.Joins.{join}
-use Rattle.quast_joins.specs.Steps.{Placed_node, steps, join_step}
+use Rattle.quast_joins.proofs.Common.{◌∷◌, ℕ, List, sym, ap, ap₂, ◌∙◌, on_ok_weaker, standing, tree_of, join}
+use Rattle.quast_joins.proofs.Common.{Placed_node, steps, join_step}
 use Rattle.quast_joins.proofs.Steps.{join_run}
 use Rattle.quast_joins.proofs.Marks.{marked_of, pairs_written}
 use Rattle.quast_joins.proofs.join.push_quasts.Goals as goal

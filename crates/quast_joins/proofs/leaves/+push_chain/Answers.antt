@@ -1,7 +1,5 @@
-use Rattle.whole_numbers.proofs.Common.{rules, ◌≡◌, ◌<◌, ◌∷◌, length, get_or, ap, sym, ◌∙◌, arith, on_ok_weaker}
-use Rattle.quast_trees.specs.Source.{Forms}
-use Rattle.quast_trees.specs.Tree.{Tree}
-use Rattle.quast_trees.specs.Postfix.{standing}
+use Rattle.quast_joins.proofs.Common.{rules, ◌≡◌, ◌<◌, ◌∷◌, length, get_or, ap, sym, ◌∙◌, arith, on_ok_weaker, Forms}
+use Rattle.quast_joins.proofs.Common.{Tree, standing}
 use Rattle.quast_joins.proofs.Chains.{chain_last, chain_put, forms_at, form_fits}
 use Rattle.quast_joins.proofs.leaves.+push_chain.Goals as goal
 

@@ -1,7 +1,4 @@
-use Rattle.whole_numbers.proofs.Common.{rules, ◌≤◌, ◌<◌, length}
-use Rattle.quast_trees.specs.Postfix.{standing}
-use Rattle.quast_joins.specs.Joins.{under}
-use Rattle.quast_joins.specs.Steps.{under_step}
+use Rattle.quast_joins.proofs.Common.{rules, ◌≤◌, ◌<◌, length, standing, under, under_step}
 use Rattle.quast_joins.proofs.Steps.{under_builds}
 use Rattle.quast_joins.proofs.Marks.{begun, step_at, ended}
 use Rattle.quast_joins.proofs.nodes.push_all_under.Goals as goal

@@ -1,5 +1,4 @@
-use Rattle.quast_trees.specs.Postfix.{standing}
-use Rattle.quast_joins.specs.Steps.{pairs, under_step}
+use Rattle.quast_joins.proofs.Common.{standing, pairs, under_step}
 use Rattle.quast_joins.proofs.Marks.{Stepped}
 use Rattle.quast_joins.proofs.nodes.push_all_under.Given as goal
 

@@ -1,7 +1,5 @@
-use Rattle.whole_numbers.proofs.Common.{rules, ◌≤◌, ◌<◌, List, length, sym, subst}
-use Rattle.quast_trees.specs.Postfix.{standing}
-use Rattle.quast_joins.specs.Joins.{join}
-use Rattle.quast_joins.specs.Steps.{Placed_node, paired, pairs, join_step}
+use Rattle.quast_joins.proofs.Common.{rules, ◌≤◌, ◌<◌, List, length, sym, subst, standing, join, Placed_node, paired}
+use Rattle.quast_joins.proofs.Common.{pairs, join_step}
 use Rattle.quast_joins.proofs.Steps.{Builds, join_builds}
 use Rattle.quast_joins.proofs.Marks.{begun, step_at, ended}
 use Rattle.quast_joins.proofs.nodes.push_nodes.Goals as goal

@@ -1,5 +1,4 @@
-use Rattle.quast_trees.specs.Postfix.{standing}
-use Rattle.quast_joins.specs.Steps.{pairs, join_step}
+use Rattle.quast_joins.proofs.Common.{standing, pairs, join_step}
 use Rattle.quast_joins.proofs.Marks.{Stepped}
 use Rattle.quast_joins.proofs.nodes.push_nodes.Given as goal
 

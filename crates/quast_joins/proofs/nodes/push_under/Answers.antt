@@ -1,10 +1,7 @@
-use Rattle.whole_numbers.proofs.Common.{subst, sym}
-use Rattle.quast_trees.specs.Source.{Forms}
+use Rattle.quast_joins.proofs.Common.{subst, sym, Forms, leaf_limit, FitsAt}
 use Rattle.quast_trees.specs.declared.node.Node.{Node as Nodes}
-use Rattle.quast_trees.specs.declared.node.Node.TheVariants as Node
-use Rattle.quast_joins.specs.Limits.{leaf_limit}
-use Rattle.quast_joins.specs.Steps.{FitsAt}
 use Rattle.quast_joins.proofs.Marks.{shifted_fits, widened_fits}
+use Rattle.quast_trees.specs.declared.node.Node.TheVariants as Node
 use Rattle.quast_joins.proofs.nodes.push_under.Goals as goal
 
 pub push_meet-requires-clause-first : goal.push_meet-requires-clause-first
