@@ -1,17 +1,16 @@
 -- Rows over the variables of a pair: forms keep their values, equal subscripts, and the orders of two instances.
-use Rattle.scop_syntax.proofs.Common.{◌≡◌, ℕ, zero, suc, ◌+◌, ◌<◌, Bool, true, false, ℤ, pos, negsuc, List, [], ◌∷◌}
-use Rattle.scop_syntax.proofs.Common.{◌++◌, length, map, get_or, take, inl, inr, ap₂, subst, sym, ◌∙◌, refl, arith, ◌≤◌}
-use Rattle.scop_syntax.proofs.Common.{◌-ℤ◌, ◌≤ℤ◌, nat_lt, ints, ltb-true, lt-ltb, Affine, value_of, multiple_of_form}
-use Rattle.scop_syntax.proofs.Common.{LexLess, dot, zeros, NotNegative, dot-append, dot-zeros, length-zeros}
-use Rattle.scop_syntax.proofs.Common.{value_of-sum, value_of-multiple, Test, at_least, equal, In, AllHold, values}
-use Rattle.scop_syntax.proofs.Common.{in_if, in_if_from}
+use Rattle.conflict_deps.proofs.Common.{◌≡◌, ℕ, zero, suc, ◌+◌, ◌<◌, Bool, true, false, ℤ, pos, negsuc, List, [], ◌∷◌}
+use Rattle.conflict_deps.proofs.Common.{◌++◌, length, map, get_or, take, inl, inr, ap₂, subst, sym, ◌∙◌, refl, arith}
+use Rattle.conflict_deps.proofs.Common.{◌≤◌, ◌≤ℤ◌, nat_lt, Affine, value_of, multiple_of_form, zeros, NotNegative}
+use Rattle.conflict_deps.proofs.Common.{length-zeros, Test, at_least, equal, In, AllHold, values, in_if, in_if_from}
+use Rattle.conflict_deps.proofs.Common.{variable, hold_append, hold_front, hold_back, GoesOn, difference_of_forms}
+use Rattle.conflict_deps.proofs.Common.{spread, source_form, target_form, map_test, same_subscripts, equal_turns}
+use Rattle.conflict_deps.proofs.Common.{one_form, later_turn, After, afters}
+use Rattle.scop_syntax.proofs.Common.{◌-ℤ◌, ints, ltb-true, lt-ltb, LexLess, dot, dot-append, dot-zeros, value_of-sum}
+use Rattle.scop_syntax.proofs.Common.{value_of-multiple}
 use Rattle.scop_syntax.specs.Statements.{Holds}
-use Rattle.iteration_domains.specs.Rows.{variable}
-use Rattle.iteration_domains.proofs.Points.{hold_append, hold_front, hold_back}
-use Rattle.iteration_domains.proofs.RowLaws.{GoesOn, value_of-variable}
-use Rattle.conflict_deps.specs.Conflicts.{difference_of_forms, spread, source_form, target_form, map_test}
-use Rattle.conflict_deps.specs.Conflicts.{same_subscripts, step, equal_turns, one_form, later_turn, After, after}
-use Rattle.conflict_deps.specs.Conflicts.{afters}
+use Rattle.iteration_domains.proofs.RowLaws.{value_of-variable}
+use Rattle.conflict_deps.specs.Conflicts.{step, after}
 
 value_of-difference : (f g : Affine) (x : List ℤ) → value_of (difference_of_forms f g) x ≡ value_of f x -ℤ value_of g x
 value_of-difference f g x =

@@ -1,26 +1,24 @@
 -- The whole points of the conflicts' systems are exactly the pairs of conflicting places, the earlier first.
-use Rattle.scop_syntax.proofs.Common.{◌≡◌, ℕ, ◌+◌, ◌<◌, true, false, ℤ, List, [], ◌++◌, length, map, Some, ap, ap₂}
-use Rattle.scop_syntax.proofs.Common.{subst, sym, ◌∙◌, refl, arith, length-append, ◌≤◌, ◌↔◌, slice_get, slice_index_or}
-use Rattle.scop_syntax.proofs.Common.{nat_lt, length-map, Affine, value_of, composed, NotNegative, Access, Program, In}
-use Rattle.scop_syntax.proofs.Common.{Visit, walk_of, common, Before, IsAccess, IsPlaced, ranks_of, Placed}
-use Rattle.scop_syntax.proofs.Common.{statements_of, loops_in, point_of, AllHold, Runs, visit_of, accesses, values}
-use Rattle.scop_syntax.proofs.Common.{Cell, Conflict, PlacesConflict, conflict_cell, is_marked, in_from_place, place_of}
-use Rattle.scop_syntax.proofs.Common.{all_in, IsKernel, Scope}
-use Rattle.std.proofs.lemmas.List.{append_assoc}
+use Rattle.conflict_deps.proofs.Common.{◌≡◌, ℕ, ◌+◌, ◌<◌, true, false, ℤ, List, [], ◌++◌, length, map, Some, ap, ap₂}
+use Rattle.conflict_deps.proofs.Common.{subst, sym, ◌∙◌, refl, arith, length-append, ◌≤◌, slice_get, nat_lt, Affine}
+use Rattle.conflict_deps.proofs.Common.{value_of, NotNegative, Access, Program, In, Visit, walk_of, common, IsPlaced}
+use Rattle.conflict_deps.proofs.Common.{ranks_of, Placed, statements_of, AllHold, accesses, values, Cell, is_marked}
+use Rattle.conflict_deps.proofs.Common.{in_from_place, place_of, all_in, IsKernel, append_assoc, variables, tests_of}
+use Rattle.conflict_deps.proofs.Common.{kernel_model, model_of, modelled, Dependence, hold_append, hold_front}
+use Rattle.conflict_deps.proofs.Common.{hold_back, GoesOn, Side, loops_of, source_form, target_form, map_test, After}
+use Rattle.conflict_deps.proofs.Common.{pair_size, source_rows, target_rows, cell_rows, parameter_rows, tests_between}
+use Rattle.conflict_deps.proofs.Common.{dep_of, afters_of, may_conflict, conflicts_without, IsPoint, IsEnd}
+use Rattle.scop_syntax.proofs.Common.{◌↔◌, slice_index_or, length-map, composed, Before, IsAccess, loops_in, point_of}
+use Rattle.scop_syntax.proofs.Common.{Runs, visit_of, Conflict, PlacesConflict, conflict_cell, Scope}
 use Rattle.integer_sets.specs.Points.{Satisfies}
-use Rattle.iteration_domains.specs.Rows.{variables, variables_of_statement, point_forms, rows_of}
-use Rattle.iteration_domains.specs.Constraints.{tests_of}
-use Rattle.iteration_domains.specs.Model.{kernel_model, domain_of, model_of, modelled}
-use Rattle.iteration_domains.specs.Dependence.{Dependence}
-use Rattle.iteration_domains.proofs.Points.{hold_append, hold_front, hold_back, satisfied, all_hold_at, tests_hold}
-use Rattle.iteration_domains.proofs.Points.{hold_tests}
-use Rattle.iteration_domains.proofs.RowLaws.{GoesOn, goes_on, goes_on_last, rows_run, run_rows, values-variables}
+use Rattle.iteration_domains.specs.Rows.{variables_of_statement, point_forms, rows_of}
+use Rattle.iteration_domains.specs.Model.{domain_of}
+use Rattle.iteration_domains.proofs.Points.{satisfied, all_hold_at, tests_hold, hold_tests}
+use Rattle.iteration_domains.proofs.RowLaws.{goes_on, goes_on_last, rows_run, run_rows, values-variables}
 use Rattle.iteration_domains.proofs.Instances.{WalkLaws, cell_of-access}
 use Rattle.iteration_domains.proofs.TreeStatements.{statement_accesses}
-use Rattle.conflict_deps.specs.Conflicts.{Side, loops_of, source_form, target_form, map_test, After, pair_size}
-use Rattle.conflict_deps.specs.Conflicts.{source_rows, target_rows, cell_rows, parameter_rows, tests_between}
-use Rattle.conflict_deps.specs.Conflicts.{system_between, dep_of, afters_of, may_conflict, conflicts_without}
-use Rattle.conflict_deps.specs.Pairs.{IsPoint, IsEnd, IsPair}
+use Rattle.conflict_deps.specs.Conflicts.{system_between}
+use Rattle.conflict_deps.specs.Pairs.{IsPair}
 use Rattle.conflict_deps.proofs.Orders.{after_to, after_of, one_after, value_of-source, value_of-target, rows_kept}
 use Rattle.conflict_deps.proofs.Orders.{rows_held, same_to, same_of, up_of}
 use Rattle.conflict_deps.proofs.Sides.{may_to, may_of, common_left, common_right, side_at, IsSide, sides_from_access}

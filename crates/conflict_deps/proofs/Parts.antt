@@ -1,17 +1,12 @@
 -- The system of a conflict, taken apart.
-use Rattle.scop_syntax.proofs.Common.{◌≡◌, ℕ, ◌+◌, List, ◌++◌, map, Some, ap, ap₂, subst, sym, ◌∙◌, slice_get, flat_map}
-use Rattle.scop_syntax.proofs.Common.{Affine, In, in_map_from, in_if_from, place_of}
-use Rattle.std.proofs.lemmas.List.{append-nil}
-use Rattle.iteration_domains.specs.Rows.{variables}
-use Rattle.iteration_domains.specs.Constraints.{equalities_in, rows_in}
-use Rattle.iteration_domains.specs.Model.{KernelModel, Modelled}
+use Rattle.conflict_deps.proofs.Common.{◌≡◌, ℕ, ◌+◌, List, ◌++◌, map, Some, ap, ap₂, subst, sym, ◌∙◌, slice_get}
+use Rattle.conflict_deps.proofs.Common.{flat_map, Affine, In, in_map_from, in_if_from, place_of, append-nil, variables}
+use Rattle.conflict_deps.proofs.Common.{equalities_in, rows_in, KernelModel, Modelled, Dependence, equalities_in-append}
+use Rattle.conflict_deps.proofs.Common.{rows_in-append, Side, sides_of, loops_of, source_form, target_form, source_rows}
+use Rattle.conflict_deps.proofs.Common.{target_rows, cell_rows, parameter_rows, pair_size, dep_of, afters_of}
+use Rattle.conflict_deps.proofs.Common.{may_conflict, deps_between, conflicts_of, HasParts}
 use Rattle.iteration_domains.specs.Sizes.{IsKernelModel}
-use Rattle.iteration_domains.specs.Dependence.{Dependence}
-use Rattle.iteration_domains.proofs.Points.{equalities_in-append, rows_in-append}
-use Rattle.conflict_deps.specs.Conflicts.{Side, sides_of, sides_in, loops_of, source_form, target_form, source_rows}
-use Rattle.conflict_deps.specs.Conflicts.{target_rows, cell_rows, parameter_rows, pair_size, dep_of, afters_of}
-use Rattle.conflict_deps.specs.Conflicts.{may_conflict, deps_between, conflicts_of}
-use Rattle.conflict_deps.specs.Parts.{HasParts}
+use Rattle.conflict_deps.specs.Conflicts.{sides_in}
 use Rattle.conflict_deps.proofs.Sides.{in_flat_map_from, side_to}
 use Rattle.conflict_deps.proofs.Shapes.{all_rows, equalities-kept, no_equalities, no_rows_in_cells, rows-kept}
 

@@ -1,11 +1,9 @@
 -- A conflict binds no quotient, so a point of its system is a pair that it relates.
-use Rattle.scop_syntax.proofs.Common.{◌≡◌, ℕ, ◌+◌, ℤ, List, [], sym, ◌∙◌, ap, pos, arith, All, All-nil, ◌≤ℤ◌, Program}
-use Rattle.scop_syntax.proofs.Common.{Visit, instance}
-use Rattle.iteration_domains.specs.Dependence.{Dependence, binds_in}
-use Rattle.iteration_domains.specs.Model.{KernelModel}
+use Rattle.conflict_deps.proofs.Common.{◌≡◌, ℕ, ◌+◌, ℤ, List, [], sym, ◌∙◌, ap, pos, arith, All, All-nil, ◌≤ℤ◌, Program}
+use Rattle.conflict_deps.proofs.Common.{Visit, Dependence, KernelModel, IsPoint, IsEnd, HasParts}
+use Rattle.scop_syntax.proofs.Common.{instance}
+use Rattle.iteration_domains.specs.Dependence.{binds_in}
 use Rattle.iteration_domains.specs.Related.{InRange, Relates}
-use Rattle.conflict_deps.specs.Pairs.{IsPoint, IsEnd}
-use Rattle.conflict_deps.specs.Parts.{HasParts}
 
 -- its dimensions are the turns of both ends
 pub dimensions_are : (model : KernelModel) (d : Dependence) → HasParts model d

@@ -1,27 +1,24 @@
 -- Forms over the variables of a pair as the code puts them together: their parts, how many variables they have, and how
 -- large they are.
-use Rattle.scop_syntax.proofs.Common.{◌≡◌, ℕ, zero, suc, Bool, true, ◌+◌, ◌-◌, ◌<◌, ◌≤◌, ◌^◌, ℤ, negsuc, List, [], ◌∷◌}
-use Rattle.scop_syntax.proofs.Common.{◌++◌, length, map, take, drop, ap, ap₂, subst, sym, ◌∙◌, refl, arith}
-use Rattle.scop_syntax.proofs.Common.{length-append, get_or, drop-cons, drop_of_length-le, add-one, All, take-length}
-use Rattle.scop_syntax.proofs.Common.{All-nil, All-cons, All-head, All-tail, All-append, All-weaker, test_form, zeros}
-use Rattle.scop_syntax.proofs.Common.{multiples, Affine, multiple_of_form, length-zeros, length-sums, length-multiples}
-use Rattle.scop_syntax.proofs.Common.{Test, at_least, equal, common}
+use Rattle.conflict_deps.proofs.Common.{◌≡◌, ℕ, zero, suc, Bool, true, ◌+◌, ◌-◌, ◌<◌, ◌≤◌, ℤ, negsuc, List, [], ◌∷◌}
+use Rattle.conflict_deps.proofs.Common.{◌++◌, length, map, take, drop, ap, ap₂, subst, sym, ◌∙◌, refl, arith}
+use Rattle.conflict_deps.proofs.Common.{length-append, get_or, drop-cons, add-one, All, All-nil, All-append, All-weaker}
+use Rattle.conflict_deps.proofs.Common.{zeros, Affine, multiple_of_form, length-zeros, Test, at_least, equal, common}
+use Rattle.conflict_deps.proofs.Common.{append_assoc, append-nil, variables_of, Constraints, equalities_in, rows_in}
+use Rattle.conflict_deps.proofs.Common.{tests_of, variable, variables, form_size, IsNarrow, equalities_in-append}
+use Rattle.conflict_deps.proofs.Common.{rows_in-append, size-variable, Side, loops_of, difference_of_forms, spread}
+use Rattle.conflict_deps.proofs.Common.{source_form, target_form, map_test, same_subscripts, equal_turns, one_form}
+use Rattle.conflict_deps.proofs.Common.{later_turn, After, afters, dep_of, pair_size, source_rows, target_rows}
+use Rattle.conflict_deps.proofs.Common.{cell_rows, parameter_rows, tests_between, Dependence, CanPair, ShowsTests}
+use Rattle.conflict_deps.proofs.Common.{GainsTests, order_at}
+use Rattle.scop_syntax.proofs.Common.{◌^◌, drop_of_length-le, take-length, All-cons, All-head, All-tail, test_form}
+use Rattle.scop_syntax.proofs.Common.{multiples, length-sums, length-multiples}
 use Rattle.std.proofs.Common.{length-drop}
-use Rattle.std.proofs.lemmas.List.{append_assoc, append-nil}
-use Rattle.iteration_domains.specs.Parts.{variables_of}
-use Rattle.integer_sets.specs.Constraints.{Constraints, IsSized}
-use Rattle.iteration_domains.specs.Constraints.{equalities_in, rows_in, tests_of}
-use Rattle.iteration_domains.specs.Rows.{variable, variables}
-use Rattle.iteration_domains.specs.Sizes.{size, form_size, IsNarrow}
-use Rattle.iteration_domains.proofs.Points.{equalities_in-append, rows_in-append}
+use Rattle.integer_sets.specs.Constraints.{IsSized}
+use Rattle.iteration_domains.specs.Sizes.{size}
 use Rattle.iteration_domains.proofs.Surroundings.{length-variable}
-use Rattle.iteration_domains.proofs.Sizes.{size-sum, size-multiple, size-variable, size-zeros}
-use Rattle.conflict_deps.specs.Conflicts.{Side, loops_of, difference_of_forms, spread, source_form, target_form}
-use Rattle.conflict_deps.specs.Conflicts.{map_test, same_subscripts, step, equal_turns, one_form, later_turn, After}
-use Rattle.conflict_deps.specs.Conflicts.{afters, dep_of, pair_size, source_rows, target_rows, cell_rows}
-use Rattle.conflict_deps.specs.Conflicts.{parameter_rows, tests_between}
-use Rattle.iteration_domains.specs.Dependence.{Dependence}
-use Rattle.conflict_deps.specs.View.{CanPair, ShowsTests, GainsTests, order_at}
+use Rattle.iteration_domains.proofs.Sizes.{size-sum, size-multiple, size-zeros}
+use Rattle.conflict_deps.specs.Conflicts.{step}
 use Rattle.conflict_deps.specs.declared.deps.PairRows.{PairRows}
 
 -- the parts of a form of the source

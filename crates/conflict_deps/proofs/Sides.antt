@@ -1,14 +1,13 @@
 -- The accesses of a model's statements as those of the text, and the dependences between them.
-use Rattle.scop_syntax.proofs.Common.{◌≡◌, ℕ, zero, suc, ◌+◌, Bool, true, false, List, [], ◌∷◌, length, map, Some, inl}
-use Rattle.scop_syntax.proofs.Common.{inr, ap, ap₂, subst, sym, ◌∙◌, refl, arith, ◌≤◌, nat_eq, slice_get, if◌then◌else◌}
-use Rattle.scop_syntax.proofs.Common.{flat_map, eqb-true, eq-eqb, get_map, Access, In, common, is_marked, Placed}
-use Rattle.scop_syntax.proofs.Common.{accesses, in_append, in_map, in_map_from, in_if, in_if_from, both}
+use Rattle.conflict_deps.proofs.Common.{◌≡◌, ℕ, zero, suc, ◌+◌, Bool, true, false, List, [], ◌∷◌, length, map, Some}
+use Rattle.conflict_deps.proofs.Common.{inl, inr, ap, ap₂, subst, sym, ◌∙◌, refl, arith, ◌≤◌, slice_get, flat_map}
+use Rattle.conflict_deps.proofs.Common.{Access, In, common, is_marked, Placed, accesses, in_map, in_map_from, in_if}
+use Rattle.conflict_deps.proofs.Common.{in_if_from, Modelled, kernel_model, access_over, modelled, Dependence, Side}
+use Rattle.conflict_deps.proofs.Common.{side, sides_from, sides_of, After, dep_of, afters_of, may_conflict}
+use Rattle.conflict_deps.proofs.Common.{deps_between, deps_on, conflicts_without}
+use Rattle.scop_syntax.proofs.Common.{nat_eq, if◌then◌else◌, eqb-true, eq-eqb, get_map, in_append, both}
 use Rattle.scop_syntax.specs.Cells.{OneWrites}
-use Rattle.iteration_domains.specs.Model.{Modelled, kernel_model, access_over, modelled}
-use Rattle.iteration_domains.specs.Dependence.{Dependence}
 use Rattle.iteration_domains.proofs.OutsideLaws.{in_flat_map}
-use Rattle.conflict_deps.specs.Conflicts.{Side, side, sides_from, sides_of, After, dep_of, afters_of, may_conflict}
-use Rattle.conflict_deps.specs.Conflicts.{deps_between, deps_on, conflicts_without}
 
 pub in_flat_map_from : {A B : Type 0} (f : A → List B) (xs : List A) (y : B) → In y (flat_map f xs)
     → (x : A) × In x xs × In y (f x)

@@ -1,12 +1,11 @@
 -- The earlier writers of the cell that an access touches are the points of the systems from writes to that access, the
 -- later ones those from that access to writes.
-use Rattle.scop_syntax.proofs.Common.{◌≡◌, ℕ, ◌<◌, ◌≤◌, true, false, ℤ, List, [], length, Option, Some, inl, inr, ap}
-use Rattle.scop_syntax.proofs.Common.{ap₂, subst, sym, ◌∙◌, refl, arith, slice_get, NotNegative, Access, Program, Visit}
-use Rattle.scop_syntax.proofs.Common.{walk_of, accesses, Cell, cell_of, written, writes, same_cells, writer_of}
-use Rattle.scop_syntax.proofs.Common.{nat_cases}
+use Rattle.conflict_deps.proofs.Common.{◌≡◌, ℕ, ◌<◌, ◌≤◌, true, false, ℤ, List, [], length, Some, inl, inr, ap, ap₂}
+use Rattle.conflict_deps.proofs.Common.{subst, sym, ◌∙◌, refl, arith, slice_get, NotNegative, Access, Program, Visit}
+use Rattle.conflict_deps.proofs.Common.{walk_of, accesses, Cell, Dependence, IsPoint, IsEnd}
+use Rattle.scop_syntax.proofs.Common.{Option, cell_of, written, writes, same_cells, writer_of, nat_cases}
 use Rattle.scop_syntax.specs.Writers.{IsLast}
-use Rattle.iteration_domains.specs.Dependence.{Dependence}
-use Rattle.conflict_deps.specs.Pairs.{IsPoint, IsEnd, TouchesAt, WritesBefore, WritesBehind}
+use Rattle.conflict_deps.specs.Pairs.{TouchesAt, WritesBefore, WritesBehind}
 use Rattle.conflict_deps.proofs.Pairs.{PlaceLaws, KernelLaws, points_conflict, conflicts_are_points}
 
 pub writers_are_points : (program : Program) (params : List ℤ) (k j : ℕ) (u w : Visit) (b : ℕ) (c : Cell)

@@ -1,17 +1,14 @@
 -- All forms of a conflict's system are over its variables, and their numbers lie far within 128 bits.
-use Rattle.scop_syntax.proofs.Common.{ℕ, zero, suc, ◌+◌, Bool, true, false, List, [], ◌++◌, length, map, inl, inr}
-use Rattle.scop_syntax.proofs.Common.{subst, sym, arith, All, All-append, All-map, All-weaker, Affine, accesses, In}
-use Rattle.scop_syntax.proofs.Common.{common, Access, Placed, Program, Test, at_least, equal, IsKernel, IsPlaced}
-use Rattle.scop_syntax.proofs.Common.{ranks_of, statements_of, all_in, in_from_place, in_map, nat_lt}
-use Rattle.integer_sets.specs.Constraints.{Constraints, variables_in}
-use Rattle.iteration_domains.specs.Constraints.{tests_of}
-use Rattle.iteration_domains.specs.Dependence.{Dependence}
-use Rattle.iteration_domains.specs.Model.{access_over, model_of, modelled}
-use Rattle.iteration_domains.specs.Sizes.{IsNarrow}
+use Rattle.conflict_deps.proofs.Common.{ℕ, zero, suc, ◌+◌, Bool, true, false, List, [], ◌++◌, length, map, inl, inr}
+use Rattle.conflict_deps.proofs.Common.{subst, sym, arith, All, All-append, All-weaker, Affine, accesses, In, common}
+use Rattle.conflict_deps.proofs.Common.{Access, Placed, Program, Test, at_least, equal, IsKernel, IsPlaced, ranks_of}
+use Rattle.conflict_deps.proofs.Common.{statements_of, all_in, in_from_place, in_map, nat_lt, Constraints, tests_of}
+use Rattle.conflict_deps.proofs.Common.{Dependence, access_over, model_of, modelled, IsNarrow, After, Side, afters}
+use Rattle.conflict_deps.proofs.Common.{cell_rows, conflicts_of, loops_of, map_test, pair_size, parameter_rows}
+use Rattle.conflict_deps.proofs.Common.{source_form, source_rows, target_form, target_rows, tests_between}
+use Rattle.scop_syntax.proofs.Common.{All-map}
+use Rattle.integer_sets.specs.Constraints.{variables_in}
 use Rattle.iteration_domains.proofs.NarrowStatements.{IsNarrowStatement, placed_narrow}
-use Rattle.conflict_deps.specs.Conflicts.{After, Side, afters, cell_rows, conflicts_of, loops_of, map_test, pair_size}
-use Rattle.conflict_deps.specs.Conflicts.{parameter_rows, source_form, source_rows, target_form, target_rows}
-use Rattle.conflict_deps.specs.Conflicts.{tests_between}
 use Rattle.conflict_deps.proofs.Shapes.{Fits, FitsTest, cells_fit, equalities_fit, later_fits, length-source}
 use Rattle.conflict_deps.proofs.Shapes.{length-target, rows_fit, size-source, size-target, turns_fit, ups_fit}
 use Rattle.conflict_deps.proofs.Sides.{IsSide, deps_to}

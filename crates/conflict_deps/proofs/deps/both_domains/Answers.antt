@@ -1,6 +1,4 @@
-use Rattle.scop_syntax.proofs.Common.{◌≡◌, ap, ◌∙◌}
-use Rattle.integer_sets.specs.Constraints.{Constraints}
-use Rattle.conflict_deps.specs.HeldPairs.{source_of, target_of}
+use Rattle.conflict_deps.proofs.Common.{◌≡◌, ap, ◌∙◌, Constraints, source_of, target_of}
 use Rattle.conflict_deps.proofs.Shapes.{both_put, domain_sized, domains_shown}
 use Rattle.conflict_deps.proofs.deps.both_domains.Goals as goal
 

@@ -1,7 +1,5 @@
-use Rattle.scop_syntax.proofs.Common.{◌≡◌, List, subst, All, flat_map}
-use Rattle.iteration_domains.specs.Dependence.{Dependence}
-use Rattle.iteration_domains.specs.Sizes.{HaveOneCount}
-use Rattle.conflict_deps.specs.Conflicts.{Side, deps_on, sides_of}
+use Rattle.conflict_deps.proofs.Common.{◌≡◌, List, subst, All, flat_map, Dependence, HaveOneCount, Side, deps_on}
+use Rattle.conflict_deps.proofs.Common.{sides_of}
 use Rattle.conflict_deps.proofs.GatheredDependences.{statement_has, statements_step}
 use Rattle.conflict_deps.proofs.deps.conflicts_without.Goals as goal
 

@@ -1,5 +1,4 @@
-use Rattle.scop_syntax.proofs.Common.{◌≡◌, ◌++◌, drop, flat_map}
-use Rattle.conflict_deps.specs.Conflicts.{deps_on, sides_of}
+use Rattle.conflict_deps.proofs.Common.{◌≡◌, ◌++◌, drop, flat_map, deps_on, sides_of}
 use Rattle.conflict_deps.proofs.deps.conflicts_without.Given as goal
 
 abbrev pub invariant-loop-statement : goal.invariant-loop-statement

@@ -1,8 +1,6 @@
-use Rattle.scop_syntax.proofs.Common.{◌≡◌, ◌+◌, sym, subst, arith}
-use Rattle.iteration_domains.specs.Dependence.{IsDependence, dependence}
-use Rattle.conflict_deps.specs.Conflicts.{loops_of, tests_between, dep_of}
-use Rattle.conflict_deps.specs.HeldPairs.{source_of, target_of, width_of}
-use Rattle.conflict_deps.specs.View.{order_at, ShowsTests}
+use Rattle.conflict_deps.proofs.Common.{◌≡◌, ◌+◌, sym, subst, arith, dependence, loops_of, tests_between, dep_of}
+use Rattle.conflict_deps.proofs.Common.{source_of, target_of, width_of, order_at, ShowsTests}
+use Rattle.iteration_domains.specs.Dependence.{IsDependence}
 use Rattle.conflict_deps.proofs.Shapes.{between_shown}
 use Rattle.conflict_deps.proofs.GatheredDependences.{dep_put, order_put}
 use Rattle.conflict_deps.proofs.deps.dep_between.Goals.{In_ok-push_up, After-end-2}

@@ -1,5 +1,4 @@
-use Rattle.scop_syntax.proofs.Common.{ap, ◌∙◌, refl, Access}
-use Rattle.conflict_deps.specs.HeldPairs.{source_of, target_of}
+use Rattle.conflict_deps.proofs.Common.{ap, ◌∙◌, refl, Access, source_of, target_of}
 use Rattle.conflict_deps.proofs.Shapes.{cells_gained, cells_put}
 use Rattle.conflict_deps.proofs.deps.push_cell.Goals as goal
 

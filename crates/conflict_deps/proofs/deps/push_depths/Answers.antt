@@ -1,6 +1,4 @@
-use Rattle.scop_syntax.proofs.Common.{◌++◌, map, arith, nat_lt}
-use Rattle.conflict_deps.specs.Conflicts.{afters_of, dep_of}
-use Rattle.conflict_deps.specs.HeldPairs.{source_of, target_of}
+use Rattle.conflict_deps.proofs.Common.{◌++◌, map, arith, nat_lt, afters_of, dep_of, source_of, target_of}
 use Rattle.conflict_deps.proofs.Sides.{common_right}
 use Rattle.conflict_deps.proofs.Shapes.{depths_step}
 use Rattle.conflict_deps.proofs.deps.push_depths.Goals as goal

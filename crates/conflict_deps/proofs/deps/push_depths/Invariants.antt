@@ -1,6 +1,5 @@
-use Rattle.scop_syntax.proofs.Common.{◌≡◌, ◌-◌, ◌++◌, map, nat_lt}
-use Rattle.conflict_deps.specs.Conflicts.{afters, afters_of, dep_of, loops_of}
-use Rattle.conflict_deps.specs.HeldPairs.{source_of, target_of, width_of}
+use Rattle.conflict_deps.proofs.Common.{◌≡◌, ◌-◌, ◌++◌, map, nat_lt, afters, afters_of, dep_of, loops_of, source_of}
+use Rattle.conflict_deps.proofs.Common.{target_of, width_of}
 use Rattle.conflict_deps.proofs.deps.push_depths.Given as goal
 
 abbrev pub invariant-loop-equal : goal.invariant-loop-equal

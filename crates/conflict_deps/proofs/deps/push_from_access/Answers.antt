@@ -1,7 +1,5 @@
-use Rattle.scop_syntax.proofs.Common.{◌≡◌, ◌++◌, ap, subst, sym, ◌∙◌, All, flat_map}
-use Rattle.iteration_domains.specs.Sizes.{HaveOneCount}
-use Rattle.conflict_deps.specs.Conflicts.{deps_between, sides_of}
-use Rattle.conflict_deps.specs.View.{side_of}
+use Rattle.conflict_deps.proofs.Common.{◌≡◌, ◌++◌, ap, subst, sym, ◌∙◌, All, flat_map, HaveOneCount, deps_between}
+use Rattle.conflict_deps.proofs.Common.{sides_of, side_of}
 use Rattle.conflict_deps.proofs.GatheredDependences.{statement_has, statements_step}
 use Rattle.conflict_deps.proofs.deps.push_from_access.Goals as goal
 

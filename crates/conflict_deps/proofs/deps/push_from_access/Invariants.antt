@@ -1,6 +1,4 @@
-use Rattle.scop_syntax.proofs.Common.{◌≡◌, ◌++◌, drop, flat_map}
-use Rattle.conflict_deps.specs.Conflicts.{deps_between, sides_of}
-use Rattle.conflict_deps.specs.View.{side_of}
+use Rattle.conflict_deps.proofs.Common.{◌≡◌, ◌++◌, drop, flat_map, deps_between, sides_of, side_of}
 use Rattle.conflict_deps.proofs.deps.push_from_access.Given as goal
 
 abbrev pub invariant-loop-statement : goal.invariant-loop-statement

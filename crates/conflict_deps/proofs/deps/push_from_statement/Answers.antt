@@ -1,6 +1,4 @@
-use Rattle.scop_syntax.proofs.Common.{◌++◌, List, flat_map}
-use Rattle.iteration_domains.specs.Dependence.{Dependence}
-use Rattle.conflict_deps.specs.Conflicts.{Side, deps_on, sides_from}
+use Rattle.conflict_deps.proofs.Common.{◌++◌, List, flat_map, Dependence, Side, deps_on, sides_from}
 use Rattle.conflict_deps.proofs.GatheredDependences.{pair_can, sides_step}
 use Rattle.conflict_deps.proofs.deps.push_from_statement.Goals as goal
 

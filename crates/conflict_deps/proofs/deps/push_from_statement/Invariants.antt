@@ -1,5 +1,4 @@
-use Rattle.scop_syntax.proofs.Common.{◌≡◌, ◌++◌, drop, flat_map}
-use Rattle.conflict_deps.specs.Conflicts.{deps_on, sides_from}
+use Rattle.conflict_deps.proofs.Common.{◌≡◌, ◌++◌, drop, flat_map, deps_on, sides_from}
 use Rattle.conflict_deps.proofs.deps.push_from_statement.Given as goal
 
 abbrev pub invariant-loop-number : goal.invariant-loop-number

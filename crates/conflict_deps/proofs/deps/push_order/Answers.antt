@@ -1,5 +1,4 @@
-use Rattle.scop_syntax.proofs.Common.{Bool, refl, subst, sym}
-use Rattle.conflict_deps.specs.View.{GainsTests, order_at}
+use Rattle.conflict_deps.proofs.Common.{Bool, refl, subst, sym, GainsTests, order_at}
 use Rattle.conflict_deps.proofs.Shapes.{later_gained, turns_gained}
 use Rattle.conflict_deps.proofs.deps.push_order.Goals as goal
 

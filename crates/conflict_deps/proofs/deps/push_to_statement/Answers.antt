@@ -1,7 +1,4 @@
-use Rattle.scop_syntax.proofs.Common.{◌++◌, ap, ◌∙◌, flat_map}
-use Rattle.integer_sets.specs.Constraints.{Constraints}
-use Rattle.conflict_deps.specs.Conflicts.{deps_between, sides_from}
-use Rattle.conflict_deps.specs.View.{side_of}
+use Rattle.conflict_deps.proofs.Common.{◌++◌, ap, ◌∙◌, flat_map, Constraints, deps_between, sides_from, side_of}
 use Rattle.conflict_deps.proofs.GatheredDependences.{pair_can, sides_step}
 use Rattle.conflict_deps.proofs.deps.push_to_statement.Goals as goal
 

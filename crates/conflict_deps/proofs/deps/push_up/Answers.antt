@@ -1,5 +1,4 @@
-use Rattle.scop_syntax.proofs.Common.{refl}
-use Rattle.conflict_deps.specs.HeldPairs.{source_of, target_of}
+use Rattle.conflict_deps.proofs.Common.{refl, source_of, target_of}
 use Rattle.conflict_deps.proofs.Shapes.{up_gained, up_put}
 use Rattle.conflict_deps.proofs.deps.push_up.Goals as goal
 

@@ -1,6 +1,5 @@
-use Rattle.scop_syntax.proofs.Common.{◌≡◌, ◌≤◌, subst, sym, ap, ◌∙◌, arith, Affine, length-zeros}
-use Rattle.iteration_domains.specs.Parts.{variables_of}
-use Rattle.iteration_domains.specs.Sizes.{form_size}
+use Rattle.conflict_deps.proofs.Common.{◌≡◌, ◌≤◌, subst, sym, ap, ◌∙◌, arith, Affine, length-zeros, variables_of}
+use Rattle.conflict_deps.proofs.Common.{form_size}
 use Rattle.conflict_deps.proofs.Shapes.{length-step, size-step, size-one}
 use Rattle.conflict_deps.proofs.forms.later_turn.Goals as goal
 

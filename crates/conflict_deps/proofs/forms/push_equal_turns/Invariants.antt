@@ -1,6 +1,4 @@
-use Rattle.scop_syntax.proofs.Common.{◌≡◌, ◌++◌}
-use Rattle.iteration_domains.specs.Constraints.{equalities_in}
-use Rattle.conflict_deps.specs.Conflicts.{equal_turns}
+use Rattle.conflict_deps.proofs.Common.{◌≡◌, ◌++◌, equalities_in, equal_turns}
 use Rattle.conflict_deps.proofs.forms.push_equal_turns.Given as goal
 
 abbrev pub invariant-loop-at : goal.invariant-loop-at

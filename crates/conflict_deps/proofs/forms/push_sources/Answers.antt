@@ -1,5 +1,4 @@
-use Rattle.scop_syntax.proofs.Common.{map_more, map_end}
-use Rattle.conflict_deps.specs.Conflicts.{source_form}
+use Rattle.conflict_deps.proofs.Common.{map_more, map_end, source_form}
 use Rattle.conflict_deps.proofs.forms.push_sources.Goals as goal
 
 pub loop-form-preserved : goal.loop-form-preserved

@@ -1,5 +1,4 @@
-use Rattle.scop_syntax.proofs.Common.{◌≡◌, ◌++◌, map, drop}
-use Rattle.conflict_deps.specs.Conflicts.{source_form}
+use Rattle.conflict_deps.proofs.Common.{◌≡◌, ◌++◌, map, drop, source_form}
 use Rattle.conflict_deps.proofs.forms.push_sources.Given as goal
 
 abbrev pub invariant-loop-form : goal.invariant-loop-form

@@ -1,6 +1,4 @@
-use Rattle.scop_syntax.proofs.Common.{◌++◌}
-use Rattle.iteration_domains.specs.Constraints.{equalities_in}
-use Rattle.conflict_deps.specs.Conflicts.{same_subscripts}
+use Rattle.conflict_deps.proofs.Common.{◌++◌, equalities_in, same_subscripts}
 use Rattle.conflict_deps.proofs.Shapes.{cells_more, cells_all, cells_end}
 use Rattle.conflict_deps.proofs.forms.push_subscripts.Goals as goal
 

@@ -1,6 +1,4 @@
-use Rattle.scop_syntax.proofs.Common.{◌≡◌, ◌++◌, drop}
-use Rattle.iteration_domains.specs.Constraints.{equalities_in}
-use Rattle.conflict_deps.specs.Conflicts.{same_subscripts}
+use Rattle.conflict_deps.proofs.Common.{◌≡◌, ◌++◌, drop, equalities_in, same_subscripts}
 use Rattle.conflict_deps.proofs.forms.push_subscripts.Given as goal
 
 abbrev pub invariant-loop-at : goal.invariant-loop-at

@@ -1,5 +1,4 @@
-use Rattle.scop_syntax.proofs.Common.{map_more, map_end}
-use Rattle.conflict_deps.specs.Conflicts.{target_form}
+use Rattle.conflict_deps.proofs.Common.{map_more, map_end, target_form}
 use Rattle.conflict_deps.proofs.forms.push_targets.Goals as goal
 
 pub loop-form-preserved : goal.loop-form-preserved

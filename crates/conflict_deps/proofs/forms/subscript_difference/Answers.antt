@@ -1,6 +1,4 @@
-use Rattle.scop_syntax.proofs.Common.{◌≤◌, subst, sym, ap, ◌∙◌, arith, Affine}
-use Rattle.iteration_domains.specs.Parts.{variables_of}
-use Rattle.iteration_domains.specs.Sizes.{form_size}
+use Rattle.conflict_deps.proofs.Common.{◌≤◌, subst, sym, ap, ◌∙◌, arith, Affine, variables_of, form_size}
 use Rattle.conflict_deps.proofs.Shapes.{length-source, length-target, size-source, size-target}
 use Rattle.conflict_deps.proofs.forms.subscript_difference.Goals as goal
 

@@ -1,6 +1,4 @@
-use Rattle.scop_syntax.proofs.Common.{◌+◌, ◌≤◌, subst, sym, arith, Affine}
-use Rattle.iteration_domains.specs.Sizes.{form_size}
-use Rattle.iteration_domains.proofs.Sizes.{size-variable}
+use Rattle.conflict_deps.proofs.Common.{◌+◌, ◌≤◌, subst, sym, arith, Affine, form_size, size-variable}
 use Rattle.conflict_deps.proofs.forms.turn_difference.Goals as goal
 
 pub plus_multiple-requires-clause-small : goal.plus_multiple-requires-clause-small
