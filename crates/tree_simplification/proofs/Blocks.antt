@@ -1,13 +1,12 @@
 -- A walk over values block by block, so many values at once, but for those outside of a range.
-use Rattle.scop_syntax.proofs.Common.{◌≡◌, ℕ, zero, suc, ◌+◌, ◌*◌, ◌<◌, Bool, true, false, ℤ, pos, negsuc, List, []}
-use Rattle.scop_syntax.proofs.Common.{◌++◌, ap, ap₂, subst, sym, ◌∙◌, refl, arith, inl, inr, map, ◌⊎◌, ◌+ℤ◌, ◌-ℤ◌, ◌*ℤ◌}
-use Rattle.scop_syntax.proofs.Common.{◌≤ℤ◌, ◌<ℤ◌, if◌then◌else◌, le_z, ints, map-append, le_or_lt, mul_comm_int}
-use Rattle.scop_syntax.proofs.Common.{mul_distrib_left, mul_one_right, mul_sub_left, most_turns, holds_le_z, le_z_holds}
-use Rattle.std.proofs.lemmas.List.{append_assoc, append-nil}
+use Rattle.tree_simplification.proofs.Common.{◌≡◌, ℕ, zero, suc, ◌+◌, ◌*◌, ◌<◌, Bool, true, false, ℤ, pos, negsuc, List}
+use Rattle.tree_simplification.proofs.Common.{[], ◌++◌, ap, ap₂, subst, sym, ◌∙◌, refl, arith, inl, inr, map, ◌⊎◌, ◌+ℤ◌}
+use Rattle.tree_simplification.proofs.Common.{◌-ℤ◌, ◌*ℤ◌, ◌≤ℤ◌, ◌<ℤ◌, if◌then◌else◌, le_z, ints, map-append, le_or_lt}
+use Rattle.tree_simplification.proofs.Common.{mul_comm_int, mul_distrib_left, mul_one_right, mul_sub_left, most_turns}
+use Rattle.tree_simplification.proofs.Common.{holds_le_z, le_z_holds, append_assoc, append-nil, along, between_none}
+use Rattle.tree_simplification.proofs.Common.{lies, masked}
 use Rattle.std.proofs.Math.IntN.{pos-*ℤ-pos}
-use Rattle.loop_tree.specs.Walk.{along, between}
-use Rattle.loop_tree.proofs.Lists.{between_none}
-use Rattle.tree_simplification.specs.steps.Strided.{lies, masked}
+use Rattle.loop_tree.specs.Walk.{between}
 use Rattle.tree_simplification.proofs.Walks.{along_same}
 
 -- a walk that gives nothing

@@ -1,26 +1,22 @@
 -- Of which places contexts within loops and under tests speak; what an answer that there is no point means.
-use Rattle.scop_syntax.proofs.Common.{◌≡◌, ℕ, suc, ◌+◌, ◌<◌, ◌≤◌, ℤ, pos, List, [], ◌∷◌, ◌++◌, length, map, get_or, All}
-use Rattle.scop_syntax.proofs.Common.{inl, inr, ap, subst, sym, ◌∙◌, refl, arith, length-append, le_z, if◌then◌else◌}
-use Rattle.scop_syntax.proofs.Common.{◌↔◌, Bool, true, false, not, ◌-ℤ◌, ◌*ℤ◌, ◌≤ℤ◌, ◌<ℤ◌, ints, All-append, All-cons}
-use Rattle.scop_syntax.proofs.Common.{All-from_recursion, All-get_or, All-head, All-map, All-nil, All-tail, All-weaker}
-use Rattle.scop_syntax.proofs.Common.{Affine, value_of, widened, floor, ceiling, NotNegative, multiples}
-use Rattle.scop_syntax.proofs.Common.{length-multiples, ceiling_at_most, ceiling_is, floor_at_least, floor_is}
-use Rattle.scop_syntax.proofs.Common.{not_negative-append, not_negative_all, cancel_le, le_or_lt, mul_one_left}
-use Rattle.scop_syntax.proofs.Common.{mul_zero_left, length-widened, both, holds_le_z, le_z_holds}
+use Rattle.tree_simplification.proofs.Common.{◌≡◌, ℕ, suc, ◌+◌, ◌<◌, ◌≤◌, ℤ, pos, List, [], ◌∷◌, ◌++◌, length, map}
+use Rattle.tree_simplification.proofs.Common.{get_or, All, inl, inr, ap, subst, sym, ◌∙◌, refl, arith, length-append}
+use Rattle.tree_simplification.proofs.Common.{le_z, if◌then◌else◌, ◌↔◌, Bool, true, false, not, ◌-ℤ◌, ◌*ℤ◌, ◌≤ℤ◌, ◌<ℤ◌}
+use Rattle.tree_simplification.proofs.Common.{ints, All-append, All-cons, All-head, All-nil, All-tail, Affine, value_of}
+use Rattle.tree_simplification.proofs.Common.{widened, floor, ceiling, NotNegative, multiples, length-multiples}
+use Rattle.tree_simplification.proofs.Common.{floor_is, le_or_lt, mul_one_left, length-widened, both, holds_le_z}
+use Rattle.tree_simplification.proofs.Common.{le_z_holds, variables_of, AreInRange, system_of, IsBoundedPoint, form_in}
+use Rattle.tree_simplification.proofs.Common.{AreBounds, Bound, Bounds, only, besides, bounds_of, at_least, equal}
+use Rattle.tree_simplification.proofs.Common.{multiple, all_hold, holds, lower, upper, ArePartsOver, Context}
+use Rattle.tree_simplification.proofs.Common.{IsSizedContext, Meets, NaturalAbove, NeverHolds, OnSide, form_row}
+use Rattle.tree_simplification.proofs.Common.{part_row, parts, sign_of, tested, tests_rows}
+use Rattle.scop_syntax.proofs.Common.{All-from_recursion, All-get_or, All-map, All-weaker, ceiling_at_most, ceiling_is}
+use Rattle.scop_syntax.proofs.Common.{floor_at_least, not_negative-append, not_negative_all, cancel_le, mul_zero_left}
 use Rattle.std.proofs.lemmas.List.Edits.{length-insert}
 use Rattle.whole_numbers.proofs.Lists.{dot_not_negative}
-use Rattle.affine_forms.specs.Parts.{variables_of}
-use Rattle.fm_projection.specs.Alone.{AreInRange}
-use Rattle.integer_sets.specs.Constraints.{system_of}
-use Rattle.pip_solver.specs.Emptiness.{IsBoundedPoint}
-use Rattle.loop_tree.specs.Fits.{form_in}
-use Rattle.loop_tree.specs.Marks.{AreBounds}
-use Rattle.loop_tree.specs.Tree.{Bound, Bounds, only, besides, bounds_of, Test, at_least, equal, multiple}
-use Rattle.loop_tree.specs.Walk.{all_hold, holds, lower, upper}
+use Rattle.loop_tree.specs.Tree.{Test}
 use Rattle.loop_tree.proofs.Extremes.{above_min, below_max, max_below, min_above}
-use Rattle.tree_simplification.specs.steps.Context.{ArePartsOver, Context, Hold, IsSizedContext, Meets, NaturalAbove}
-use Rattle.tree_simplification.specs.steps.Context.{NeverHolds, NeverSpeaks, OnSide, form_row, part_row, parts, sided}
-use Rattle.tree_simplification.specs.steps.Context.{sign_of, test_rows, tested, tests_rows}
+use Rattle.tree_simplification.specs.steps.Context.{Hold, NeverSpeaks, sided, test_rows}
 use Rattle.tree_simplification.proofs.RowValues.{opposite_side, turned_is, value_form_row, value_part_row}
 use Rattle.tree_simplification.proofs.RowValues.{value_widened}
 

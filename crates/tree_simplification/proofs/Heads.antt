@@ -1,22 +1,20 @@
 -- Bounds, tests and numbers, one by one.
-use Rattle.scop_syntax.proofs.Common.{◌≡◌, ℕ, zero, suc, ◌+◌, ◌^◌, ◌<◌, ◌≤◌, Bool, true, false, ℤ, pos, List, [], ◌∷◌}
-use Rattle.scop_syntax.proofs.Common.{◌++◌, length, map, take, get_or, ap, subst, sym, ◌∙◌, refl, arith, inl, inr, All}
-use Rattle.scop_syntax.proofs.Common.{not, ◌*ℤ◌, ◌≤ℤ◌, unsigned_abs, if◌then◌else◌, le_z, ints, map-append, All-nil}
-use Rattle.scop_syntax.proofs.Common.{All-cons, All-head, All-tail, All-push, Affine, composed, value_of, multiples}
-use Rattle.scop_syntax.proofs.Common.{length-multiples, length-sums, floor, AreAtMost, le_z_holds}
-use Rattle.std.proofs.lemmas.List.{append_assoc, map_more}
-use Rattle.iteration_domains.proofs.Surroundings.{length-composed}
-use Rattle.loop_tree.specs.Fits.{AreZeros, form_in}
-use Rattle.loop_tree.specs.Marks.{AreTests, IsTest}
-use Rattle.loop_tree.specs.Shape.{BoundsAreOver, BoundsAreUpTo, IsOver, IsOverUpTo, TestIsUpTo}
-use Rattle.loop_tree.specs.Tree.{Bound, Bounds, besides, bounds_of, Test, at_least, equal, multiple}
-use Rattle.loop_tree.specs.View.{test_of}
-use Rattle.loop_tree.specs.Walk.{all_hold, holds}
+use Rattle.tree_simplification.proofs.Common.{◌≡◌, ℕ, zero, suc, ◌+◌, ◌^◌, ◌<◌, ◌≤◌, Bool, true, false, ℤ, pos, List}
+use Rattle.tree_simplification.proofs.Common.{[], ◌∷◌, ◌++◌, length, map, take, get_or, ap, subst, sym, ◌∙◌, refl}
+use Rattle.tree_simplification.proofs.Common.{arith, inl, inr, All, not, ◌*ℤ◌, ◌≤ℤ◌, unsigned_abs, if◌then◌else◌, le_z}
+use Rattle.tree_simplification.proofs.Common.{ints, map-append, All-nil, All-cons, All-head, All-tail, All-push, Affine}
+use Rattle.tree_simplification.proofs.Common.{composed, value_of, multiples, length-multiples, floor, AreAtMost}
+use Rattle.tree_simplification.proofs.Common.{le_z_holds, append_assoc, length-composed, form_in, AreTests, IsTest}
+use Rattle.tree_simplification.proofs.Common.{BoundsAreOver, BoundsAreUpTo, IsOver, IsOverUpTo, TestIsUpTo, Bound}
+use Rattle.tree_simplification.proofs.Common.{Bounds, besides, bounds_of, at_least, equal, multiple, test_of, all_hold}
+use Rattle.tree_simplification.proofs.Common.{holds, dot_zeros, sign_of, AreTestsFor, AreTestsOf, bound_over}
+use Rattle.tree_simplification.proofs.Common.{bounds_over, side_form, side_tests, test_over}
+use Rattle.scop_syntax.proofs.Common.{length-sums}
+use Rattle.std.proofs.lemmas.List.{map_more}
+use Rattle.loop_tree.specs.Fits.{AreZeros}
+use Rattle.loop_tree.specs.Tree.{Test}
 use Rattle.loop_tree.specs.declared.tree.Test.{Test as CodeTest}
-use Rattle.loop_tree.proofs.Fits.{dot_zeros}
-use Rattle.tree_simplification.specs.steps.Context.{sign_of}
-use Rattle.tree_simplification.specs.steps.Inlined.{AreTestsFor, AreTestsOf, AreWith, bound_over, bounds_over}
-use Rattle.tree_simplification.specs.steps.Inlined.{side_form, side_tests, test_over}
+use Rattle.tree_simplification.specs.steps.Inlined.{AreWith}
 use Rattle.tree_simplification.specs.steps.Rounded.{rounded_test}
 use Rattle.tree_simplification.proofs.Rounding.{test_flat as rounded_test_flat, test_sized as rounded_test_sized}
 

@@ -1,39 +1,31 @@
 -- Old and new nodes, kind by kind, where loops that run once go.
-use Rattle.scop_syntax.proofs.Common.{◌≡◌, ℕ, zero, suc, ◌+◌, ◌^◌, ◌≤◌, Bool, true, false, ℤ, pos, List, [], ◌∷◌, ◌++◌}
-use Rattle.scop_syntax.proofs.Common.{length, map, ap, ap₂, subst, sym, ◌∙◌, refl, arith, length-append, le_z, All}
-use Rattle.scop_syntax.proofs.Common.{◌+ℤ◌, ◌-ℤ◌, ◌≤ℤ◌, if◌then◌else◌, neg_ℤ, unsigned_abs, ints, map-append}
-use Rattle.scop_syntax.proofs.Common.{length-map, All-head, All-tail, Affine, value_of, values_of, composed}
-use Rattle.scop_syntax.proofs.Common.{abs_at_most, AreAtMost, In, Program, most_turns, Instance, both, holds_le_z}
+use Rattle.tree_simplification.proofs.Common.{◌≡◌, ℕ, zero, suc, ◌+◌, ◌^◌, ◌≤◌, Bool, true, false, ℤ, pos, List, []}
+use Rattle.tree_simplification.proofs.Common.{◌∷◌, ◌++◌, length, map, ap, ap₂, subst, sym, ◌∙◌, refl, arith}
+use Rattle.tree_simplification.proofs.Common.{length-append, le_z, All, ◌+ℤ◌, ◌-ℤ◌, ◌≤ℤ◌, if◌then◌else◌, neg_ℤ}
+use Rattle.tree_simplification.proofs.Common.{unsigned_abs, ints, map-append, length-map, All-head, All-tail, Affine}
+use Rattle.tree_simplification.proofs.Common.{value_of, values_of, composed, abs_at_most, AreAtMost, In, Program}
+use Rattle.tree_simplification.proofs.Common.{most_turns, Instance, both, holds_le_z, append-nil, AreInRange, FitsAll}
+use Rattle.tree_simplification.proofs.Common.{AreBounds, AreTests, FlatAll, AreFree, Conflict, Within, BoundsAreUpTo}
+use Rattle.tree_simplification.proofs.Common.{IsUpTo, NestAllTo, TreesAreOver, Bounds, Tree, loop, guard, instance}
+use Rattle.tree_simplification.proofs.Common.{Trees, none, more, Visit, all_hold, along, lower, upper, through, walk}
+use Rattle.tree_simplification.proofs.Common.{walk_all, shown, StayWithin, AreNear, AreTestsFor, Inlines, IsInlined}
+use Rattle.tree_simplification.proofs.Common.{IsPlace, bounds_over, IsOnce, inside, side_tests, parts, joined, CanGoAt}
+use Rattle.tree_simplification.proofs.Common.{InlinesAt, lies, masked}
 use Rattle.scop_syntax.proofs.Common.{in_map, in_map_from}
-use Rattle.std.proofs.lemmas.List.{append-nil}
-use Rattle.fm_projection.specs.Alone.{AreInRange}
-use Rattle.loop_tree.specs.Fits.{FitsAll}
-use Rattle.loop_tree.specs.Marks.{AreBounds, AreTests, Flat, FlatAll}
-use Rattle.loop_tree.specs.Plans.{AreFree, Conflict}
-use Rattle.loop_tree.specs.Scans.{Within}
-use Rattle.loop_tree.specs.Shape.{BoundsAreUpTo, IsUpTo, NestAllTo, NestsTo, TreesAreOver}
-use Rattle.loop_tree.specs.Tree.{Bounds, Test, Tree, loop, guard, instance, Trees, none, more}
-use Rattle.loop_tree.specs.Walk.{Visit, all_hold, along, between, given, lower, upper, through, walk, walk_all}
-use Rattle.tree_simplification.specs.Simplified.{shown}
-use Rattle.tree_simplification.specs.steps.Inlined.{StayWithin}
-use Rattle.tree_simplification.specs.steps.Inlined.{AreNear, AreTestsFor, Inlines, IsInlined, IsPlace, bounds_over}
-use Rattle.tree_simplification.specs.steps.Inlined.{IsOnce, inside, side_tests}
-use Rattle.tree_simplification.specs.steps.Context.{parts}
-use Rattle.tree_simplification.specs.steps.Joined.{joined}
+use Rattle.loop_tree.specs.Marks.{Flat}
+use Rattle.loop_tree.specs.Shape.{NestsTo}
+use Rattle.loop_tree.specs.Tree.{Test}
+use Rattle.loop_tree.specs.Walk.{between, given}
 use Rattle.tree_simplification.proofs.ComposedForms.{all_hold_over, bounds_fit_near, bounds_flat, bounds_sized}
-use Rattle.tree_simplification.proofs.ComposedForms.{forms_fit_near}
-use Rattle.tree_simplification.proofs.ComposedForms.{forms_sized, lower_over, near_more, near_size, place_sized}
-use Rattle.tree_simplification.proofs.ComposedForms.{place_values}
-use Rattle.tree_simplification.proofs.ComposedForms.{tests_fit_near, upper_over, values_over}
-use Rattle.tree_simplification.specs.steps.Strided.{CanGoAt, InlinesAt, lies, masked}
+use Rattle.tree_simplification.proofs.ComposedForms.{forms_fit_near, forms_sized, lower_over, near_more, near_size}
+use Rattle.tree_simplification.proofs.ComposedForms.{place_sized, place_values, tests_fit_near, upper_over, values_over}
 use Rattle.tree_simplification.proofs.Blocks.{map_along, masked_once}
 use Rattle.tree_simplification.proofs.Walks.{between_same}
 use Rattle.tree_simplification.proofs.Heads.{tests_flat}
 use Rattle.tree_simplification.proofs.InnerForms.{inside_values}
 use Rattle.tree_simplification.proofs.Once.{is_between, sides_flat, tests_lie}
 use Rattle.tree_simplification.proofs.JoinedTrees.{fits_joined, flat_joined, free_joined, nested_joined, of_joined}
-use Rattle.tree_simplification.proofs.JoinedTrees.{over_joined}
-use Rattle.tree_simplification.proofs.JoinedTrees.{serial_joined, small_joined, walk_joined}
+use Rattle.tree_simplification.proofs.JoinedTrees.{over_joined, serial_joined, small_joined, walk_joined}
 
 -- what is shown of a visit of a loop, from what is shown of the body's
 abbrev shown_through : Bool → ℤ → Visit → Visit

@@ -1,12 +1,9 @@
 -- The forms of the old loops within a loop that stays: each with one loop more round it.
-use Rattle.scop_syntax.proofs.Common.{◌≡◌, ℕ, ◌+◌, ℤ, pos, List, [], ◌∷◌, ◌++◌, length, map, get_or, ap, ap₂, subst}
-use Rattle.scop_syntax.proofs.Common.{◌∙◌, refl, arith, All, get_or-append_seam, map-append, All-nil, All-cons}
-use Rattle.scop_syntax.proofs.Common.{All-head, All-tail, Affine, value_of, values_of, widened, length-widened}
-use Rattle.std.proofs.lemmas.List.{append_assoc}
-use Rattle.iteration_domains.specs.Rows.{variable}
+use Rattle.tree_simplification.proofs.Common.{◌≡◌, ℕ, ◌+◌, ℤ, pos, List, [], ◌∷◌, ◌++◌, length, map, get_or, ap, ap₂}
+use Rattle.tree_simplification.proofs.Common.{subst, ◌∙◌, refl, arith, All, get_or-append_seam, map-append, All-nil}
+use Rattle.tree_simplification.proofs.Common.{All-cons, All-head, All-tail, Affine, value_of, values_of, widened}
+use Rattle.tree_simplification.proofs.Common.{length-widened, append_assoc, variable, IsOver, inside}
 use Rattle.iteration_domains.proofs.RowLaws.{value_of-variable}
-use Rattle.loop_tree.specs.Shape.{IsOver}
-use Rattle.tree_simplification.specs.steps.Inlined.{inside}
 use Rattle.tree_simplification.proofs.RowValues.{value_widened}
 
 -- the forms of the old loops, with a loop more round them

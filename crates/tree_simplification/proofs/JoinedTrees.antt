@@ -1,15 +1,9 @@
 -- Trees and others behind them.
-use Rattle.scop_syntax.proofs.Common.{◌≡◌, ℕ, List, [], ◌∷◌, ◌++◌, ℤ, ap, sym, ◌∙◌, refl, Program, Instance}
-use Rattle.std.proofs.lemmas.List.{append_assoc}
-use Rattle.loop_tree.specs.Fits.{FitsAll}
-use Rattle.loop_tree.specs.Marks.{FlatAll}
-use Rattle.loop_tree.specs.Plans.{AreFree}
-use Rattle.loop_tree.specs.Shape.{AreSerial, NestAllTo, TreesAreOf, TreesAreOver, TreesAreUpTo}
-use Rattle.loop_tree.specs.Tree.{Trees, none, more}
-use Rattle.loop_tree.specs.View.{nodes_of, tree_of}
-use Rattle.loop_tree.specs.Walk.{Visit, walk, walk_all}
+use Rattle.tree_simplification.proofs.Common.{◌≡◌, ℕ, List, [], ◌∷◌, ◌++◌, ℤ, ap, sym, ◌∙◌, refl, Program, Instance}
+use Rattle.tree_simplification.proofs.Common.{append_assoc, FitsAll, FlatAll, AreFree, AreSerial, NestAllTo, TreesAreOf}
+use Rattle.tree_simplification.proofs.Common.{TreesAreOver, TreesAreUpTo, Trees, none, more, nodes_of, tree_of, Visit}
+use Rattle.tree_simplification.proofs.Common.{walk, walk_all, joined}
 use Rattle.loop_tree.specs.declared.tree.Node.{Node}
-use Rattle.tree_simplification.specs.steps.Joined.{joined}
 
 pub joined_none : (a : Trees) → joined a none ≡ a
 joined_none none = refl

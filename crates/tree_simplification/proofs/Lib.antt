@@ -1,3 +1,4 @@
+pub mod Common
 pub mod JoinedTrees
 pub mod Rounding
 pub mod RowValues

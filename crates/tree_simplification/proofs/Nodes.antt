@@ -1,28 +1,22 @@
 -- Nodes of the code one by one, and what the code asks of their parts.
-use Rattle.scop_syntax.proofs.Common.{◌≡◌, ℕ, zero, suc, ◌+◌, ◌-◌, ◌^◌, ◌<◌, ◌≤◌, Bool, true, false, List, [], ◌∷◌}
-use Rattle.scop_syntax.proofs.Common.{◌++◌, length, map, drop, get_or, ap, subst, sym, ◌∙◌, arith, length-append, All}
-use Rattle.scop_syntax.proofs.Common.{length-map, All-nil, All-push, Affine, composed, widened}
-use Rattle.iteration_domains.specs.Rows.{variables}
+use Rattle.tree_simplification.proofs.Common.{◌≡◌, ℕ, zero, suc, ◌+◌, ◌-◌, ◌^◌, ◌<◌, ◌≤◌, Bool, true, false, List, []}
+use Rattle.tree_simplification.proofs.Common.{◌∷◌, ◌++◌, length, map, drop, get_or, ap, subst, sym, ◌∙◌, arith}
+use Rattle.tree_simplification.proofs.Common.{length-append, All, length-map, All-nil, All-push, Affine, composed}
+use Rattle.tree_simplification.proofs.Common.{widened, variables, form_in, AreBounds, FlatAll, BoundsAreOver}
+use Rattle.tree_simplification.proofs.Common.{BoundsAreUpTo, IsOver, IsUpTo, NestAllTo, TestIsUpTo, TreesAreOver}
+use Rattle.tree_simplification.proofs.Common.{TreesAreUpTo, Bounds, Tree, loop, guard, instance, Trees, none, more}
+use Rattle.tree_simplification.proofs.Common.{nodes_of, test_of, tree_of, node_here, AreTestsFor, CanInline, Extends}
+use Rattle.tree_simplification.proofs.Common.{Inlines, IsOnce, IsPlace, bounds_over, inside, joined, AreEnds}
+use Rattle.tree_simplification.proofs.Common.{AreTestsAt, CanBound, CanGoAt, InlinesAt, blocks, turn_form}
 use Rattle.iteration_domains.proofs.Surroundings.{length-variables}
-use Rattle.loop_tree.specs.Fits.{form_in}
-use Rattle.loop_tree.specs.Marks.{AreBounds, FlatAll}
-use Rattle.loop_tree.specs.Shape.{BoundsAreOver, BoundsAreUpTo, IsOver, IsUpTo, NestAllTo, TestIsUpTo, TreesAreOver}
-use Rattle.loop_tree.specs.Shape.{TreesAreUpTo}
-use Rattle.loop_tree.specs.Tree.{Bounds, Test, Tree, loop, guard, instance, Trees, none, more}
-use Rattle.loop_tree.specs.View.{nodes_of, test_of, tree_of}
+use Rattle.loop_tree.specs.Tree.{Test}
 use Rattle.loop_tree.specs.declared.tree.Node.{Node}
 use Rattle.loop_tree.specs.declared.tree.Test.{Test as CodeTest}
-use Rattle.loop_tree.proofs.Weights.{node_here}
-use Rattle.tree_simplification.specs.steps.Inlined.{AreTestsFor, CanInline, Extends, Inlines, IsOnce, IsPlace}
-use Rattle.tree_simplification.specs.steps.Inlined.{bounds_over}
-use Rattle.tree_simplification.specs.steps.Inlined.{inside}
-use Rattle.tree_simplification.specs.steps.Joined.{joined}
 use Rattle.tree_simplification.proofs.ComposedForms.{place_sized}
-use Rattle.tree_simplification.specs.steps.Strided.{AreEnds, AreTestsAt, CanBound, CanGoAt, ExtendsAt, InlinesAt}
-use Rattle.tree_simplification.specs.steps.Strided.{blocks, turn_form}
-use Rattle.tree_simplification.proofs.InlinedNodes.{gone_guard, guard_tests, guarded_at}
-use Rattle.tree_simplification.proofs.InlinedNodes.{kept_guard, kept_loop, leaf_stays}
-use Rattle.tree_simplification.proofs.InlinedNodes.{nests_guard, nothing_stays, once_loop, plain_at, then_others}
+use Rattle.tree_simplification.specs.steps.Strided.{ExtendsAt}
+use Rattle.tree_simplification.proofs.InlinedNodes.{gone_guard, guard_tests, guarded_at, kept_guard, kept_loop}
+use Rattle.tree_simplification.proofs.InlinedNodes.{leaf_stays, nests_guard, nothing_stays, once_loop, plain_at}
+use Rattle.tree_simplification.proofs.InlinedNodes.{then_others}
 use Rattle.tree_simplification.proofs.InnerForms.{block_sized}
 use Rattle.tree_simplification.proofs.Strides.{Unrolls, length_turn, strided, unrolls_more}
 use Rattle.tree_simplification.proofs.JoinedTrees.{joined_assoc, joined_none, nodes_joined}

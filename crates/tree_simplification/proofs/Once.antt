@@ -1,16 +1,14 @@
 -- Tests whether a form lies between bounds; one that bounds a loop from both sides.
-use Rattle.scop_syntax.proofs.Common.{◌≡◌, ℕ, inl, inr, ℤ, pos, Bool, true, false, List, [], ◌∷◌, ◌++◌, ap, ap₂, subst}
-use Rattle.scop_syntax.proofs.Common.{sym, ◌∙◌, refl, arith, le_z, All, not, ◌-ℤ◌, ◌*ℤ◌, ◌≤ℤ◌, if◌then◌else◌, ints}
-use Rattle.scop_syntax.proofs.Common.{All-cons, All-head, All-nil, All-tail, Affine, multiple_of_form, value_of}
-use Rattle.scop_syntax.proofs.Common.{mul_one_left, mul_one_right, mul_sub_left, value_of-multiple, value_of-sum, In}
-use Rattle.scop_syntax.proofs.Common.{both, holds_le_z, le_z_holds}
-use Rattle.loop_tree.specs.Marks.{AreBounds, AreTests}
-use Rattle.loop_tree.specs.Shape.{BoundsAreOver, IsOver}
-use Rattle.loop_tree.specs.Tree.{Bound, Bounds, Test, at_least, besides, only}
-use Rattle.loop_tree.specs.Walk.{all_hold, lower, upper}
-use Rattle.tree_simplification.specs.steps.Context.{OnSide, parts, sign_of}
-use Rattle.tree_simplification.specs.steps.Inlined.{AreTestsOf, side_form, side_tests, whole}
-use Rattle.tree_simplification.specs.steps.Strided.{lies}
+use Rattle.tree_simplification.proofs.Common.{◌≡◌, ℕ, inl, inr, ℤ, pos, Bool, true, false, List, [], ◌∷◌, ◌++◌, ap, ap₂}
+use Rattle.tree_simplification.proofs.Common.{subst, sym, ◌∙◌, refl, arith, le_z, All, not, ◌-ℤ◌, ◌*ℤ◌, ◌≤ℤ◌}
+use Rattle.tree_simplification.proofs.Common.{if◌then◌else◌, ints, All-cons, All-head, All-nil, All-tail, Affine}
+use Rattle.tree_simplification.proofs.Common.{value_of, mul_one_left, mul_one_right, mul_sub_left, In, both, holds_le_z}
+use Rattle.tree_simplification.proofs.Common.{le_z_holds, AreBounds, AreTests, BoundsAreOver, IsOver, Bound, Bounds}
+use Rattle.tree_simplification.proofs.Common.{at_least, besides, only, all_hold, lower, upper, OnSide, parts, sign_of}
+use Rattle.tree_simplification.proofs.Common.{AreTestsOf, side_form, side_tests, lies}
+use Rattle.scop_syntax.proofs.Common.{multiple_of_form, value_of-multiple, value_of-sum}
+use Rattle.loop_tree.specs.Tree.{Test}
+use Rattle.tree_simplification.specs.steps.Inlined.{whole}
 use Rattle.tree_simplification.proofs.Contexts.{high_from, high_to, low_from, low_to}
 use Rattle.tree_simplification.proofs.Heads.{all_hold_append}
 use Rattle.tree_simplification.proofs.Rounding.{rounded_holds, test_flat}

@@ -1,13 +1,11 @@
 -- Some parts of bounds and some tests in place of all: step by step.
-use Rattle.scop_syntax.proofs.Common.{◌≡◌, ℕ, ◌<◌, inl, inr, List, [], ◌∷◌, ◌++◌, ℤ, pos, length, drop, get_or, All, ap}
-use Rattle.scop_syntax.proofs.Common.{subst, sym, ◌∙◌, refl, arith, length-append, Bool, true, false, if◌then◌else◌}
-use Rattle.scop_syntax.proofs.Common.{◌<ℤ◌, All-cons, All-head, All-nil, All-tail, In, in_append}
-use Rattle.affine_forms.specs.Parts.{variables_of}
-use Rattle.loop_tree.specs.Tree.{Bound, Test}
-use Rattle.loop_tree.specs.Walk.{all_hold, holds}
-use Rattle.tree_simplification.specs.steps.Context.{ArePartsOver, Context, Meets, OnSide, TrimsSide}
-use Rattle.tree_simplification.specs.steps.Context.{tested}
-use Rattle.tree_simplification.specs.steps.Trimmed.{Among, TrimsTests}
+use Rattle.tree_simplification.proofs.Common.{◌≡◌, ℕ, ◌<◌, inl, inr, List, [], ◌∷◌, ◌++◌, ℤ, pos, length, drop, get_or}
+use Rattle.tree_simplification.proofs.Common.{All, ap, subst, sym, ◌∙◌, refl, arith, length-append, Bool, true, false}
+use Rattle.tree_simplification.proofs.Common.{if◌then◌else◌, ◌<ℤ◌, All-cons, All-head, All-nil, All-tail, In}
+use Rattle.tree_simplification.proofs.Common.{variables_of, Bound, all_hold, holds, ArePartsOver, Context, Meets}
+use Rattle.tree_simplification.proofs.Common.{OnSide, TrimsSide, tested, Among, TrimsTests}
+use Rattle.scop_syntax.proofs.Common.{in_append}
+use Rattle.loop_tree.specs.Tree.{Test}
 use Rattle.tree_simplification.proofs.Contexts.{meets_tested}
 
 -- what holds of each of a list holds of each of some of it

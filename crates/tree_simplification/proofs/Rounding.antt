@@ -1,21 +1,18 @@
 -- Bounds and tests without common factors say what they said (`rounded_low`, `rounded_high`, `rounded_holds`).
-use Rattle.scop_syntax.proofs.Common.{◌≡◌, ℕ, zero, suc, ◌≤◌, inl, inr, ℤ, pos, negsuc, Bool, true, false, List, All}
-use Rattle.scop_syntax.proofs.Common.{ap, ap₂, subst, sym, ◌∙◌, refl, arith, ◌⊎◌, ◌+ℤ◌, ◌*ℤ◌, ◌≤ℤ◌, ◌<ℤ◌, neg_ℤ}
-use Rattle.scop_syntax.proofs.Common.{if◌then◌else◌, unsigned_abs, le_z, ints, Affine, value_of, content_from, IsFloor}
-use Rattle.scop_syntax.proofs.Common.{Divides, ceiling, floor, dot, divides_sizes, dot-multiples, floor_is}
-use Rattle.scop_syntax.proofs.Common.{floor_unique, le_or_lt, mul_le_left, mul_positive, positive_factor, left_comm}
-use Rattle.scop_syntax.proofs.Common.{mul_comm_int, mul_distrib_left, mul_neg_right, mul_one_right, mul_zero_right}
-use Rattle.scop_syntax.proofs.Common.{le_z_holds}
+use Rattle.tree_simplification.proofs.Common.{◌≡◌, ℕ, zero, suc, ◌≤◌, inl, inr, ℤ, pos, negsuc, Bool, true, false, List}
+use Rattle.tree_simplification.proofs.Common.{All, ap, ap₂, subst, sym, ◌∙◌, refl, arith, ◌⊎◌, ◌+ℤ◌, ◌*ℤ◌, ◌≤ℤ◌, ◌<ℤ◌}
+use Rattle.tree_simplification.proofs.Common.{neg_ℤ, if◌then◌else◌, unsigned_abs, le_z, ints, Affine, value_of, ceiling}
+use Rattle.tree_simplification.proofs.Common.{floor, dot, dot-multiples, floor_is, le_or_lt, mul_positive, mul_comm_int}
+use Rattle.tree_simplification.proofs.Common.{mul_distrib_left, mul_one_right, le_z_holds, form_in, IsTest, IsOver}
+use Rattle.tree_simplification.proofs.Common.{Bound, at_least, equal, multiple, holds}
+use Rattle.scop_syntax.proofs.Common.{content_from, IsFloor, Divides, divides_sizes, floor_unique, mul_le_left}
+use Rattle.scop_syntax.proofs.Common.{positive_factor, left_comm, mul_neg_right, mul_zero_right}
 use Rattle.whole_numbers.specs.Floor.{floors}
 use Rattle.whole_numbers.proofs.Contents.{content_from_divides}
 use Rattle.whole_numbers.proofs.Divisors.{sizes_divide}
 use Rattle.whole_numbers.proofs.Lowest.{exact_floor, exact_floors}
 use Rattle.whole_numbers.proofs.Remainders.{length-floors}
-use Rattle.loop_tree.specs.Fits.{form_in}
-use Rattle.loop_tree.specs.Marks.{IsTest}
-use Rattle.loop_tree.specs.Shape.{IsOver}
-use Rattle.loop_tree.specs.Tree.{Bound, Test, at_least, equal, multiple}
-use Rattle.loop_tree.specs.Walk.{holds}
+use Rattle.loop_tree.specs.Tree.{Test}
 use Rattle.tree_simplification.specs.steps.Rounded.{divisor_by, factor_of, form_by, rounded, rounded_test}
 
 -- floor((g a + c) / (g d)) = floor((a + floor(c / g)) / d)

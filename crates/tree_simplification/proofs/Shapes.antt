@@ -1,14 +1,12 @@
 -- What trees are like, they stay without what is implied.
-use Rattle.scop_syntax.proofs.Common.{ℕ, zero, suc, inl, inr, Bool, List, [], ◌∷◌, pos, All, subst, sym, refl, ◌<ℤ◌}
-use Rattle.scop_syntax.proofs.Common.{All-cons, All-head, All-nil, All-tail, In, Program}
-use Rattle.loop_tree.specs.Fits.{form_in}
-use Rattle.loop_tree.specs.Marks.{AreBounds, AreTests, FlatAll, IsTest}
-use Rattle.loop_tree.specs.Shape.{AreSerial, BoundsAreOver, BoundsAreUpTo, IsOver, IsOverUpTo, NestAllTo, TestIsUpTo}
-use Rattle.loop_tree.specs.Shape.{TreesAreOf, TreesAreOver, TreesAreUpTo}
-use Rattle.loop_tree.specs.Tree.{Bound, Bounds, only, besides, Test, Tree, loop, guard, instance, Trees, none, more}
-use Rattle.tree_simplification.specs.steps.Context.{Context, entered, parts, tested}
-use Rattle.tree_simplification.specs.steps.Joined.{joined}
-use Rattle.tree_simplification.specs.steps.Trimmed.{Among, Trims, TrimsAll, under}
+use Rattle.tree_simplification.proofs.Common.{ℕ, zero, suc, inl, inr, Bool, List, [], ◌∷◌, pos, All, subst, sym, refl}
+use Rattle.tree_simplification.proofs.Common.{◌<ℤ◌, All-cons, All-head, All-nil, All-tail, In, Program, form_in}
+use Rattle.tree_simplification.proofs.Common.{AreBounds, AreTests, FlatAll, IsTest, AreSerial, BoundsAreOver}
+use Rattle.tree_simplification.proofs.Common.{BoundsAreUpTo, IsOver, IsOverUpTo, NestAllTo, TestIsUpTo, TreesAreOf}
+use Rattle.tree_simplification.proofs.Common.{TreesAreOver, TreesAreUpTo, Bound, Bounds, only, besides, Tree, loop}
+use Rattle.tree_simplification.proofs.Common.{guard, instance, Trees, none, more, Context, entered, parts, tested}
+use Rattle.tree_simplification.proofs.Common.{joined, Among, Trims, TrimsAll, under}
+use Rattle.loop_tree.specs.Tree.{Test}
 use Rattle.tree_simplification.proofs.JoinedTrees.{flat_joined, nested_joined, of_joined, over_joined, serial_joined}
 use Rattle.tree_simplification.proofs.JoinedTrees.{small_joined}
 use Rattle.tree_simplification.proofs.RemainingParts.{all_among}

@@ -1,27 +1,20 @@
 -- A loop whose turns are taken so many at once, and the loop over blocks that it gives way to.
-use Rattle.scop_syntax.proofs.Common.{◌≡◌, ℕ, zero, suc, ◌+◌, ◌-◌, ◌^◌, ◌≤◌, ◌<◌, Bool, true, false, ℤ, pos, List, []}
-use Rattle.scop_syntax.proofs.Common.{◌∷◌, ◌++◌, inl, inr, length, map, get_or, ap, ap₂, subst, sym, ◌∙◌, refl, arith}
-use Rattle.scop_syntax.proofs.Common.{length-append, ◌↔◌, All, neg_ℤ, unsigned_abs, ◌+ℤ◌, ◌-ℤ◌, ◌*ℤ◌, ◌≤ℤ◌, ints}
-use Rattle.scop_syntax.proofs.Common.{length-set, map-append, All-cons, All-nil, get_or-append_seam, Affine, value_of}
-use Rattle.scop_syntax.proofs.Common.{values_of, widened, zeros, dot-set_left, dot-zeros, get_or-zeros, length-zeros}
-use Rattle.scop_syntax.proofs.Common.{le_or_lt, mul_le, mul_le_turned, mul_positive, mul_assoc_int, mul_comm_int}
-use Rattle.scop_syntax.proofs.Common.{mul_distrib_left, mul_distrib_right, mul_one_left, mul_one_right, abs_at_most}
-use Rattle.scop_syntax.proofs.Common.{Program}
-use Rattle.std.proofs.lemmas.List.{append_assoc}
-use Rattle.loop_tree.specs.Fits.{FitsAll}
-use Rattle.loop_tree.specs.Marks.{AreBounds, FlatAll}
-use Rattle.loop_tree.specs.Plans.{AreFree, Conflict}
-use Rattle.loop_tree.specs.Scans.{Within}
-use Rattle.loop_tree.specs.Shape.{AreSerial, BoundsAreOver, BoundsAreUpTo, IsOver, IsOverUpTo, NestAllTo, TreesAreOf}
-use Rattle.loop_tree.specs.Shape.{TreesAreOver, TreesAreUpTo}
-use Rattle.loop_tree.specs.Tree.{Bound, Bounds, Test, bounds_of, only, besides, loop, Trees, none, more}
-use Rattle.loop_tree.specs.Walk.{Visit, along, lower, upper, walk_all}
-use Rattle.tree_simplification.specs.Simplified.{shown}
-use Rattle.tree_simplification.specs.steps.Inlined.{StayWithin}
-use Rattle.tree_simplification.specs.steps.Context.{OnSide, parts, sign_of}
-use Rattle.tree_simplification.specs.steps.Inlined.{AreNear, AreTestsOf, Inlines, IsPlace, bounds_over, side_tests}
-use Rattle.tree_simplification.specs.steps.Joined.{joined}
-use Rattle.tree_simplification.specs.steps.Strided.{AreEnds, AreTestsAt, InlinesAt, block, blocks, masked, turn_form}
+use Rattle.tree_simplification.proofs.Common.{◌≡◌, ℕ, zero, suc, ◌+◌, ◌-◌, ◌^◌, ◌≤◌, ◌<◌, Bool, true, false, ℤ, pos}
+use Rattle.tree_simplification.proofs.Common.{List, [], ◌∷◌, ◌++◌, inl, inr, length, map, get_or, ap, ap₂, subst, sym}
+use Rattle.tree_simplification.proofs.Common.{◌∙◌, refl, arith, length-append, ◌↔◌, All, neg_ℤ, unsigned_abs, ◌+ℤ◌}
+use Rattle.tree_simplification.proofs.Common.{◌-ℤ◌, ◌*ℤ◌, ◌≤ℤ◌, ints, map-append, All-cons, All-nil, get_or-append_seam}
+use Rattle.tree_simplification.proofs.Common.{Affine, value_of, values_of, widened, le_or_lt, mul_positive}
+use Rattle.tree_simplification.proofs.Common.{mul_comm_int, mul_distrib_left, mul_one_left, mul_one_right, abs_at_most}
+use Rattle.tree_simplification.proofs.Common.{Program, append_assoc, FitsAll, AreBounds, FlatAll, AreFree, Conflict}
+use Rattle.tree_simplification.proofs.Common.{Within, AreSerial, BoundsAreOver, BoundsAreUpTo, IsOver, IsOverUpTo}
+use Rattle.tree_simplification.proofs.Common.{NestAllTo, TreesAreOf, TreesAreOver, TreesAreUpTo, Bound, Bounds}
+use Rattle.tree_simplification.proofs.Common.{bounds_of, only, besides, loop, Trees, none, more, Visit, along, lower}
+use Rattle.tree_simplification.proofs.Common.{upper, walk_all, shown, StayWithin, OnSide, parts, sign_of, AreNear}
+use Rattle.tree_simplification.proofs.Common.{AreTestsOf, Inlines, IsPlace, bounds_over, side_tests, joined, AreEnds}
+use Rattle.tree_simplification.proofs.Common.{AreTestsAt, InlinesAt, block, blocks, masked, turn_form}
+use Rattle.scop_syntax.proofs.Common.{length-set, zeros, dot-set_left, dot-zeros, get_or-zeros, length-zeros, mul_le}
+use Rattle.scop_syntax.proofs.Common.{mul_le_turned, mul_assoc_int, mul_distrib_right}
+use Rattle.loop_tree.specs.Tree.{Test}
 use Rattle.tree_simplification.proofs.Blocks.{AreBlocksOf, along_next, blockwise}
 use Rattle.tree_simplification.proofs.ComposedForms.{bounds_fit_near, bounds_flat, bounds_sized, lower_over, near_more}
 use Rattle.tree_simplification.proofs.ComposedForms.{near_size, place_sized, place_values, upper_over}

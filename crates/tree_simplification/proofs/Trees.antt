@@ -1,14 +1,12 @@
 -- What is left of nodes, one by one, as code goes over them.
-use Rattle.scop_syntax.proofs.Common.{◌≡◌, ℕ, zero, suc, ◌+◌, ◌<◌, List, [], ◌∷◌, length, drop, get_or, ap, subst, sym}
-use Rattle.scop_syntax.proofs.Common.{◌∙◌, refl, arith, inl, inr, Bool, Result, Ok, Err, OnOk, is_ok, if◌then◌else◌}
-use Rattle.loop_tree.specs.Tree.{Bounds, Test, Trees, guard, loop, more, none}
-use Rattle.loop_tree.specs.View.{nodes_of, tree_of}
+use Rattle.tree_simplification.proofs.Common.{◌≡◌, ℕ, zero, suc, ◌+◌, ◌<◌, List, [], ◌∷◌, length, drop, get_or, ap}
+use Rattle.tree_simplification.proofs.Common.{subst, sym, ◌∙◌, refl, arith, inl, inr, Bool, if◌then◌else◌, Bounds}
+use Rattle.tree_simplification.proofs.Common.{Trees, guard, loop, more, none, nodes_of, tree_of, node_here, Context}
+use Rattle.tree_simplification.proofs.Common.{tested, joined, CanTrim, Trims, TrimsAll, TrimsBounds, TrimsTests, under}
+use Rattle.scop_syntax.proofs.Common.{Result, Ok, Err, OnOk, is_ok}
+use Rattle.loop_tree.specs.Tree.{Test}
 use Rattle.loop_tree.specs.declared.tree.Node.{Node}
-use Rattle.loop_tree.proofs.Weights.{node_here}
-use Rattle.tree_simplification.specs.steps.Context.{Context, tested}
-use Rattle.tree_simplification.specs.steps.Joined.{joined}
-use Rattle.tree_simplification.specs.steps.Trimmed.{CanTrim, IsEntered, Trims, TrimsAll, TrimsBounds}
-use Rattle.tree_simplification.specs.steps.Trimmed.{TrimsTests, under}
+use Rattle.tree_simplification.specs.steps.Trimmed.{IsEntered}
 use Rattle.tree_simplification.proofs.JoinedTrees.{joined_assoc, joined_none}
 
 -- what a call that may fail leaves where it does not

@@ -1,20 +1,15 @@
 -- A tree without what is implied visits what it visits, and is like it.
-use Rattle.scop_syntax.proofs.Common.{◌≡◌, ℕ, ◌+◌, ◌^◌, ◌<◌, inl, inr, ℤ, List, [], ◌∷◌, ◌++◌, length, map, subst, ap}
-use Rattle.scop_syntax.proofs.Common.{◌∙◌, refl, arith, Bool, true, false, ⊤, All-nil, Affine, Instance}
-use Rattle.affine_forms.specs.Parts.{variables_of}
-use Rattle.fm_projection.specs.Alone.{AreInRange}
+use Rattle.tree_simplification.proofs.Common.{◌≡◌, ℕ, ◌+◌, ◌^◌, ◌<◌, inl, inr, ℤ, List, [], ◌∷◌, ◌++◌, length, map}
+use Rattle.tree_simplification.proofs.Common.{subst, ap, ◌∙◌, refl, arith, Bool, true, false, ⊤, All-nil, Affine}
+use Rattle.tree_simplification.proofs.Common.{Instance, variables_of, AreInRange, AreSmallTrees, AreBounds, FlatAll}
+use Rattle.tree_simplification.proofs.Common.{Conflict, TreesAreOver, TreesAreUpTo, Bound, Bounds, Trees, only, besides}
+use Rattle.tree_simplification.proofs.Common.{shown, Context, Meets, OnSide, TrimsSide, outside, parts, IsInlined}
+use Rattle.tree_simplification.proofs.Common.{Among, TrimsAll, TrimsBounds}
 use Rattle.scop_syntax.proofs.Limits.{size_params}
-use Rattle.loop_tree.specs.Fits.{AreSmallTrees}
-use Rattle.loop_tree.specs.Marks.{AreBounds, FlatAll}
-use Rattle.loop_tree.specs.Plans.{Conflict}
-use Rattle.loop_tree.specs.Shape.{TreesAreOver, TreesAreUpTo}
-use Rattle.loop_tree.specs.Tree.{Bound, Bounds, Trees, only, besides}
 use Rattle.loop_tree.proofs.Fits.{small_fits_all}
 use Rattle.loop_tree.proofs.LargerBounds.{trees_more}
-use Rattle.tree_simplification.specs.Simplified.{shown, Simplifies}
-use Rattle.tree_simplification.specs.steps.Context.{Context, Meets, OnSide, TrimsSide, outside, parts}
-use Rattle.tree_simplification.specs.steps.Inlined.{IsInlined}
-use Rattle.tree_simplification.specs.steps.Trimmed.{Among, IsTrimmed, TrimsAll, TrimsBounds}
+use Rattle.tree_simplification.specs.Simplified.{Simplifies}
+use Rattle.tree_simplification.specs.steps.Trimmed.{IsTrimmed}
 use Rattle.tree_simplification.proofs.Contexts.{high_from, high_to, low_from, low_to}
 use Rattle.tree_simplification.proofs.Shapes.{alike_all, bounds_flat}
 use Rattle.tree_simplification.proofs.Once.{on_member}

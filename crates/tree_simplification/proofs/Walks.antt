@@ -1,27 +1,21 @@
 -- What is left of trees visits what they visit: nodes behind others, a loop, a guard; loops with the same values.
-use Rattle.scop_syntax.proofs.Common.{◌≡◌, ℕ, zero, suc, ◌+◌, ◌^◌, ◌≤◌, inl, inr, ℤ, pos, negsuc, List, [], ◌∷◌, ◌++◌}
-use Rattle.scop_syntax.proofs.Common.{map, ap, ap₂, subst, sym, ◌∙◌, refl, arith, ◌↔◌, Bool, true, false, if◌then◌else◌}
-use Rattle.scop_syntax.proofs.Common.{neg_ℤ, unsigned_abs, ◌+ℤ◌, ◌-ℤ◌, ◌*ℤ◌, ◌≤ℤ◌, ◌<ℤ◌, ints, All-cons, All-nil}
-use Rattle.scop_syntax.proofs.Common.{value_of, le_or_lt, mul_one_left, mul_one_right, abs_high, abs_low, In, Instance}
-use Rattle.scop_syntax.proofs.Common.{most_turns}
-use Rattle.std.proofs.lemmas.List.{append-nil}
-use Rattle.affine_forms.specs.Parts.{variables_of}
-use Rattle.loop_tree.specs.Fits.{AreSmallTrees, BoundsFit, FitsAll, FormFits, HasNumber, IsNumber}
-use Rattle.loop_tree.specs.Fits.{IsSmallTree, TestsFit, form_in}
-use Rattle.loop_tree.specs.Marks.{AreBounds, FlatAll}
-use Rattle.loop_tree.specs.Plans.{AreFree}
-use Rattle.loop_tree.specs.Scans.{Within}
-use Rattle.loop_tree.specs.Shape.{BoundsAreOver, TreeIsOver, TreesAreOver}
-use Rattle.loop_tree.specs.Tree.{Bound, Bounds, only, besides, Test, Tree, loop, guard, instance, Trees, none, more}
-use Rattle.loop_tree.specs.Walk.{Visit, all_hold, along, between, lower, upper, through, walk, walk_all}
-use Rattle.loop_tree.proofs.Lists.{between_none}
-use Rattle.loop_tree.proofs.Fits.{dot_zeros}
-use Rattle.tree_simplification.specs.steps.Inlined.{StayWithin, StaysWithin}
-use Rattle.tree_simplification.specs.steps.Context.{ArePartsOver, Context, IsSizedContext, Meets, NaturalAbove, OnSide}
-use Rattle.tree_simplification.specs.steps.Context.{entered, parts}
-use Rattle.tree_simplification.specs.steps.Context.{sign_of, tested}
-use Rattle.tree_simplification.specs.steps.Joined.{joined}
-use Rattle.tree_simplification.specs.steps.Trimmed.{Among, Trims, TrimsAll, under}
+use Rattle.tree_simplification.proofs.Common.{◌≡◌, ℕ, zero, suc, ◌+◌, ◌^◌, ◌≤◌, inl, inr, ℤ, pos, negsuc, List, [], ◌∷◌}
+use Rattle.tree_simplification.proofs.Common.{◌++◌, map, ap, ap₂, subst, sym, ◌∙◌, refl, arith, ◌↔◌, Bool, true, false}
+use Rattle.tree_simplification.proofs.Common.{if◌then◌else◌, neg_ℤ, unsigned_abs, ◌+ℤ◌, ◌-ℤ◌, ◌*ℤ◌, ◌≤ℤ◌, ◌<ℤ◌, ints}
+use Rattle.tree_simplification.proofs.Common.{All-cons, All-nil, value_of, le_or_lt, mul_one_left, mul_one_right, In}
+use Rattle.tree_simplification.proofs.Common.{Instance, most_turns, append-nil, variables_of, AreSmallTrees, BoundsFit}
+use Rattle.tree_simplification.proofs.Common.{FitsAll, FormFits, TestsFit, form_in, AreBounds, FlatAll, AreFree, Within}
+use Rattle.tree_simplification.proofs.Common.{BoundsAreOver, TreesAreOver, Bound, Bounds, only, besides, Tree, loop}
+use Rattle.tree_simplification.proofs.Common.{guard, instance, Trees, none, more, Visit, all_hold, along, lower, upper}
+use Rattle.tree_simplification.proofs.Common.{through, walk, walk_all, between_none, dot_zeros, StayWithin}
+use Rattle.tree_simplification.proofs.Common.{ArePartsOver, Context, IsSizedContext, Meets, NaturalAbove, OnSide}
+use Rattle.tree_simplification.proofs.Common.{entered, parts, sign_of, tested, joined, Among, Trims, TrimsAll, under}
+use Rattle.scop_syntax.proofs.Common.{abs_high, abs_low}
+use Rattle.loop_tree.specs.Fits.{HasNumber, IsNumber, IsSmallTree}
+use Rattle.loop_tree.specs.Shape.{TreeIsOver}
+use Rattle.loop_tree.specs.Tree.{Test}
+use Rattle.loop_tree.specs.Walk.{between}
+use Rattle.tree_simplification.specs.steps.Inlined.{StaysWithin}
 use Rattle.tree_simplification.proofs.RowValues.{turned_is}
 use Rattle.tree_simplification.proofs.Contexts.{high_to, low_to, meets_sided, meets_tested, sized_sided, sized_tested}
 use Rattle.tree_simplification.proofs.JoinedTrees.{fits_joined, free_joined, walk_joined}

@@ -1,7 +1,5 @@
-use Rattle.scop_syntax.proofs.Common.{ap, subst, arith, true, not, IfOk-weaker, Affine}
-use Rattle.affine_forms.specs.Parts.{variables_of}
-use Rattle.tree_simplification.specs.steps.Context.{Context, NeverHolds, part_row}
-use Rattle.tree_simplification.specs.steps.ContextView.{context_of}
+use Rattle.tree_simplification.proofs.Common.{ap, subst, arith, true, not, IfOk-weaker, Affine, variables_of, Context}
+use Rattle.tree_simplification.proofs.Common.{NeverHolds, part_row, context_of}
 use Rattle.tree_simplification.proofs.Contexts.{implied_part, sized_part}
 use Rattle.tree_simplification.proofs.asking.is_implied_part.Goals as goal
 

@@ -1,9 +1,6 @@
-use Rattle.scop_syntax.proofs.Common.{◌≡◌, subst, sym, List, ℤ, ◌++◌, map, true, IfOk-weaker}
-use Rattle.loop_tree.specs.View.{test_of}
-use Rattle.loop_tree.specs.Walk.{holds}
+use Rattle.tree_simplification.proofs.Common.{◌≡◌, subst, sym, List, ℤ, ◌++◌, map, true, IfOk-weaker, test_of, holds}
+use Rattle.tree_simplification.proofs.Common.{Meets, tested, context_of}
 use Rattle.loop_tree.specs.declared.tree.Test.{Test as CodeTest}
-use Rattle.tree_simplification.specs.steps.Context.{Meets, tested}
-use Rattle.tree_simplification.specs.steps.ContextView.{context_of}
 use Rattle.tree_simplification.proofs.Contexts.{implied_equal, implied_up}
 use Rattle.tree_simplification.proofs.asking.is_implied_test.Goals as goal
 

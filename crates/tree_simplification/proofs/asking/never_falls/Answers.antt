@@ -1,5 +1,4 @@
-use Rattle.scop_syntax.proofs.Common.{IfOk-weaker}
-use Rattle.tree_simplification.specs.steps.ContextView.{context_of}
+use Rattle.tree_simplification.proofs.Common.{IfOk-weaker, context_of}
 use Rattle.tree_simplification.proofs.Contexts.{natural_asked, natural_value}
 use Rattle.tree_simplification.proofs.asking.never_falls.Goals as goal
 

@@ -1,7 +1,5 @@
-use Rattle.scop_syntax.proofs.Common.{◌≡◌, ap₂, ◌∙◌, subst, List, [], ◌∷◌, ◌++◌, ℤ, IfOk-weaker, Affine}
-use Rattle.integer_sets.specs.Constraints.{Constraints, system_of}
-use Rattle.pip_solver.specs.Emptiness.{IsBoundedPoint}
-use Rattle.tree_simplification.specs.steps.ContextView.{context_of}
+use Rattle.tree_simplification.proofs.Common.{◌≡◌, ap₂, ◌∙◌, subst, List, [], ◌∷◌, ◌++◌, ℤ, IfOk-weaker, Affine}
+use Rattle.tree_simplification.proofs.Common.{Constraints, system_of, IsBoundedPoint, context_of}
 use Rattle.tree_simplification.proofs.Contexts.{denied, never_from}
 use Rattle.tree_simplification.proofs.asking.never_holds.Goals as goal
 

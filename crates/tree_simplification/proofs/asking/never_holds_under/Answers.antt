@@ -1,6 +1,4 @@
-use Rattle.scop_syntax.proofs.Common.{ℕ, ◌+◌, ap, ap₂, sym, ◌∙◌, true}
-use Rattle.affine_forms.specs.Parts.{variables_of}
-use Rattle.tree_simplification.specs.steps.Context.{Context}
+use Rattle.tree_simplification.proofs.Common.{ℕ, ◌+◌, ap, ap₂, sym, ◌∙◌, true, variables_of, Context}
 use Rattle.tree_simplification.proofs.Contexts.{sized_form}
 use Rattle.tree_simplification.proofs.asking.never_holds_under.Goals as goal
 

@@ -1,7 +1,5 @@
-use Rattle.scop_syntax.proofs.Common.{◌≡◌, ap₂, ◌∙◌, subst, List, [], ℤ, IfOk-weaker, Affine}
-use Rattle.integer_sets.specs.Constraints.{Constraints, system_of}
-use Rattle.pip_solver.specs.Emptiness.{IsBoundedPoint}
-use Rattle.tree_simplification.specs.steps.ContextView.{context_of}
+use Rattle.tree_simplification.proofs.Common.{◌≡◌, ap₂, ◌∙◌, subst, List, [], ℤ, IfOk-weaker, Affine, Constraints}
+use Rattle.tree_simplification.proofs.Common.{system_of, IsBoundedPoint, context_of}
 use Rattle.tree_simplification.proofs.Contexts.{never_speaks_from}
 use Rattle.tree_simplification.proofs.asking.never_speaks.Goals as goal
 

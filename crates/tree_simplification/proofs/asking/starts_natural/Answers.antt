@@ -1,7 +1,5 @@
-use Rattle.scop_syntax.proofs.Common.{◌≡◌, subst, List, ℤ, pos, ◌++◌, ap, IfOk, true, ◌≤ℤ◌, Affine, value_of}
-use Rattle.loop_tree.specs.Tree.{Bound}
-use Rattle.tree_simplification.specs.steps.Context.{Meets}
-use Rattle.tree_simplification.specs.steps.ContextView.{context_of}
+use Rattle.tree_simplification.proofs.Common.{◌≡◌, subst, List, ℤ, pos, ◌++◌, ap, IfOk, true, ◌≤ℤ◌, Affine, value_of}
+use Rattle.tree_simplification.proofs.Common.{Bound, Meets, context_of}
 use Rattle.tree_simplification.proofs.asking.starts_natural.Goals as goal
 
 pub returns : goal.returns

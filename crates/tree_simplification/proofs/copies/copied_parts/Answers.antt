@@ -1,5 +1,4 @@
-use Rattle.scop_syntax.proofs.Common.{◌≡◌, List, ◌∷◌, ap, sym, subst, ◌∙◌, IfOk}
-use Rattle.loop_tree.specs.Tree.{Bound}
+use Rattle.tree_simplification.proofs.Common.{◌≡◌, List, ◌∷◌, ap, sym, subst, ◌∙◌, IfOk, Bound}
 use Rattle.tree_simplification.proofs.Contexts.{parts_behind}
 use Rattle.tree_simplification.proofs.copies.copied_parts.Goals as goal
 

@@ -1,5 +1,4 @@
-use Rattle.scop_syntax.proofs.Common.{◌≡◌, ◌++◌, drop, map}
-use Rattle.loop_tree.specs.View.{test_of}
+use Rattle.tree_simplification.proofs.Common.{◌≡◌, ◌++◌, drop, map, test_of}
 use Rattle.tree_simplification.proofs.copies.copied_tests.Given as goal
 
 abbrev pub invariant-loop-test : goal.invariant-loop-test

@@ -1,9 +1,5 @@
-use Rattle.scop_syntax.proofs.Common.{◌≡◌, ap, ◌∙◌, sym, subst, map, ◌++◌, List, All, ◌+◌, suc, ℕ, arith, not, false}
-use Rattle.scop_syntax.proofs.Common.{Affine, widened}
-use Rattle.std.proofs.lemmas.List.{append_assoc}
-use Rattle.affine_forms.specs.Parts.{variables_of}
-use Rattle.tree_simplification.specs.steps.Context.{part_row}
-use Rattle.tree_simplification.specs.steps.ContextView.{context_of}
+use Rattle.tree_simplification.proofs.Common.{◌≡◌, ap, ◌∙◌, sym, subst, map, ◌++◌, List, All, ◌+◌, suc, ℕ, arith, not}
+use Rattle.tree_simplification.proofs.Common.{false, Affine, widened, append_assoc, variables_of, part_row, context_of}
 use Rattle.tree_simplification.proofs.Contexts.{sized_sided}
 use Rattle.tree_simplification.proofs.entering.sided.Goals as goal
 

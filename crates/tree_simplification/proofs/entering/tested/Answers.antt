@@ -1,8 +1,5 @@
-use Rattle.scop_syntax.proofs.Common.{◌≡◌, ap, ◌∙◌, sym, subst, map, ◌++◌, List, All, ◌+◌, Affine}
-use Rattle.affine_forms.specs.Parts.{variables_of}
-use Rattle.loop_tree.specs.View.{test_of}
-use Rattle.tree_simplification.specs.steps.Context.{tests_rows}
-use Rattle.tree_simplification.specs.steps.ContextView.{context_of}
+use Rattle.tree_simplification.proofs.Common.{◌≡◌, ap, ◌∙◌, sym, subst, map, ◌++◌, List, All, ◌+◌, Affine, variables_of}
+use Rattle.tree_simplification.proofs.Common.{test_of, tests_rows, context_of}
 use Rattle.tree_simplification.proofs.Contexts.{sized_tested}
 use Rattle.tree_simplification.proofs.entering.tested.Goals as goal
 

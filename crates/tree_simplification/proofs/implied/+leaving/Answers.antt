@@ -1,11 +1,7 @@
-use Rattle.scop_syntax.proofs.Common.{◌≡◌, ◌+◌, ◌<◌, [], length, map, drop, drop_of_length-le, ap, ◌∙◌, rules, arith}
-use Rattle.scop_syntax.proofs.Common.{Bool, IfOk-weaker}
-use Rattle.loop_tree.specs.Tree.{loop, more, none}
-use Rattle.loop_tree.specs.View.{bounds_in, nodes_of, test_of, tree_of}
-use Rattle.loop_tree.proofs.Weights.{node_weight, weight, weight_all}
-use Rattle.tree_simplification.specs.steps.Context.{tested}
-use Rattle.tree_simplification.specs.steps.ContextView.{context_of}
-use Rattle.tree_simplification.specs.steps.Trimmed.{CanTrim, TrimsTests}
+use Rattle.tree_simplification.proofs.Common.{◌≡◌, ◌+◌, ◌<◌, [], length, map, drop, drop_of_length-le, ap, ◌∙◌, rules}
+use Rattle.tree_simplification.proofs.Common.{arith, Bool, IfOk-weaker, loop, more, none, bounds_in, nodes_of, test_of}
+use Rattle.tree_simplification.proofs.Common.{tree_of, node_weight, weight, weight_all, tested, context_of, CanTrim}
+use Rattle.tree_simplification.proofs.Common.{TrimsTests}
 use Rattle.tree_simplification.proofs.Trees.{can_one, guard_dropped, guard_left, leaves_all, leaves_next, loop_dropped}
 use Rattle.tree_simplification.proofs.Trees.{loop_left}
 use Rattle.tree_simplification.proofs.implied.+leaving.Goals as goal

@@ -1,7 +1,4 @@
-use Rattle.scop_syntax.proofs.Common.{◌+◌}
-use Rattle.loop_tree.specs.View.{nodes_of, tree_of}
-use Rattle.loop_tree.proofs.Weights.{weight, weight_all}
-use Rattle.tree_simplification.specs.steps.ContextView.{context_of}
+use Rattle.tree_simplification.proofs.Common.{◌+◌, nodes_of, tree_of, weight, weight_all, context_of}
 use Rattle.tree_simplification.proofs.Trees.{Leaves}
 use Rattle.tree_simplification.proofs.implied.+leaving.Given as goal
 

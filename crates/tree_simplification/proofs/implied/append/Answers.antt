@@ -1,5 +1,4 @@
-use Rattle.scop_syntax.proofs.Common.{◌++◌, ap, ◌∙◌, on_ok_weaker}
-use Rattle.loop_tree.specs.View.{nodes_of}
+use Rattle.tree_simplification.proofs.Common.{◌++◌, ap, ◌∙◌, on_ok_weaker, nodes_of}
 use Rattle.tree_simplification.proofs.JoinedTrees.{nodes_joined}
 use Rattle.tree_simplification.proofs.Trees.{left_at_ok}
 use Rattle.tree_simplification.proofs.implied.append.Goals as goal

@@ -1,5 +1,4 @@
-use Rattle.scop_syntax.proofs.Common.{List, ◌∷◌, ap, sym, ◌∙◌}
-use Rattle.loop_tree.specs.Tree.{Bound}
+use Rattle.tree_simplification.proofs.Common.{List, ◌∷◌, ap, sym, ◌∙◌, Bound}
 use Rattle.tree_simplification.proofs.Contexts.{parts_behind}
 use Rattle.tree_simplification.proofs.RemainingParts.{first_and_rest}
 use Rattle.tree_simplification.proofs.implied.bounds_from.Goals as goal

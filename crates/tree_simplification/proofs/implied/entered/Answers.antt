@@ -1,6 +1,4 @@
-use Rattle.scop_syntax.proofs.Common.{◌+◌, subst, sym, ◌∙◌}
-use Rattle.loop_tree.specs.View.{bounds_in}
-use Rattle.tree_simplification.specs.steps.Context.{ArePartsOver}
+use Rattle.tree_simplification.proofs.Common.{◌+◌, subst, sym, ◌∙◌, bounds_in, ArePartsOver}
 use Rattle.tree_simplification.proofs.Walks.{parts_over}
 use Rattle.tree_simplification.proofs.implied.entered.Goals as goal
 

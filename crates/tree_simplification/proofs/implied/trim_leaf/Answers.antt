@@ -1,5 +1,4 @@
-use Rattle.scop_syntax.proofs.Common.{ap, inl, inr, IfOk-weaker}
-use Rattle.loop_tree.specs.View.{nodes_of}
+use Rattle.tree_simplification.proofs.Common.{ap, inl, inr, IfOk-weaker, nodes_of}
 use Rattle.tree_simplification.proofs.implied.trim_leaf.Goals as goal
 
 pub returns-then-branch : goal.returns-then-branch

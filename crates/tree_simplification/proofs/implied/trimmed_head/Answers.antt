@@ -1,8 +1,5 @@
-use Rattle.scop_syntax.proofs.Common.{◌+◌, ◌<◌, List, length, subst, sym, ◌∙◌, true, false}
-use Rattle.loop_tree.specs.Tree.{Bound}
-use Rattle.loop_tree.specs.View.{bounds_in}
-use Rattle.tree_simplification.specs.steps.Context.{ArePartsOver, TrimsSide, parts}
-use Rattle.tree_simplification.specs.steps.ContextView.{context_of}
+use Rattle.tree_simplification.proofs.Common.{◌+◌, ◌<◌, List, length, subst, sym, ◌∙◌, true, false, Bound, bounds_in}
+use Rattle.tree_simplification.proofs.Common.{ArePartsOver, TrimsSide, parts, context_of}
 use Rattle.tree_simplification.proofs.RemainingParts.{parts_among}
 use Rattle.tree_simplification.proofs.TrimmedTrees.{some_part, trims_both}
 use Rattle.tree_simplification.proofs.Walks.{parts_over}

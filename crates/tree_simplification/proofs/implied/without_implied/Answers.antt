@@ -1,7 +1,4 @@
-use Rattle.scop_syntax.proofs.Common.{rules}
-use Rattle.loop_tree.specs.View.{nodes_of, trees_in}
-use Rattle.tree_simplification.specs.steps.Context.{outside}
-use Rattle.tree_simplification.specs.steps.Trimmed.{TrimsAll}
+use Rattle.tree_simplification.proofs.Common.{rules, nodes_of, trees_in, outside, TrimsAll}
 use Rattle.tree_simplification.proofs.TrimmedTrees.{trimmed_is}
 use Rattle.tree_simplification.proofs.implied.without_implied.Goals as goal
 

@@ -1,5 +1,4 @@
-use Rattle.scop_syntax.proofs.Common.{◌≡◌, ◌++◌, drop, map, false}
-use Rattle.tree_simplification.specs.steps.Context.{part_row}
+use Rattle.tree_simplification.proofs.Common.{◌≡◌, ◌++◌, drop, map, false, part_row}
 use Rattle.tree_simplification.proofs.rows.push_parts.Given as goal
 
 abbrev pub invariant-loop-part : goal.invariant-loop-part

@@ -1,6 +1,4 @@
-use Rattle.scop_syntax.proofs.Common.{◌≡◌, ◌++◌, drop, map}
-use Rattle.loop_tree.specs.View.{test_of}
-use Rattle.tree_simplification.specs.steps.Context.{tests_rows}
+use Rattle.tree_simplification.proofs.Common.{◌≡◌, ◌++◌, drop, map, test_of, tests_rows}
 use Rattle.tree_simplification.proofs.rows.push_tests.Given as goal
 
 abbrev pub invariant-loop-test : goal.invariant-loop-test

@@ -1,5 +1,4 @@
-use Rattle.scop_syntax.proofs.Common.{◌≡◌, ◌++◌, drop, multiples}
-use Rattle.tree_simplification.specs.steps.Context.{sign_of}
+use Rattle.tree_simplification.proofs.Common.{◌≡◌, ◌++◌, drop, multiples, sign_of}
 use Rattle.tree_simplification.proofs.rows.signed_all.Given as goal
 
 abbrev pub invariant-loop-number : goal.invariant-loop-number

@@ -1,5 +1,4 @@
-use Rattle.scop_syntax.proofs.Common.{ap, ◌∙◌, subst, sym, length, ◌≤◌, List, ℤ, length-multiples}
-use Rattle.tree_simplification.specs.steps.Context.{sign_of}
+use Rattle.tree_simplification.proofs.Common.{ap, ◌∙◌, subst, sym, length, ◌≤◌, List, ℤ, length-multiples, sign_of}
 use Rattle.tree_simplification.proofs.rows.spread.Goals as goal
 
 pub put_at-requires : goal.put_at-requires

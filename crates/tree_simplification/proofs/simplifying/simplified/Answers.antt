@@ -1,7 +1,5 @@
-use Rattle.scop_syntax.proofs.Common.{IfOk-weaker, rules}
-use Rattle.loop_tree.specs.View.{trees_in}
+use Rattle.tree_simplification.proofs.Common.{IfOk-weaker, rules, trees_in, IsInlined}
 use Rattle.loop_tree.proofs.LargerBounds.{nested_all}
-use Rattle.tree_simplification.specs.steps.Inlined.{IsInlined}
 use Rattle.tree_simplification.proofs.TrimmedTrees.{trimmed_alone, trimmed_inlined}
 use Rattle.tree_simplification.proofs.simplifying.simplified.Goals as goal
 

@@ -1,11 +1,7 @@
-use Rattle.scop_syntax.proofs.Common.{◌≡◌, ◌+◌, List, drop, map, All, subst, sym, All-head, All-tail, IfOk-weaker}
-use Rattle.affine_forms.specs.Parts.{variables_of}
-use Rattle.loop_tree.specs.Fits.{form_in}
+use Rattle.tree_simplification.proofs.Common.{◌≡◌, ◌+◌, List, drop, map, All, subst, sym, All-head, All-tail}
+use Rattle.tree_simplification.proofs.Common.{IfOk-weaker, variables_of, form_in, test_of, TrimsTests, context_of}
 use Rattle.loop_tree.specs.Tree.{Test}
-use Rattle.loop_tree.specs.View.{test_of}
 use Rattle.loop_tree.specs.declared.tree.Test.{Test as CodeTest}
-use Rattle.tree_simplification.specs.steps.Trimmed.{TrimsTests}
-use Rattle.tree_simplification.specs.steps.ContextView.{context_of}
 use Rattle.tree_simplification.proofs.RemainingParts.{test_gone}
 use Rattle.tree_simplification.proofs.trimming.first_test_goes.Goals as goal
 

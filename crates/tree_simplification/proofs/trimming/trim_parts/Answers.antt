@@ -1,5 +1,4 @@
-use Rattle.scop_syntax.proofs.Common.{◌+◌}
-use Rattle.tree_simplification.specs.steps.ContextView.{context_of}
+use Rattle.tree_simplification.proofs.Common.{◌+◌, context_of}
 use Rattle.tree_simplification.proofs.RemainingParts.{parts_among, trims_none, trims_on}
 use Rattle.tree_simplification.proofs.trimming.trim_parts.Goals as goal
 

@@ -1,5 +1,4 @@
-use Rattle.tree_simplification.specs.steps.Context.{TrimsSide}
-use Rattle.tree_simplification.specs.steps.ContextView.{context_of}
+use Rattle.tree_simplification.proofs.Common.{TrimsSide, context_of}
 use Rattle.tree_simplification.proofs.trimming.trim_parts.Given as goal
 
 abbrev pub invariant-loop : goal.invariant-loop

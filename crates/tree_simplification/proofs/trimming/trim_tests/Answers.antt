@@ -1,8 +1,4 @@
-use Rattle.scop_syntax.proofs.Common.{◌≡◌, ◌+◌, map, arith}
-use Rattle.affine_forms.specs.Parts.{variables_of}
-use Rattle.loop_tree.specs.Fits.{form_in}
-use Rattle.loop_tree.specs.View.{test_of}
-use Rattle.tree_simplification.specs.steps.ContextView.{context_of}
+use Rattle.tree_simplification.proofs.Common.{◌≡◌, ◌+◌, map, arith, variables_of, form_in, test_of, context_of}
 use Rattle.tree_simplification.proofs.RemainingParts.{all_among, tests_on, tests_stay}
 use Rattle.tree_simplification.proofs.trimming.trim_tests.Goals as goal
 

@@ -1,7 +1,4 @@
-use Rattle.scop_syntax.proofs.Common.{◌+◌, ◌≤◌, length, map}
-use Rattle.loop_tree.specs.View.{test_of}
-use Rattle.tree_simplification.specs.steps.Trimmed.{TrimsTests}
-use Rattle.tree_simplification.specs.steps.ContextView.{context_of}
+use Rattle.tree_simplification.proofs.Common.{◌+◌, ◌≤◌, length, map, test_of, TrimsTests, context_of}
 use Rattle.tree_simplification.proofs.trimming.trim_tests.Given as goal
 
 abbrev pub invariant-loop : goal.invariant-loop

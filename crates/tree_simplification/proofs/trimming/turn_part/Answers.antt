@@ -1,7 +1,5 @@
-use Rattle.scop_syntax.proofs.Common.{List, [], ◌∷◌, ◌++◌, drop, ap, subst, sym, ◌∙◌, on_ok_weaker}
-use Rattle.loop_tree.specs.Tree.{Bound}
-use Rattle.tree_simplification.specs.steps.Context.{TrimsSide}
-use Rattle.tree_simplification.specs.steps.ContextView.{context_of}
+use Rattle.tree_simplification.proofs.Common.{List, [], ◌∷◌, ◌++◌, drop, ap, subst, sym, ◌∙◌, on_ok_weaker, Bound}
+use Rattle.tree_simplification.proofs.Common.{TrimsSide, context_of}
 use Rattle.tree_simplification.proofs.RemainingParts.{first_and_rest, part_kept}
 use Rattle.tree_simplification.proofs.trimming.turn_part.Goals as goal
 

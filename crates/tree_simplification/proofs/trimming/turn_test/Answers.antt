@@ -1,9 +1,7 @@
-use Rattle.scop_syntax.proofs.Common.{List, [], ◌∷◌, ◌++◌, drop, map, ap, subst, sym, ◌∙◌, map-append, on_ok_weaker}
+use Rattle.tree_simplification.proofs.Common.{List, [], ◌∷◌, ◌++◌, drop, map, ap, subst, sym, ◌∙◌, map-append}
+use Rattle.tree_simplification.proofs.Common.{on_ok_weaker, test_of, TrimsTests, context_of}
 use Rattle.loop_tree.specs.Tree.{Test}
-use Rattle.loop_tree.specs.View.{test_of}
 use Rattle.loop_tree.specs.declared.tree.Test.{Test as CodeTest}
-use Rattle.tree_simplification.specs.steps.Trimmed.{TrimsTests}
-use Rattle.tree_simplification.specs.steps.ContextView.{context_of}
 use Rattle.tree_simplification.proofs.RemainingParts.{first_and_rest, test_kept}
 use Rattle.tree_simplification.proofs.trimming.turn_test.Goals as goal
 

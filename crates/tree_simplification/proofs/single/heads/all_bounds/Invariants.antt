@@ -1,6 +1,4 @@
-use Rattle.scop_syntax.proofs.Common.{◌≡◌, ◌^◌, map, take, All}
-use Rattle.loop_tree.specs.Shape.{IsOverUpTo}
-use Rattle.tree_simplification.specs.steps.Inlined.{bound_over}
+use Rattle.tree_simplification.proofs.Common.{◌≡◌, ◌^◌, map, take, All, IsOverUpTo, bound_over}
 use Rattle.tree_simplification.proofs.single.heads.all_bounds.Given as goal
 
 abbrev pub invariant-loop-bound : goal.invariant-loop-bound

@@ -1,5 +1,4 @@
-use Rattle.scop_syntax.proofs.Common.{◌≡◌, ◌^◌, map, take, All, composed}
-use Rattle.loop_tree.specs.Shape.{IsUpTo}
+use Rattle.tree_simplification.proofs.Common.{◌≡◌, ◌^◌, map, take, All, composed, IsUpTo}
 use Rattle.tree_simplification.proofs.single.heads.all_forms.Given as goal
 
 abbrev pub invariant-loop-form : goal.invariant-loop-form

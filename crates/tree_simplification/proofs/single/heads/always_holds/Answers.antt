@@ -1,6 +1,4 @@
-use Rattle.scop_syntax.proofs.Common.{true, ◌≡◌, pos, ap, ◌∙◌, rules, ◌≤ℤ◌, ◌*ℤ◌, le_z, floor}
-use Rattle.loop_tree.specs.View.{test_of}
-use Rattle.loop_tree.specs.Walk.{holds}
+use Rattle.tree_simplification.proofs.Common.{true, ◌≡◌, pos, ap, ◌∙◌, rules, ◌≤ℤ◌, ◌*ℤ◌, le_z, floor, test_of, holds}
 use Rattle.loop_tree.specs.declared.tree.Test.{Test}
 use Rattle.tree_simplification.proofs.Heads.{multiple_holds, number_holds, zero_holds}
 use Rattle.tree_simplification.proofs.single.heads.always_holds.Goals as goal

@@ -1,7 +1,5 @@
-use Rattle.scop_syntax.proofs.Common.{◌^◌, ◌≤◌, length, map, ap, ap₂, subst, sym, ◌∙◌, List, All, unsigned_abs}
-use Rattle.loop_tree.specs.Shape.{IsOver}
-use Rattle.loop_tree.specs.Tree.{Bound, bounds_of}
-use Rattle.tree_simplification.specs.steps.Inlined.{bound_over}
+use Rattle.tree_simplification.proofs.Common.{◌^◌, ◌≤◌, length, map, ap, ap₂, subst, sym, ◌∙◌, List, All, unsigned_abs}
+use Rattle.tree_simplification.proofs.Common.{IsOver, Bound, bounds_of, bound_over}
 use Rattle.tree_simplification.proofs.Heads.{bounds_of_over, divisor_parts, over_parts, up_to_from}
 use Rattle.tree_simplification.proofs.single.heads.bounds_at.Goals as goal
 

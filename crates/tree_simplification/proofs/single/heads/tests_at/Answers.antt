@@ -1,7 +1,4 @@
-use Rattle.scop_syntax.proofs.Common.{length, ◌^◌}
-use Rattle.loop_tree.specs.Fits.{form_in}
-use Rattle.loop_tree.specs.Shape.{IsOver, TestIsUpTo}
-use Rattle.loop_tree.specs.View.{test_of}
+use Rattle.tree_simplification.proofs.Common.{length, ◌^◌, form_in, IsOver, TestIsUpTo, test_of}
 use Rattle.tree_simplification.proofs.Heads.{all_mapped, tests_next}
 use Rattle.tree_simplification.proofs.single.heads.tests_at.Goals as goal
 

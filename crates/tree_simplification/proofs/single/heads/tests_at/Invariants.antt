@@ -1,6 +1,4 @@
-use Rattle.scop_syntax.proofs.Common.{map, take}
-use Rattle.loop_tree.specs.View.{test_of}
-use Rattle.tree_simplification.specs.steps.Inlined.{AreTestsFor}
+use Rattle.tree_simplification.proofs.Common.{map, take, test_of, AreTestsFor}
 use Rattle.tree_simplification.proofs.single.heads.tests_at.Given as goal
 
 abbrev pub invariant-loop-test : goal.invariant-loop-test

@@ -1,19 +1,15 @@
-use Rattle.scop_syntax.proofs.Common.{◌≡◌, ◌+◌, ◌<◌, ◌≤◌, true, false, List, [], ◌∷◌, ◌++◌, length, map, refl, ap}
-use Rattle.scop_syntax.proofs.Common.{subst, sym, ◌∙◌, arith, rules, drop_of_length-le, All, on_ok_weaker, Affine}
-use Rattle.scop_syntax.proofs.Common.{composed}
-use Rattle.iteration_domains.specs.Rows.{variable, variables}
+use Rattle.tree_simplification.proofs.Common.{◌≡◌, ◌+◌, ◌<◌, ◌≤◌, true, false, List, [], ◌∷◌, ◌++◌, length, map, refl}
+use Rattle.tree_simplification.proofs.Common.{ap, subst, sym, ◌∙◌, arith, rules, drop_of_length-le, All, on_ok_weaker}
+use Rattle.tree_simplification.proofs.Common.{Affine, composed, variable, variables, form_in, BoundsAreOver, IsOver}
+use Rattle.tree_simplification.proofs.Common.{Bounds, Tree, guard, instance, loop, more, none, bounds_in, nodes_of}
+use Rattle.tree_simplification.proofs.Common.{test_of, tree_of, node_weight, weight, weight_all, AreTestsFor, CanInline}
+use Rattle.tree_simplification.proofs.Common.{Extends, IsOnce, bounds_over, inside, CanBound, CanGoAt, InlinesAt}
 use Rattle.iteration_domains.proofs.Surroundings.{length-variable}
 use Rattle.loop_tree.specs.declared.tree.Node.{Node}
-use Rattle.loop_tree.specs.Fits.{form_in}
-use Rattle.loop_tree.specs.Shape.{BoundsAreOver, IsOver}
-use Rattle.loop_tree.specs.Tree.{Bounds, Tree, guard, instance, loop, more, none}
-use Rattle.loop_tree.specs.View.{bounds_in, nodes_of, test_of, tree_of}
 use Rattle.loop_tree.specs.declared.tree.Test.{Test as CodeTest}
 use Rattle.loop_tree.proofs.Views.{tree_guard, tree_instance, tree_loop}
-use Rattle.loop_tree.proofs.Weights.{node_weight, weight, weight_all}
-use Rattle.tree_simplification.specs.steps.Inlined.{AreTestsFor, CanInline, CanKeep, Extends, IsOnce}
-use Rattle.tree_simplification.specs.steps.Inlined.{bounds_over, inside}
-use Rattle.tree_simplification.specs.steps.Strided.{CanBound, CanGoAt, CanStride, InlinesAt}
+use Rattle.tree_simplification.specs.steps.Inlined.{CanKeep}
+use Rattle.tree_simplification.specs.steps.Strided.{CanStride}
 use Rattle.tree_simplification.proofs.Strides.{Unrolls, unrolls_none}
 use Rattle.tree_simplification.proofs.Nodes.{all_gone, alone_gone, at_goes, at_guarded, at_place, bounds_can, can_at}
 use Rattle.tree_simplification.proofs.Nodes.{can_node, guard_can, guard_goes, guard_stays, leaf_can, leaf_goes}

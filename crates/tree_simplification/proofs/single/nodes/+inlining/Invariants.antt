@@ -1,6 +1,4 @@
-use Rattle.scop_syntax.proofs.Common.{◌+◌, ◌≤◌}
-use Rattle.loop_tree.specs.View.{bounds_in, nodes_of, tree_of}
-use Rattle.loop_tree.proofs.Weights.{weight, weight_all}
+use Rattle.tree_simplification.proofs.Common.{◌+◌, ◌≤◌, bounds_in, nodes_of, tree_of, weight, weight_all}
 use Rattle.tree_simplification.proofs.Nodes.{HaveGone}
 use Rattle.tree_simplification.proofs.Strides.{Unrolls}
 use Rattle.tree_simplification.proofs.single.nodes.+inlining.Given as goal

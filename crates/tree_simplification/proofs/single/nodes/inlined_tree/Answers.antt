@@ -1,8 +1,6 @@
-use Rattle.scop_syntax.proofs.Common.{◌+◌, List, [], ◌++◌, ap, subst, sym, ◌∙◌, arith, Affine}
-use Rattle.iteration_domains.specs.Rows.{variables}
-use Rattle.loop_tree.specs.View.{nodes_of, trees_in}
+use Rattle.tree_simplification.proofs.Common.{◌+◌, List, [], ◌++◌, ap, subst, sym, ◌∙◌, arith, Affine, variables}
+use Rattle.tree_simplification.proofs.Common.{nodes_of, trees_in, CanInline, Inlines}
 use Rattle.loop_tree.specs.declared.tree.Node.{Node}
-use Rattle.tree_simplification.specs.steps.Inlined.{CanInline, Inlines}
 use Rattle.tree_simplification.proofs.InlinedNodes.{inlined_whole}
 use Rattle.tree_simplification.proofs.Nodes.{alone_gone, at_place, can_at, whole_can}
 use Rattle.tree_simplification.proofs.single.nodes.inlined_tree.Goals as goal

@@ -1,5 +1,4 @@
-use Rattle.scop_syntax.proofs.Common.{subst, sym, In, member_at}
-use Rattle.loop_tree.specs.Tree.{Bound}
+use Rattle.tree_simplification.proofs.Common.{subst, sym, In, member_at, Bound}
 use Rattle.tree_simplification.proofs.single.once.is_among.Goals as goal
 
 pub returns-then-same_part : goal.returns-then-same_part

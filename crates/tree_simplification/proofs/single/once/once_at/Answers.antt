@@ -1,9 +1,5 @@
-use Rattle.scop_syntax.proofs.Common.{List, map, subst, sym, ◌∙◌, All, IfOk-weaker, IfSome_then}
-use Rattle.loop_tree.specs.Shape.{IsOver}
-use Rattle.loop_tree.specs.Tree.{Bound}
-use Rattle.loop_tree.specs.View.{bounds_in, test_of}
-use Rattle.tree_simplification.specs.steps.Context.{parts}
-use Rattle.tree_simplification.specs.steps.Inlined.{IsOnceIn}
+use Rattle.tree_simplification.proofs.Common.{List, map, subst, sym, ◌∙◌, All, IfOk-weaker, IfSome_then, IsOver, Bound}
+use Rattle.tree_simplification.proofs.Common.{bounds_in, test_of, parts, IsOnceIn}
 use Rattle.tree_simplification.proofs.Once.{parts_sized}
 use Rattle.tree_simplification.proofs.single.once.once_at.Goals as goal
 

@@ -1,9 +1,7 @@
-use Rattle.scop_syntax.proofs.Common.{◌≡◌, ◌++◌, ℕ, List, false, map, rules, subst, sym, true, IfSome_then, All, In}
-use Rattle.affine_forms.specs.Parts.{variables_of}
-use Rattle.loop_tree.specs.Shape.{IsOver}
-use Rattle.loop_tree.specs.View.{test_of}
+use Rattle.tree_simplification.proofs.Common.{◌≡◌, ◌++◌, ℕ, List, false, map, rules, subst, sym, true, IfSome_then, All}
+use Rattle.tree_simplification.proofs.Common.{In, variables_of, IsOver, test_of, AreTestsOf, IsOnceIn, side_tests}
 use Rattle.loop_tree.specs.declared.tree.Test.{Test}
-use Rattle.tree_simplification.specs.steps.Inlined.{AreTestsOf, IsOnceIn, side_tests, whole}
+use Rattle.tree_simplification.specs.steps.Inlined.{whole}
 use Rattle.tree_simplification.proofs.Once.{member_over}
 use Rattle.tree_simplification.proofs.single.once.once_between.Goals as goal
 

@@ -1,12 +1,7 @@
-use Rattle.scop_syntax.proofs.Common.{◌≡◌, rules, refl}
-use Rattle.affine_forms.specs.Parts.{variables_of}
-use Rattle.loop_tree.specs.Shape.{IsOver}
+use Rattle.tree_simplification.proofs.Common.{◌≡◌, rules, refl, variables_of, IsOver, side_form, at_least, test_of}
 use Rattle.tree_simplification.specs.steps.Rounded.{rounded_test}
-use Rattle.tree_simplification.specs.steps.Inlined.{side_form}
 use Rattle.tree_simplification.proofs.Heads.{side_more}
 use Rattle.tree_simplification.proofs.single.once.push_side.Goals as goal
-use Rattle.loop_tree.specs.Tree.{at_least}
-use Rattle.loop_tree.specs.View.{test_of}
 
 pub loop-part-preserved : goal.loop-part-preserved
 loop-part-preserved c = λ old first.

@@ -1,8 +1,5 @@
-use Rattle.scop_syntax.proofs.Common.{List, ◌++◌, map, take}
-use Rattle.affine_forms.specs.Parts.{variables_of}
+use Rattle.tree_simplification.proofs.Common.{List, ◌++◌, map, take, variables_of, test_of, AreTestsOf, side_tests}
 use Rattle.loop_tree.specs.Tree.{Test}
-use Rattle.loop_tree.specs.View.{test_of}
-use Rattle.tree_simplification.specs.steps.Inlined.{AreTestsOf, side_tests}
 use Rattle.tree_simplification.proofs.single.once.push_side.Given as goal
 
 abbrev pub invariant-loop-part : goal.invariant-loop-part

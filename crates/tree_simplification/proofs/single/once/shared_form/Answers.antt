@@ -1,5 +1,4 @@
-use Rattle.scop_syntax.proofs.Common.{◌≡◌, ap, subst, sym, ◌∙◌, In, member_at}
-use Rattle.loop_tree.specs.Tree.{Bound}
+use Rattle.tree_simplification.proofs.Common.{◌≡◌, ap, subst, sym, ◌∙◌, In, member_at, Bound}
 use Rattle.tree_simplification.specs.steps.Inlined.{whole}
 use Rattle.tree_simplification.proofs.single.once.shared_form.Goals as goal
 

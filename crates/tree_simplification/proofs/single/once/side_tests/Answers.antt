@@ -1,8 +1,6 @@
-use Rattle.scop_syntax.proofs.Common.{List, [], map, subst, sym, true}
-use Rattle.affine_forms.specs.Parts.{variables_of}
-use Rattle.loop_tree.specs.View.{test_of}
+use Rattle.tree_simplification.proofs.Common.{List, [], map, subst, sym, true, variables_of, test_of, AreTestsOf}
+use Rattle.tree_simplification.proofs.Common.{side_tests}
 use Rattle.loop_tree.specs.declared.tree.Test.{Test as CodeTest}
-use Rattle.tree_simplification.specs.steps.Inlined.{AreTestsOf, side_tests}
 use Rattle.tree_simplification.proofs.Heads.{no_tests}
 use Rattle.tree_simplification.proofs.single.once.side_tests.Goals as goal
 

@@ -1,5 +1,4 @@
-use Rattle.scop_syntax.proofs.Common.{◌≡◌, ◌-◌, ◌++◌}
-use Rattle.iteration_domains.specs.Rows.{variables}
+use Rattle.tree_simplification.proofs.Common.{◌≡◌, ◌-◌, ◌++◌, variables}
 use Rattle.tree_simplification.proofs.single.place.push_units.Given as goal
 
 abbrev pub invariant-loop-at : goal.invariant-loop-at

@@ -1,7 +1,5 @@
-use Rattle.scop_syntax.proofs.Common.{◌+◌, ◌-◌, List, length, subst, sym, IfOk-weaker, Affine}
-use Rattle.loop_tree.specs.Shape.{BoundsAreOver}
-use Rattle.loop_tree.specs.View.{bounds_in}
-use Rattle.tree_simplification.specs.steps.Strided.{CanBound, blocks}
+use Rattle.tree_simplification.proofs.Common.{◌+◌, ◌-◌, List, length, subst, sym, IfOk-weaker, Affine, BoundsAreOver}
+use Rattle.tree_simplification.proofs.Common.{bounds_in, CanBound, blocks}
 use Rattle.tree_simplification.proofs.Strides.{blocks_over, ends_named}
 use Rattle.tree_simplification.proofs.single.stride.block_at.Goals as goal
 

@@ -1,6 +1,4 @@
-use Rattle.scop_syntax.proofs.Common.{◌≡◌, ◌^◌, map, take, All}
-use Rattle.loop_tree.specs.Shape.{IsOverUpTo}
-use Rattle.tree_simplification.specs.steps.Strided.{block}
+use Rattle.tree_simplification.proofs.Common.{◌≡◌, ◌^◌, map, take, All, IsOverUpTo, block}
 use Rattle.tree_simplification.proofs.single.stride.block_parts.Given as goal
 
 abbrev pub invariant-loop-part : goal.invariant-loop-part

@@ -1,7 +1,5 @@
-use Rattle.scop_syntax.proofs.Common.{◌^◌, map, ap, ap₂, subst, sym, ◌∙◌, List, All}
-use Rattle.loop_tree.specs.Shape.{IsOverUpTo}
-use Rattle.loop_tree.specs.Tree.{Bound, bounds_of}
-use Rattle.tree_simplification.specs.steps.Strided.{block}
+use Rattle.tree_simplification.proofs.Common.{◌^◌, map, ap, ap₂, subst, sym, ◌∙◌, List, All, IsOverUpTo, Bound}
+use Rattle.tree_simplification.proofs.Common.{bounds_of, block}
 use Rattle.tree_simplification.proofs.Heads.{up_to_from}
 use Rattle.tree_simplification.proofs.Strides.{blocks_of, up_to_parts}
 use Rattle.tree_simplification.proofs.single.stride.blocks.Goals as goal

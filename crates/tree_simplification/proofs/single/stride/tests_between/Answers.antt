@@ -1,10 +1,5 @@
-use Rattle.scop_syntax.proofs.Common.{◌++◌, true, false, List, map, refl, subst, sym, ◌∙◌, All}
-use Rattle.affine_forms.specs.Parts.{variables_of}
-use Rattle.loop_tree.specs.Shape.{IsOver}
-use Rattle.loop_tree.specs.Tree.{Bound}
-use Rattle.loop_tree.specs.View.{bounds_in, test_of}
-use Rattle.tree_simplification.specs.steps.Context.{parts}
-use Rattle.tree_simplification.specs.steps.Inlined.{AreTestsOf, side_tests}
+use Rattle.tree_simplification.proofs.Common.{◌++◌, true, false, List, map, refl, subst, sym, ◌∙◌, All, variables_of}
+use Rattle.tree_simplification.proofs.Common.{IsOver, Bound, bounds_in, test_of, parts, AreTestsOf, side_tests}
 use Rattle.tree_simplification.proofs.Once.{parts_sized}
 use Rattle.tree_simplification.proofs.single.stride.tests_between.Goals as goal
 

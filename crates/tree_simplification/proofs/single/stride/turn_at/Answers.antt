@@ -1,8 +1,5 @@
-use Rattle.scop_syntax.proofs.Common.{◌+◌, ◌-◌, true, false, List, map, ap, subst, sym, ◌∙◌, All, IfOk-weaker, Affine}
-use Rattle.affine_forms.specs.Parts.{variables_of}
-use Rattle.loop_tree.specs.Shape.{BoundsAreOver, IsOver}
-use Rattle.loop_tree.specs.View.{bounds_in, test_of}
-use Rattle.tree_simplification.specs.steps.Strided.{CanBound}
+use Rattle.tree_simplification.proofs.Common.{◌+◌, ◌-◌, true, false, List, map, ap, subst, sym, ◌∙◌, All, IfOk-weaker}
+use Rattle.tree_simplification.proofs.Common.{Affine, variables_of, BoundsAreOver, IsOver, bounds_in, test_of, CanBound}
 use Rattle.tree_simplification.proofs.ComposedForms.{bounds_sized}
 use Rattle.tree_simplification.proofs.Strides.{length_turn, tests_named}
 use Rattle.tree_simplification.proofs.single.stride.turn_at.Goals as goal
