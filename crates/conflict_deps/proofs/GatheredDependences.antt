@@ -12,19 +12,19 @@ use Rattle.conflict_deps.specs.Conflicts.{end_of}
 use Rattle.conflict_deps.specs.declared.deps.PairRows.{PairRows}
 
 -- an access of a statement that the code holds
-pub pair_can : (m : ℕ) (s : Modelled) (k : ℕ) (a : Access) (found : List Access) (loops : List ℕ) → loops ≡ s.loops
-    → length loops ≡ s.domain.dimensions → length loops ≤ 5 → s.domain.parameters ≡ m
+pub pair_can : (m : ℕ) (s : Modelled) (k : ℕ) (a : Access) (found : List Access)
+    → length s.loops ≡ s.domain.dimensions → s.domain.dimensions ≤ 5 → s.domain.parameters ≡ m
     → All (λ (b : Access). All (IsNarrow (s.domain.dimensions + s.domain.parameters)) b.subscripts) found
     → a ≡ get_or found k a → k < length found → CanPair m (side s k a)
-pair_can m s k a found loops same named few count narrow is h =
+pair_can m s k a found named few count narrow is h =
     let P : Access → Type 0 = λ b. All (IsNarrow (s.domain.dimensions + s.domain.parameters)) b.subscripts in
     let here : P a = subst (λ (b : Access). All (IsNarrow (s.domain.dimensions + s.domain.parameters)) b.subscripts)
     (sym is)
     (All-get_or P found k a h narrow) in
     record {
       parameters = count;
-      loops = sym (ap (λ (ls : List ℕ). length ls) same) ∙ named;
-      few_loops = omega arith;
+      loops = named;
+      few_loops = few;
       narrow = subst (λ (n : ℕ). All (IsNarrow (s.domain.dimensions + n)) a.subscripts) count here;
     }
 

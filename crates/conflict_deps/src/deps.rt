@@ -242,7 +242,6 @@ fn push_to_statement(
         ≡ deps.old.items ++ flat_map (deps_between parameters (side_of source.now)) (sides_of statement.now)) }
 {
     let accesses = statement.accesses();
-    let _loops = statement.loops();
     let loops = source.statement.domain().dimensions();
     let others = statement.domain().dimensions();
     for number in 0..accesses.len() {
@@ -317,7 +316,6 @@ fn push_from_statement(
         (deps.new.items ≡ deps.old.items ++ flat_map (deps_on marked.now model.now) (sides_of statement.now)) }
 {
     let accesses = statement.accesses();
-    let _loops = statement.loops();
     for number in 0..accesses.len() {
         let source = AccessOf {
             statement,

@@ -37,7 +37,6 @@ fn writer_of<'a>(model: &'a Model, path: &Path) -> Option<AccessOf<'a>>
         return None;
     };
     let statement = model.statements().get(source.statement)?;
-    let _loops = statement.loops();
     let access = statement.accesses().first()?;
     Some(AccessOf {
         statement,
@@ -244,7 +243,6 @@ fn push_statement(
         (out.new.items ≡ out.old.items ++ flat_map (covers_at budget marked.now model.now) (sides_of statement.now)) }
 {
     let accesses = statement.accesses();
-    let _loops = statement.loops();
     for number in 0..accesses.len() {
         let reader = AccessOf {
             statement,

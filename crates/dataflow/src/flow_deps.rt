@@ -61,7 +61,6 @@ fn push_reads(
         ≡ out.old.items ++ flow_from model.now (read_sides statement.now) (map tree_in sources.now)) }
 {
     let accesses = statement.accesses();
-    let _loops = statement.loops();
     for index in 0..sources.len() {
         let number = index + 1;
         let reader = AccessOf {

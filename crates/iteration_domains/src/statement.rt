@@ -91,6 +91,8 @@ impl StatementModel {
         ensures accesses { result.now ≡ self.now.accesses }
         ensures narrow { All
             (λ a. All (IsNarrow (self.now.domain.dimensions + self.now.domain.parameters)) a.subscripts) result.now }
+        ensures dimensions { length self.now.loops ≡ self.now.domain.dimensions }
+        ensures few { self.now.domain.dimensions ≤ 5 }
     {
         self.accesses.as_slice()
     }

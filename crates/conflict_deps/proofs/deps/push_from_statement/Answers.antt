@@ -5,8 +5,7 @@ use Rattle.conflict_deps.proofs.deps.push_from_statement.Goals as goal
 pub push_unmarked-requires-clause-source : goal.push_unmarked-requires-clause-source
 push_unmarked-requires-clause-source c =
     pair_can c.args.model.now.parameters c.args.statement.now c.loop-number.number _ c.accesses-accesses.result.now
-    c.loops-loops.result.now c.loops-loops.ensures.loops c.loops-loops.ensures.dimensions c.loops-loops.ensures.few
-    c.requires.statement
+    c.accesses-accesses.ensures.dimensions c.accesses-accesses.ensures.few c.requires.statement
     c.accesses-accesses.ensures.narrow c.index-accesses-number.is c.loop-number-test.true
 
 pub loop-number-preserved : goal.loop-number-preserved

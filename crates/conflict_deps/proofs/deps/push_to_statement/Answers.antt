@@ -7,9 +7,8 @@ invariant_of-pair c = record {
   few = c.requires.few;
   first = c.requires.source;
   second = pair_can c.args.parameters c.args.statement.now c.loop-number.number _ c.accesses-accesses.result.now
-      c.loops-loops.result.now c.loops-loops.ensures.loops c.loops-loops.ensures.dimensions
-      c.loops-loops.ensures.few c.requires.statement c.accesses-accesses.ensures.narrow c.index-accesses-number.is
-      c.loop-number-test.true;
+      c.accesses-accesses.ensures.dimensions c.accesses-accesses.ensures.few c.requires.statement
+      c.accesses-accesses.ensures.narrow c.index-accesses-number.is c.loop-number-test.true;
   one = c.requires.one;
   turns = c.dimensions-loops.ensures ∙ ap (λ (z : Constraints). z.dimensions) c.domain.ensures;
   other_turns = c.dimensions-others.ensures ∙ ap (λ (z : Constraints). z.dimensions) c.domain-2.ensures;

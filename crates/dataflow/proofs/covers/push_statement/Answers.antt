@@ -8,8 +8,8 @@ pub push_access-requires-clause-reader : goal.push_access-requires-clause-reader
 push_access-requires-clause-reader c = record {
   statement = c.requires.statement;
   pairs = pair_can c.args.model.now.parameters c.args.statement.now c.loop-number.number _
-      c.accesses-accesses.result.now c.loops-loops.result.now c.loops-loops.ensures.loops
-      c.loops-loops.ensures.dimensions c.loops-loops.ensures.few c.requires.parameters
+      c.accesses-accesses.result.now c.accesses-accesses.ensures.dimensions
+      c.accesses-accesses.ensures.few c.requires.parameters
       c.accesses-accesses.ensures.narrow c.index-accesses-number.is c.loop-number-test.true;
 }
 

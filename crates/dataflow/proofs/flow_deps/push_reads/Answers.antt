@@ -11,8 +11,8 @@ pub push_source-requires-clause-reader : goal.push_source-requires-clause-reader
 push_source-requires-clause-reader c = record {
   statement = c.requires.statement;
   pairs = pair_can c.args.model.now.parameters c.args.statement.now (c.loop-index.index + 1) _
-      c.accesses-accesses.result.now c.loops-loops.result.now c.loops-loops.ensures.loops
-      c.loops-loops.ensures.dimensions c.loops-loops.ensures.few c.requires.parameters
+      c.accesses-accesses.result.now c.accesses-accesses.ensures.dimensions
+      c.accesses-accesses.ensures.few c.requires.parameters
       c.accesses-accesses.ensures.narrow c.index-accesses-number.is
       (access_inside c.args.model.now c.args.statement.now c.accesses-accesses.result.now c.args.sources.now
       c.loop-index.index c.requires.sources c.accesses-accesses.ensures.accesses c.loop-index-test.true);
