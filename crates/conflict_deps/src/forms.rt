@@ -6,7 +6,9 @@ ghost use Rattle.iteration_domains.specs.Sizes.{IsNarrow};
 ghost use Rattle.conflict_deps.specs.Conflicts.{difference_of_forms, equal_turns, one_form, same_subscripts};
 ghost use Rattle.conflict_deps.specs.Conflicts.{source_form, spread, step, target_form};
 
-use iteration_domains::{Form, Numbers, form_from, plus_multiple, push, push_zeros, variable_form};
+use iteration_domains::{
+    Form, Numbers, constant_form, form_from, plus_multiple, push, push_zeros, variable_form,
+};
 use std::alloc::{AllocError, Global};
 
 /// The coefficients of a form of the source, which has `loops` turns, where the target has `others`.
@@ -168,22 +170,13 @@ pub fn push_equal_turns(
     Ok(())
 }
 
-/// The form that is 1 everywhere.
-fn unit_form(alloc: Global, variables: usize) -> Result<Form, AllocError>
-    ensures { IfOk result (λ f. f ≡ one_form variables) }
-{
-    let mut coefficients = Numbers::new(alloc);
-    push_zeros(&mut coefficients, variables)?;
-    form_from(alloc, coefficients.as_slice(), 1)
-}
-
 /// Target's turn minus source's of loop `at`, minus 1.
 fn later_turn(alloc: Global, variables: usize, loops: usize, at: usize) -> Result<Form, AllocError>
     requires { loops + at < variables }
     ensures { IfOk result (λ f. f ≡ difference_of_forms (step variables loops at) (one_form variables)) }
 {
     let difference = turn_difference(alloc, variables, loops, at)?;
-    let one = unit_form(alloc, variables)?;
+    let one = constant_form(alloc, variables, 1)?;
     plus_multiple(&difference, -1, &one)
 }
 

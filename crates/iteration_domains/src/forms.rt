@@ -53,6 +53,18 @@ fn wide_form(alloc: Global, aff: &Aff) -> Result<Form, AllocError>
     form_from(alloc, coefficients.as_slice(), aff.constant as i128)
 }
 
+/// The form over so many variables that has one value everywhere.
+///
+/// # Errors
+/// `AllocError` alone.
+pub fn constant_form(alloc: Global, variables: usize, constant: i128) -> Result<Form, AllocError>
+    ensures { IfOk result (λ f. f ≡ form_of (zeros variables) constant) }
+{
+    let mut coefficients = Numbers::new(alloc);
+    push_zeros(&mut coefficients, variables)?;
+    form_from(alloc, coefficients.as_slice(), constant)
+}
+
 /// The form whose coefficient of the variable `at` of so many is `factor`, and all others 0.
 ///
 /// # Errors

@@ -14,21 +14,12 @@ ghost use Rattle.iteration_domains.specs.Sizes.{IsNarrow, form_size};
 ghost use Rattle.iteration_domains.specs.steps.Asking.{AreFixed, CanAsk, CanAskAll, IsExtent};
 
 use crate::dep::with_row;
-use crate::forms::{Numbers, compose_form, form_from, plus_multiple, push_variables, push_zeros};
+use crate::forms::{compose_form, constant_form, plus_multiple, push_variables};
 use crate::statement::{AccessForms, StatementModel};
 use integer_sets::{Form, System, push};
 use scop_syntax::affine_values::wrapped_at;
 use scop_syntax::tree::{Aff, Kernel};
 use std::alloc::{AllocError, Global};
-
-/// The form over so many variables that has one value everywhere.
-fn constant_form(alloc: Global, variables: usize, constant: i128) -> Result<Form, AllocError>
-    ensures { IfOk result (λ f. f ≡ form_of (zeros variables) constant) }
-{
-    let mut coefficients = Numbers::new(alloc);
-    push_zeros(&mut coefficients, variables)?;
-    form_from(alloc, coefficients.as_slice(), constant)
-}
 
 /// Over so many turns, the forms of these turns and, behind them, of the parameters.
 fn fixed_forms(alloc: Global, turns: usize, params: &[i64]) -> Result<Vec<Form>, AllocError>
