@@ -1,14 +1,17 @@
 -- The dependences as the code gathers them: from access to access, from statement to statement.
-use Rattle.conflict_deps.proofs.Common.{◌≡◌, ℕ, ◌+◌, ◌<◌, ◌≤◌, Bool, List, [], ◌∷◌, ◌++◌, length, drop, get_or, ap, ap₂}
-use Rattle.conflict_deps.proofs.Common.{subst, sym, ◌∙◌, refl, arith, add-one, drop-cons, All, flat_map, Affine, Access}
-use Rattle.conflict_deps.proofs.Common.{append_assoc, Constraints, IsNarrow, Modelled, Dependence, dependence, Side}
-use Rattle.conflict_deps.proofs.Common.{side, sides_from, sides_of, loops_of, pair_size, tests_between, dep_of, CanPair}
-use Rattle.conflict_deps.proofs.Common.{ShowsTests, GainsTests, order_at}
-use Rattle.scop_syntax.proofs.Common.{All-get_or}
-use Rattle.integer_sets.specs.Constraints.{system_of}
+use Rattle.scop_syntax.proofs.Common.{◌≡◌, ℕ, ◌+◌, ◌<◌, ◌≤◌, Bool, List, [], ◌∷◌, ◌++◌, length, drop, get_or, ap, ap₂}
+use Rattle.scop_syntax.proofs.Common.{subst, sym, ◌∙◌, refl, add-one, drop-cons, All, flat_map, All-get_or}
+use Rattle.scop_syntax.proofs.Common.{Affine, Access}
+use Rattle.std.proofs.lemmas.List.{append_assoc}
+use Rattle.integer_sets.specs.Constraints.{Constraints, system_of}
+use Rattle.iteration_domains.specs.Sizes.{IsNarrow}
+use Rattle.iteration_domains.specs.Model.{Modelled}
 use Rattle.iteration_domains.specs.Constraints.{constraints_of}
+use Rattle.iteration_domains.specs.Dependence.{Dependence, dependence}
 use Rattle.iteration_domains.specs.declared.dep.DepEnd.{DepEnd}
-use Rattle.conflict_deps.specs.Conflicts.{end_of}
+use Rattle.conflict_deps.specs.Conflicts.{Side, side, sides_from, sides_of, loops_of, pair_size, tests_between, end_of}
+use Rattle.conflict_deps.specs.Conflicts.{dep_of}
+use Rattle.conflict_deps.specs.View.{CanPair, ShowsTests, GainsTests, order_at}
 use Rattle.conflict_deps.specs.declared.deps.PairRows.{PairRows}
 
 -- an access of a statement that the code holds
