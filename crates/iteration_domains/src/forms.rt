@@ -42,14 +42,28 @@ pub fn form_from(alloc: Global, coefficients: &[i128], constant: i128) -> Result
     }
 }
 
+/// Appends numbers of 64 bits.
+///
+/// # Errors
+/// `AllocError` alone.
+pub fn push_numbers(numbers: &mut Numbers, more: &[i64]) -> Result<(), AllocError>
+    ensures { OnOk result (numbers.new.items ≡ numbers.old.items ++ more.now) }
+{
+    for number in more {
+        numbers.push(*number as i128)?;
+    }
+    Ok(())
+}
+
 /// A kernel's form with numbers of 128 bits.
-fn wide_form(alloc: Global, aff: &Aff) -> Result<Form, AllocError>
+///
+/// # Errors
+/// `AllocError` alone.
+pub fn wide_form(alloc: Global, aff: &Aff) -> Result<Form, AllocError>
     ensures { IfOk result (λ f. f ≡ aff.now) }
 {
     let mut coefficients = Numbers::new(alloc);
-    for coefficient in aff.coefficients.as_slice() {
-        coefficients.push(*coefficient as i128)?;
-    }
+    push_numbers(&mut coefficients, aff.coefficients.as_slice())?;
     form_from(alloc, coefficients.as_slice(), aff.constant as i128)
 }
 

@@ -18,8 +18,8 @@ mod statement;
 
 pub use dep::{Dep, DepEnd};
 pub use forms::{
-    Numbers, compose, compose_form, constant_form, form_from, plus_multiple, push_variables,
-    push_zeros, term_form, variable_form,
+    Numbers, compose, compose_form, constant_form, form_from, plus_multiple, push_numbers,
+    push_variables, push_zeros, term_form, variable_form, wide_form,
 };
 pub use items::{Path, enter_loop, enter_scope};
 pub use model::Model;

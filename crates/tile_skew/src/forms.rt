@@ -11,20 +11,12 @@ ghost use Rattle.tile_skew.specs.steps.Sizes.{FitsWidth};
 
 use crate::layout::Layout;
 use affine_forms::{Form, push};
-use iteration_domains::{Numbers, form_from, plus_multiple, push_zeros, variable_form};
+use iteration_domains::{
+    Numbers, form_from, plus_multiple, push_numbers, push_zeros, variable_form,
+};
 use loop_tree::TileRow;
 use scop_syntax::tree::Aff;
 use std::alloc::{AllocError, Global};
-
-/// Appends numbers.
-fn push_numbers(numbers: &mut Numbers, more: &[i64]) -> Result<(), AllocError>
-    ensures { OnOk result (numbers.new.items ≡ numbers.old.items ++ more.now) }
-{
-    for number in more {
-        numbers.push(*number as i128)?;
-    }
-    Ok(())
-}
 
 /// Appends 1 for each row that carries, and 0 for each other.
 fn push_carried(numbers: &mut Numbers, rows: &[TileRow]) -> Result<(), AllocError>

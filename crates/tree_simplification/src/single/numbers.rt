@@ -5,9 +5,9 @@ ghost use Rattle.scop_syntax.specs.Kernel.{AreAtMost};
 ghost use Rattle.loop_tree.specs.Shape.{IsOver, IsUpTo};
 ghost use Rattle.tree_simplification.specs.declared.single.numbers.Stop.TheVariants as stop;
 
-use affine_forms::{Form, FormStop, INLINE, push};
+use affine_forms::{Form, FormStop, push};
+use iteration_domains::wide_form;
 use scop_syntax::tree::Aff;
-use smallvec::SmallVec;
 use std::alloc::{AllocError, Global};
 
 /// Why a tree is not made: a number would pass 2^45, or there is no memory.
@@ -25,20 +25,6 @@ impl From<AllocError> for Stop {
 
     fn from(_: AllocError) -> Stop {
         Stop::NoMemory
-    }
-}
-
-/// A form of a tree with wide numbers.
-pub fn wide(alloc: Global, form: &Aff) -> Result<Form, AllocError>
-    ensures { IfOk result (λ f. f ≡ form.now) }
-{
-    let mut coefficients = SmallVec::<i128, INLINE>::new(alloc);
-    for coefficient in form.coefficients.as_slice() {
-        coefficients.push(*coefficient as i128)?;
-    }
-    match Form::of(alloc, coefficients.as_slice(), form.constant as i128) {
-        Err(_) => Err(AllocError),
-        Ok(wide) => Ok(wide),
     }
 }
 
@@ -89,7 +75,7 @@ pub fn composed(alloc: Global, form: &Aff, forms: &[Form], variables: usize) -> 
     requires sized { All (IsOver variables) forms.now }
     ensures { IfOk result (λ a. a ≡ composed form.now forms.now variables) }
 {
-    let wide = wide(alloc, form)?;
+    let wide = wide_form(alloc, form)?;
     match wide.compose(forms, variables) {
         Ok(composed) => Ok(composed),
         Err(FormStop::Wide(_)) => Err(Stop::Large),

@@ -11,9 +11,10 @@ ghost use Rattle.tree_simplification.specs.steps.Inlined.{AreTestsOf, IsOnce, Is
 use crate::copies::copied_parts;
 use crate::rows::signed;
 use crate::single::heads::push_test;
-use crate::single::numbers::{Stop, wide};
+use crate::single::numbers::Stop;
 use crate::single::rounding::rounded_at_least;
 use affine_forms::{Form, FormStop};
+use iteration_domains::wide_form;
 use loop_tree::{Bound, Bounds, Test};
 use scop_syntax::tree::Aff;
 use std::alloc::{AllocError, Global};
@@ -73,7 +74,7 @@ pub fn shared_form(alloc: Global, lows: &[Bound], ups: &[Bound]) -> Result<Optio
 {
     for part in lows {
         if is_shared(part, ups) {
-            return Ok(Some(wide(alloc, &part.form)?));
+            return Ok(Some(wide_form(alloc, &part.form)?));
         }
     }
     Ok(None)
@@ -84,7 +85,7 @@ fn side_form(alloc: Global, form: &Form, part: &Bound, turned: bool) -> Result<F
     requires { variables_of form.now ≡ variables_of part.now.form }
     ensures { IfOk result (λ f. f ≡ side_form turned form.now part.now) }
 {
-    let own = wide(alloc, &part.form)?;
+    let own = wide_form(alloc, &part.form)?;
     match own.sum_of_multiples(signed(1, turned), signed(part.divisor, !turned), form) {
         Ok(side) => Ok(side),
         Err(FormStop::Wide(_)) => Err(Stop::Large),
