@@ -1,7 +1,7 @@
 //! Rows of a context. Promises exactly those of specs/steps/Context.antt.
 
 ghost use Rattle.std.specs.Prelude.{◌≡◌, ◌≤◌, ◌++◌, ◌+ℤ◌, ◌*ℤ◌, All, IfOk, OnOk, false, insert, length, map};
-ghost use Rattle.whole_numbers.specs.Affine.{form_of, widened};
+ghost use Rattle.whole_numbers.specs.Affine.{widened};
 ghost use Rattle.whole_numbers.specs.Lists.{multiples};
 ghost use Rattle.affine_forms.specs.Parts.{variables_of};
 ghost use Rattle.loop_tree.specs.View.{test_of};
@@ -9,6 +9,7 @@ ghost use Rattle.tree_simplification.specs.steps.Context.{form_row, less_of, par
 ghost use Rattle.tree_simplification.specs.steps.Context.{test_rows, tests_rows};
 
 use affine_forms::{Form, push, push_widened};
+use iteration_domains::form_from;
 use loop_tree::{Bound, Test};
 use scop_syntax::tree::Aff;
 use std::alloc::{AllocError, Global};
@@ -50,16 +51,6 @@ fn signed_coefficients(alloc: Global, form: &Aff, turned: bool) -> Result<Vec<i1
     signed_all(alloc, &form.coefficients, turned)
 }
 
-/// The form of these numbers.
-fn made(alloc: Global, coefficients: &[i128], constant: i128) -> Result<Form, AllocError>
-    ensures { IfOk result (λ f. f ≡ form_of coefficients.now constant) }
-{
-    match Form::of(alloc, coefficients, constant) {
-        Err(_) => Err(AllocError),
-        Ok(form) => Ok(form),
-    }
-}
-
 /// The numbers with one more at a place.
 fn put_at(numbers: &mut Vec<i128>, place: usize, number: i128) -> Result<(), AllocError>
     requires { place ≤ length numbers.old.items }
@@ -76,7 +67,7 @@ pub fn form_row(alloc: Global, form: &Aff, turned: bool, less: bool) -> Result<F
     ensures { IfOk result (λ f. f ≡ form_row turned less form.now) }
 {
     let numbers = signed_coefficients(alloc, form, turned)?;
-    made(alloc, &numbers, signed_less(form.constant, turned, less))
+    form_from(alloc, &numbers, signed_less(form.constant, turned, less))
 }
 
 /// A form less the divisor times the value of the loop behind so many others; or the opposite, or 1 less.
@@ -93,7 +84,7 @@ fn spread(
 {
     let mut numbers = signed_coefficients(alloc, form, turned)?;
     put_at(&mut numbers, loops, signed(divisor, !turned))?;
-    made(alloc, &numbers, signed_less(form.constant, turned, less))
+    form_from(alloc, &numbers, signed_less(form.constant, turned, less))
 }
 
 /// A part of the bounds of the loop behind so many others as a row, or its opposite, or 1 less.
