@@ -5,7 +5,7 @@ ghost use Rattle.scop_syntax.specs.Limits.{WithinLimits};
 ghost use Rattle.scop_syntax.specs.View.{program_of};
 ghost use Rattle.iteration_domains.specs.Model.{Modelled, model_of};
 ghost use Rattle.iteration_domains.specs.Outside.{outside_systems};
-ghost use Rattle.iteration_domains.specs.Sizes.{HaveOneCount};
+ghost use Rattle.iteration_domains.specs.Sizes.{HaveOneCount, IsKernelModel};
 
 use crate::items::{Path, model_items};
 use crate::outside::push_statement;
@@ -62,6 +62,7 @@ impl Model {
     pub fn parameters(&self) -> usize
         ensures parameters { result ≡ self.now.parameters }
         ensures few { result ≤ 4 }
+        ensures kernel { IsKernelModel self.now }
     {
         self.parameters
     }

@@ -79,7 +79,6 @@ impl Goals {
     {
         systems_have_parts();
         let parameters = model.parameters();
-        let _statements = model.statements();
         let deps = conflicts(alloc, model)?;
         let rest = Rest {
             parameters,
