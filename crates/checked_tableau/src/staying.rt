@@ -1,17 +1,9 @@
 //! Rows that a pivot only multiplies, since 0 stands in the pivot's column: their lowest terms stay.
 ghost use Rattle.std.specs.Prelude.{◌≡◌, ◌*ℤ◌, All, true, IsTrue, FitsSigned};
-ghost use Rattle.std.specs.Int.{w64, w128};
+ghost use Rattle.std.specs.Int.{w64};
 ghost use Rattle.whole_numbers.specs.Fits.{fits};
 
-/// Each number has 128 bits, as its type says. Nothing is done: a compiler leaves the loop out.
-#[inline]
-fn read_all(row: &[i128])
-    ensures { All (FitsSigned w128) row.now }
-{
-    for at in 0..row.len() {
-        let _number = row[at];
-    }
-}
+use wide_math::held;
 
 /// Whether each number has 64 bits.
 fn are_narrow(row: &[i128]) -> bool
@@ -31,7 +23,7 @@ pub fn surely_fit(row: &[i128], factor: i128) -> bool
     ensures { result ≡ true → All (λ x. IsTrue (fits (x *ℤ factor))) row.now }
 {
     if factor == 1 {
-        read_all(row);
+        held(row);
         return true;
     }
     i64::try_from(factor).is_ok() && are_narrow(row)

@@ -1,7 +1,6 @@
 //! What the types of a quast's numbers promise of them: 128 bits hold each. These functions look at each number once
 //! and change nothing.
-ghost use Rattle.std.specs.Prelude.{◌≡◌, All, true};
-ghost use Rattle.whole_numbers.specs.Fits.{fits};
+ghost use Rattle.std.specs.Prelude.{All};
 ghost use Rattle.quast_trees.specs.Postfix.{tree_of};
 ghost use Rattle.dataflow.specs.Steps.{IsHeldNode};
 ghost use Rattle.quast_trees.specs.Turns.{IsHeld};
@@ -9,21 +8,13 @@ ghost use Rattle.dataflow.specs.Told.{HoldsNumbers};
 
 use affine_forms::Form;
 use quast_trees::{Node, Quast};
+use wide_math::held;
 
-// The numbers of a list.
-fn look_at_list(numbers: &[i128])
-    ensures { All (λ z. fits z ≡ true) numbers.now }
-{
-    for number in numbers {
-        let _number = *number;
-    }
-}
-
-// Those of a form.
+// The numbers of a form.
 fn look_at_form(form: &Form)
     ensures { IsHeld form.now }
 {
-    look_at_list(form.coefficients());
+    held(form.coefficients());
     let _constant = form.constant();
 }
 

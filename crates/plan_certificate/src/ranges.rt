@@ -8,15 +8,7 @@ ghost use Rattle.plan_certificate.specs.steps.Narrow.{IsNarrowRow, IsNarrowTerm}
 
 use plan_check::{Line, Term};
 use schedule_rows::{Item, Row};
-
-/// Looks at each of some numbers.
-fn read_numbers(numbers: &[i128])
-    ensures { All (FitsSigned w128) numbers.now }
-{
-    for at in 0..numbers.len() {
-        let _number = numbers[at];
-    }
-}
+use wide_math::held;
 
 /// Looks at a number.
 fn read_number(number: i128)
@@ -38,7 +30,7 @@ fn read_values(numbers: &[usize])
 fn read_row(row: &Row)
     ensures { IsNarrowRow (row_of row.now) }
 {
-    read_numbers(&row.u);
+    held(&row.u);
     read_number(row.w);
 }
 

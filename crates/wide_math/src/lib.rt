@@ -5,11 +5,13 @@
 mod divisors;
 mod exactness;
 mod quotients;
+mod ranges;
 mod sums;
 
 pub use divisors::{gcd, gcd_of_sizes};
 pub use exactness::checked_operations_are_exact;
 pub use quotients::{ceil_div, floor_div, remainder};
+pub use ranges::held;
 pub use sums::{add, cross, cross_sum, mul, sub};
 use thiserror::Error;
 

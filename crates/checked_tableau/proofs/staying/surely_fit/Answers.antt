@@ -6,7 +6,7 @@ pub returns-then-factor-eq1 : goal.returns-then-factor-eq1
 returns-then-factor-eq1 c =
     λ (e : true ≡ true). let f : FitsSigned w128 c.args.factor = search rules in
     let one : c.args.factor ≡ pos 1 = search rules in
-    one_fits c.args.factor c.args.row.now one c.read_all.ensures
+    one_fits c.args.factor c.args.row.now one c.held.ensures
 
 pub returns-then-is_ok : goal.returns-then-is_ok
 returns-then-is_ok c =

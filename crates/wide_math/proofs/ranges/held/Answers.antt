@@ -1,7 +1,6 @@
--- One more, and at the end all.
-use Rattle.scop_syntax.proofs.Common.{rules, All, FitsSigned, List, ℤ, pos, get_or, subst, arith, w128, take_all}
-use Rattle.scop_syntax.proofs.Common.{All-more}
-use Rattle.plan_certificate.proofs.ranges.read_numbers.Goals as goal
+use Rattle.whole_numbers.proofs.Common.{rules, All, FitsSigned, List, ℤ, pos, get_or, subst, arith, w128, take_all}
+use Rattle.whole_numbers.proofs.Common.{All-more}
+use Rattle.wide_math.proofs.ranges.held.Goals as goal
 
 pub loop-at-preserved : goal.loop-at-preserved
 loop-at-preserved c =

@@ -1,5 +1,0 @@
-use Rattle.whole_numbers.proofs.Common.{All, FitsSigned, take, w128}
-use Rattle.checked_tableau.proofs.staying.read_all.Given as goal
-
-abbrev pub invariant-loop-at : goal.invariant-loop-at
-invariant-loop-at l = All (FitsSigned w128) (take l.at l.row)
