@@ -43,13 +43,14 @@ tiled_fits fit tile marked program s run ts low own carried params has = record 
 
 -- the plan of a schedule's tiles
 pub tiled_is_plan : RowsFitAlong → (tile budget : ℕ) (report : Bool) (deps : List Dependence) (marked : List ℕ)
-    (program : Program) (s : Scheduled) (run : IsScheduled s) (ts : Trees) (p : Planned) → 1 ≤ tile
+    (program : Program) (s : Scheduled) (run : IsScheduled s) (ts : Trees) (t : Tiling) (p : Planned) → 1 ≤ tile
     → IsScheduleFor program marked s → IsSearched budget deps (model_of program) run.blocks
     → AreTreesOf program marked (tiling_of program tile run.blocks) ts
-    → IsTiledPlan tile report s ts p → IsPlanOver tile budget report deps marked program p
-tiled_is_plan fit tile budget report deps marked program s run ts p low own found carried made =
+    → t ≡ schedule_tiling tile (length s.model.statements) run.blocks
+    → IsTiledPlan report s ts t p → IsPlanOver tile budget report deps marked program p
+tiled_is_plan fit tile budget report deps marked program s run ts t p low own found carried tiles made =
     let plan = tiling_of program tile run.blocks in
-    let is : tiling_in p.tiling ≡ plan = made.is run
+    let is : tiling_in p.tiling ≡ plan = made.is ∙ tiles
     ∙ ap (λ (m : KernelModel). schedule_tiling tile (length m.statements) run.blocks) own.model in
     let carries = subst (λ t. AreTreesOf program marked plan t) (sym made.trees) carried in
     record {

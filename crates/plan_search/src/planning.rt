@@ -44,7 +44,7 @@ fn schedule_plan(
 {
     rows_of_schedules_fit();
     match tiled_tree(alloc, schedule, tile, budget) {
-        Ok(tree) => tiled_plan(alloc, schedule, tree, tile, report),
+        Ok((tree, tiling)) => tiled_plan(alloc, schedule, tree, tiling, report),
         Err(stop) => {
             let stuck = Stuck::Elimination(stop);
             let line = line_of(&stuck);

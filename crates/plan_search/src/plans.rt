@@ -1,6 +1,6 @@
 //! Plans with their lines: of a schedule's tiles, and of the kernel's own order.
 
-ghost use Rattle.std.specs.Prelude.{◌≡◌, ◌≤◌, ℕ, Bool, IfOk, [], true, false};
+ghost use Rattle.std.specs.Prelude.{◌≡◌, ℕ, Bool, IfOk, [], true, false};
 ghost use Rattle.scop_syntax.specs.Kernel.{IsKernel};
 ghost use Rattle.scop_syntax.specs.Tree.{Program};
 ghost use Rattle.scop_syntax.specs.View.{program_of};
@@ -14,7 +14,7 @@ ghost use Rattle.plan_search.specs.steps.Plans.{IsKeptPlan, IsTiledPlan};
 use crate::lines::line_text;
 use loop_tree::{Tiling, Tree};
 use plan_certificate::{KeptLine, schedule_text};
-use plan_tree::{source_tree, tiling};
+use plan_tree::source_tree;
 use pluto_search::{Schedule, dependences_have_one_schedule};
 use scop_syntax::tree::Kernel;
 use std::alloc::{AllocError, Global};
@@ -71,18 +71,16 @@ fn report_lines(alloc: Global, schedule: &Schedule, report: bool) -> Result<Vec<
     Ok(Vec::new(alloc))
 }
 
-/// The plan of a schedule's tiles, of this size, whose tree is given.
+/// The plan of a schedule's tiles, whose tree and tiling are given.
 pub(crate) fn tiled_plan(
     alloc: Global,
     schedule: &Schedule,
     tree: Tree,
-    tile: u64,
+    tiling: Tiling,
     report: bool,
 ) -> Result<Planned, AllocError>
-    requires { (1 ≤ tile) × (tile ≤ 1024) }
-    ensures { IfOk result (IsTiledPlan tile report schedule.now (trees_in tree)) }
+    ensures { IfOk result (IsTiledPlan report schedule.now (trees_in tree) (tiling_of tiling)) }
 {
-    let tiling = tiling(alloc, schedule, tile)?;
     let lines = report_lines(alloc, schedule, report)?;
     Ok(Planned {
         tree,

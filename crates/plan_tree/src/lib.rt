@@ -16,4 +16,3 @@ pub use plain_scan::FmStop;
 pub use planned_trees::laws::{
     loops_end_as_the_source_does, trees_keep_conflicts_in_order, trees_of_plans_can_be_walked,
 };
-pub use tile_skew::tiling;

@@ -1,6 +1,6 @@
 //! The trees of both kinds of plans.
 
-ghost use Rattle.std.specs.Prelude.{◌≡◌, ◌≤◌, ◌<◌, ◌^◌, ℕ, pos, IfErr, IfOk, List};
+ghost use Rattle.std.specs.Prelude.{◌≡◌, ◌≤◌, ◌<◌, ◌^◌, ℕ, pos, IfErr, IfOk, List, length};
 ghost use Rattle.scop_syntax.specs.Kernel.{IsKernel};
 ghost use Rattle.scop_syntax.specs.Tree.{Program};
 ghost use Rattle.scop_syntax.specs.View.{program_of};
@@ -8,17 +8,19 @@ ghost use Rattle.loop_tree.specs.Fits.{AreSmallTrees};
 ghost use Rattle.loop_tree.specs.Shape.{TreesAreUpTo};
 ghost use Rattle.loop_tree.specs.Source.{source_of};
 ghost use Rattle.loop_tree.specs.Tiling.{kept};
+ghost use Rattle.loop_tree.specs.TilingView.{tiling_of as tiling_in};
 ghost use Rattle.loop_tree.specs.View.{trees_in};
 ghost use Rattle.plain_scan.specs.Scanning.{AreScanned, IsScan, StopsScan, dimensions_of};
 ghost use Rattle.plain_scan.specs.Sets.{NumbersRise};
 ghost use Rattle.tile_skew.specs.Schedule.{IsScheduled};
 ghost use Rattle.tile_skew.specs.ScanSets.{scan_sets};
+ghost use Rattle.tile_skew.specs.Tilings.{schedule_tiling};
 ghost use Rattle.planned_trees.specs.Trees.{AreTreesOf};
 ghost use Rattle.plan_tree.specs.Schedules.{IsScheduleFor, StopsTiled, tiling_of};
 
 use crate::tiles::{scans_are_trees_of_tilings, sets_can_be_scanned};
 use integer_sets::ScanSet;
-use loop_tree::Tree;
+use loop_tree::{Tiling, Tree};
 use plain_scan::FmStop;
 use scop_syntax::tree::Kernel;
 use std::alloc::{AllocError, Global};
@@ -26,20 +28,26 @@ use tile_skew::laws::kept_orders_are_good_plans;
 use tile_skew::{Schedule, tiled};
 use tree_simplification::simplified;
 
-/// The scan sets of a kernel's schedule, which can be scanned together.
-fn tiled_sets(alloc: Global, schedule: &Schedule, size: u64) -> Result<Vec<ScanSet>, AllocError>
+/// The tiling of a kernel's schedule, and its scan sets, which can be scanned together.
+fn tiled_sets(
+    alloc: Global,
+    schedule: &Schedule,
+    size: u64,
+) -> Result<(Tiling, Vec<ScanSet>), AllocError>
     requires size { (0 < size) × (size ≤ 1024) }
     requires schedule { (program : Program) × (marked : List ℕ) × IsScheduleFor program marked schedule.now }
-    ensures sets { IfOk result (λ sets. (s : IsScheduled schedule.now)
-        → sets.items ≡ scan_sets (pos size) s.blocks schedule.now.model) }
-    ensures scanned { IfOk result (λ sets. AreScanned sets.items) }
-    ensures rise { IfOk result (λ sets. NumbersRise sets.items) }
-    ensures few { IfOk result (λ sets. dimensions_of sets.items < 2 ^ 32) }
+    requires scheduled { IsScheduled schedule.now }
+    ensures tiling { IfOk result (λ found. (s : IsScheduled schedule.now)
+        → tiling_in found.0 ≡ schedule_tiling size (length schedule.now.model.statements) s.blocks) }
+    ensures sets { IfOk result (λ found. (s : IsScheduled schedule.now)
+        → found.1.items ≡ scan_sets (pos size) s.blocks schedule.now.model) }
+    ensures scanned { IfOk result (λ found. AreScanned found.1.items) }
+    ensures rise { IfOk result (λ found. NumbersRise found.1.items) }
+    ensures few { IfOk result (λ found. dimensions_of found.1.items < 2 ^ 32) }
 {
     sets_can_be_scanned();
-    let _items = schedule.items();
-    let sets = tiled(alloc, schedule, size)?;
-    Ok(sets)
+    let found = tiled(alloc, schedule, size)?;
+    Ok(found)
 }
 
 /// How many dimensions stand before those of so many items.
@@ -68,46 +76,51 @@ fn tree_of_sets(
     }
 }
 
-/// The tree that scans the sets of a kernel's schedule, for tiles of this size.
+/// The tree that scans the sets of a kernel's schedule, for tiles of this size, and the tiling.
 fn scanned_tree(
     alloc: Global,
     schedule: &Schedule,
     size: u64,
     budget: Option<u64>,
-) -> Result<Tree, FmStop>
+) -> Result<(Tree, Tiling), FmStop>
     requires size { (0 < size) × (size ≤ 1024) }
     requires schedule { (program : Program) × (marked : List ℕ) × IsScheduleFor program marked schedule.now }
-    ensures tree { IfOk result (λ t. (program : Program) (marked : List ℕ)
+    ensures scheduled { IfOk result (λ found. IsScheduled schedule.now) }
+    ensures tree { IfOk result (λ found. (program : Program) (marked : List ℕ)
         → IsScheduleFor program marked schedule.now → (s : IsScheduled schedule.now)
-        → AreTreesOf program marked (tiling_of program size s.blocks) (trees_in t)) }
-    ensures numbers { IfOk result (λ t. TreesAreUpTo (2 ^ 40) (trees_in t)) }
-    ensures small { IfOk result (λ t. (d : ℕ) × (d < 2 ^ 32) × AreSmallTrees d (trees_in t)) }
+        → AreTreesOf program marked (tiling_of program size s.blocks) (trees_in found.0)) }
+    ensures tiling { IfOk result (λ found. (s : IsScheduled schedule.now)
+        → tiling_in found.1 ≡ schedule_tiling size (length schedule.now.model.statements) s.blocks) }
+    ensures numbers { IfOk result (λ found. TreesAreUpTo (2 ^ 40) (trees_in found.0)) }
+    ensures small { IfOk result (λ found. (d : ℕ) × (d < 2 ^ 32) × AreSmallTrees d (trees_in found.0)) }
     ensures stops { IfErr result (λ stop. (s : IsScheduled schedule.now)
         → StopsTiled schedule.now.model size s.blocks stop) }
 {
     scans_are_trees_of_tilings();
-    sets_can_be_scanned();
-    let sets = match tiled_sets(alloc, schedule, size) {
+    let items = schedule.items().len();
+    let (tiling, sets) = match tiled_sets(alloc, schedule, size) {
         Err(_) => return Err(FmStop::NoMemory),
-        Ok(sets) => sets,
+        Ok(found) => found,
     };
-    match tree_of_sets(alloc, &sets, schedule.items().len(), budget) {
+    match tree_of_sets(alloc, &sets, items, budget) {
         Err(stop) => Err(stop),
-        Ok(tree) => Ok(tree),
+        Ok(tree) => Ok((tree, tiling)),
     }
 }
 
 /// The loop tree of a kernel's schedule, for tiles of this size, as the hull of its scan sets: one loop
-/// a dimension round all statements, each under all constraints of its set.
+/// a dimension round all statements, each under all constraints of its set; and the tiling.
 ///
 /// # Errors
 /// `Wide`, `Crowded` and `Large` only where the scan of the schedule's scan sets stops so; `NoMemory`.
-pub fn hull_tree(alloc: Global, schedule: &Schedule, size: u64) -> Result<Tree, FmStop>
+pub fn hull_tree(alloc: Global, schedule: &Schedule, size: u64) -> Result<(Tree, Tiling), FmStop>
     requires size { (0 < size) × (size ≤ 1024) }
     requires schedule { (program : Program) × (marked : List ℕ) × IsScheduleFor program marked schedule.now }
-    ensures tree { IfOk result (λ t. (program : Program) (marked : List ℕ)
+    ensures tree { IfOk result (λ found. (program : Program) (marked : List ℕ)
         → IsScheduleFor program marked schedule.now → (s : IsScheduled schedule.now)
-        → AreTreesOf program marked (tiling_of program size s.blocks) (trees_in t)) }
+        → AreTreesOf program marked (tiling_of program size s.blocks) (trees_in found.0)) }
+    ensures tiling { IfOk result (λ found. (s : IsScheduled schedule.now)
+        → tiling_in found.1 ≡ schedule_tiling size (length schedule.now.model.statements) s.blocks) }
     ensures stops { IfErr result (λ stop. (s : IsScheduled schedule.now)
         → StopsTiled schedule.now.model size s.blocks stop) }
 {
@@ -117,7 +130,7 @@ pub fn hull_tree(alloc: Global, schedule: &Schedule, size: u64) -> Result<Tree, 
 /// The loop tree of a kernel's schedule, for tiles of this size: tile by tile within rising waves, the
 /// loop over the first tile coordinate parallel. Each question of the separation of the schedule's scan sets, and each
 /// whether a test or a bound is implied, may make so many moves of the solver; where it wants more the tree is another
-/// one that does the same.
+/// one that does the same. Also the tiling.
 ///
 /// # Errors
 /// `Wide`, `Crowded` and `Large` only where the scan of the schedule's scan sets stops so; `NoMemory`.
@@ -126,24 +139,25 @@ pub fn tiled_tree(
     schedule: &Schedule,
     size: u64,
     budget: u64,
-) -> Result<Tree, FmStop>
+) -> Result<(Tree, Tiling), FmStop>
     requires size { (0 < size) × (size ≤ 1024) }
     requires schedule { (program : Program) × (marked : List ℕ) × IsScheduleFor program marked schedule.now }
-    ensures tree { IfOk result (λ t. (program : Program) (marked : List ℕ)
+    ensures tree { IfOk result (λ found. (program : Program) (marked : List ℕ)
         → IsScheduleFor program marked schedule.now → (s : IsScheduled schedule.now)
-        → AreTreesOf program marked (tiling_of program size s.blocks) (trees_in t)) }
+        → AreTreesOf program marked (tiling_of program size s.blocks) (trees_in found.0)) }
+    ensures tiling { IfOk result (λ found. (s : IsScheduled schedule.now)
+        → tiling_in found.1 ≡ schedule_tiling size (length schedule.now.model.statements) s.blocks) }
     ensures stops { IfErr result (λ stop. (s : IsScheduled schedule.now)
         → StopsTiled schedule.now.model size s.blocks stop) }
 {
-    let _items = schedule.items();
     let parameters = schedule.model().parameters();
-    let scanned = match scanned_tree(alloc, schedule, size, Some(budget)) {
+    let (scanned, tiling) = match scanned_tree(alloc, schedule, size, Some(budget)) {
         Err(stop) => return Err(stop),
-        Ok(scanned) => scanned,
+        Ok(found) => found,
     };
     match simplified(alloc, &scanned, parameters, budget) {
         Err(_) => Err(FmStop::NoMemory),
-        Ok(tree) => Ok(tree),
+        Ok(tree) => Ok((tree, tiling)),
     }
 }
 

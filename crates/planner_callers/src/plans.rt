@@ -18,13 +18,14 @@ ghost use Rattle.loop_tree.specs.Conditions.{CanWalk};
 ghost use Rattle.loop_tree.specs.Plans.{CarryOut, walked};
 ghost use Rattle.loop_tree.specs.Runs.{MayRunAll};
 ghost use Rattle.loop_tree.specs.Tiling.{Items, Tiling, items_at, kept, tile_of, tiled, wave_of};
+ghost use Rattle.loop_tree.specs.TilingView.{tiling_of as tiling_in};
 ghost use Rattle.loop_tree.specs.Tree.{Trees, none};
 ghost use Rattle.loop_tree.specs.View.{trees_in};
 ghost use Rattle.loop_tree.specs.Walk.{Visit, given, visits, walk_all};
 ghost use Rattle.planned_trees.specs.Executions.{AreVisitsOf};
 ghost use Rattle.planned_trees.specs.Trees.{AreTreesOf, StandInOrder};
 ghost use Rattle.schedule_rows.specs.Schedule.{IsScheduled, Scheduled};
-ghost use Rattle.tile_skew.specs.Tilings.{statements_from};
+ghost use Rattle.tile_skew.specs.Tilings.{schedule_tiling, statements_from};
 ghost use Rattle.plan_tree.specs.Schedules.{IsScheduleFor, StopsTiled, tiling_of};
 
 use fm_projection::FmStop;
@@ -50,11 +51,16 @@ pub fn kept_tree(alloc: Global, kernel: &Kernel) -> Result<Tree, AllocError>
 }
 
 /// The hull's tree of a schedule, for tiles of one point, by the clauses of `hull_tree` of these names.
-pub fn hull_tree_of_points(alloc: Global, schedule: &Schedule) -> Result<Tree, FmStop>
+pub fn hull_tree_of_points(
+    alloc: Global,
+    schedule: &Schedule,
+) -> Result<(Tree, loop_tree::Tiling), FmStop>
     requires { (program : Program) × (marked : List ℕ) × IsScheduleFor program marked schedule.now }
-    ensures tree { IfOk result (λ t. (program : Program) (marked : List ℕ)
+    ensures tree { IfOk result (λ found. (program : Program) (marked : List ℕ)
         → IsScheduleFor program marked schedule.now → (s : IsScheduled schedule.now)
-        → AreTreesOf program marked (tiling_of program 1 s.blocks) (trees_in t)) }
+        → AreTreesOf program marked (tiling_of program 1 s.blocks) (trees_in found.0)) }
+    ensures tiling { IfOk result (λ found. (s : IsScheduled schedule.now)
+        → tiling_in found.1 ≡ schedule_tiling 1 (length schedule.now.model.statements) s.blocks) }
     ensures stops { IfErr result (λ stop. (s : IsScheduled schedule.now)
         → StopsTiled schedule.now.model 1 s.blocks stop) }
 {

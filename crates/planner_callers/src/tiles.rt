@@ -27,25 +27,20 @@ use integer_sets::ScanSet;
 use loop_tree::Tiling;
 use schedule_rows::Schedule;
 use std::alloc::{AllocError, Global};
-use tile_skew::{laws, tiled, tiling};
+use tile_skew::{laws, tiled};
 
-/// The tiling of no statement has this size and no items, by the clause of `tiling`.
-pub fn tiles_of_size(alloc: Global, schedule: &Schedule, size: u64) -> Result<Tiling, AllocError>
-    requires { (0 < size) × (size ≤ 1024) }
-    ensures { IfOk result (λ found. IsScheduled schedule.now → length schedule.now.model.statements ≡ 0
-        → tiling_of found ≡ tiled size []) }
-{
-    tiling(alloc, schedule, size)
-}
-
-/// No statement has no scan set, by the clause of `tiled`.
-pub fn sets_of_tiles(
+/// The tiling of no statement has this size and no items, and no statement has no scan set, by the clauses of `tiled`
+/// of these names.
+pub fn tiles_of_size(
     alloc: Global,
     schedule: &Schedule,
     size: u64,
-) -> Result<Vec<ScanSet>, AllocError>
+) -> Result<(Tiling, Vec<ScanSet>), AllocError>
     requires { (0 < size) × (size ≤ 1024) }
-    ensures { IfOk result (λ sets. IsScheduled schedule.now → schedule.now.model.statements ≡ [] → sets.items ≡ []) }
+    ensures tiling { IfOk result (λ found. IsScheduled schedule.now → length schedule.now.model.statements ≡ 0
+        → tiling_of found.0 ≡ tiled size []) }
+    ensures sets { IfOk result (λ found. IsScheduled schedule.now → schedule.now.model.statements ≡ []
+        → found.1.items ≡ []) }
 {
     tiled(alloc, schedule, size)
 }

@@ -65,7 +65,7 @@ fn scanned(alloc: Global, schedule: &Schedule, size: u64, scan: Scan) -> Result<
         Scan::Separated => tiled_tree(alloc, schedule, size, BUDGET),
     };
     match found {
-        Ok(tree) => Ok(tree),
+        Ok(tiled) => Ok(tiled.0),
         Err(_) => Err(AllocError),
     }
 }

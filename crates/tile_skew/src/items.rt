@@ -1,16 +1,16 @@
-//! The tiling of a schedule: of each statement its items in order, as forms over the turns of its loops.
+//! The items of each statement of a schedule in order, as forms over the turns of its loops.
 ghost use Rattle.std.specs.Prelude.{◌≡◌, ◌<◌, ◌≤◌, ◌+◌, ◌-◌, ◌++◌, ◌∷◌, [], All, IfOk, OnOk, drop, length, map, take};
 ghost use Rattle.whole_numbers.specs.Affine.{form_of};
-ghost use Rattle.loop_tree.specs.TilingView.{item_of as tile_item_of, items_of as tile_items_of, tiling_of};
+ghost use Rattle.loop_tree.specs.TilingView.{item_of as tile_item_of, items_of as tile_items_of};
 ghost use Rattle.schedule_rows.specs.Schedule.{item_of, row, row_of, loops_in, IsScheduled};
 ghost use Rattle.schedule_rows.specs.Posed.{loops_of};
 ghost use Rattle.schedule_rows.specs.Sized.{IsSmall};
-ghost use Rattle.tile_skew.specs.Tilings.{form_at, schedule_tiling, statement_items};
+ghost use Rattle.tile_skew.specs.Tilings.{form_at, statement_items};
 ghost use Rattle.tile_skew.specs.steps.Sizes.{FitsItem, FitsTurns};
 ghost use Rattle.tile_skew.specs.steps.Listed.{AreBounds, HasStatement, IsInside, item_at, leading_in, rows_in};
 
 use affine_forms::push;
-use loop_tree::{TileItem, TileItems, TileRow, Tiling};
+use loop_tree::{TileItem, TileItems, TileRow};
 use schedule_rows::{Band, Item, Part, Row, Schedule, schedules_have_small_items};
 use scop_syntax::tree::Aff;
 use std::alloc::{AllocError, Global};
@@ -169,21 +169,4 @@ pub fn statement(alloc: Global, schedule: &Schedule, k: usize) -> Result<TileIte
         band: first_band(alloc, schedule, first, behind, k)?,
         behind: tile_items(alloc, items, behind, k)?,
     })
-}
-
-/// The tiling of a schedule, with this size of tiles.
-///
-/// # Errors
-/// `AllocError` alone.
-pub fn tiling(alloc: Global, schedule: &Schedule, size: u64) -> Result<Tiling, AllocError>
-    requires { (0 < size) × (size ≤ 1024) }
-    ensures { IfOk result (λ found. (s : IsScheduled schedule.now)
-        → tiling_of found ≡ schedule_tiling size (length schedule.now.model.statements) s.blocks) }
-{
-    let count = schedule.model().statements().len();
-    let mut statements = Vec::new(alloc);
-    for k in 0..count {
-        statements.push(statement(alloc, schedule, k)?)?;
-    }
-    Ok(Tiling::Tiled(size, statements))
 }

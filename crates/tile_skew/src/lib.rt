@@ -2,10 +2,9 @@
 //! the set of its instances at their places in the scanned order, tile by tile within rising waves (U. Bondhugula and
 //! others, "A practical automatic polyhedral parallelizer and locality optimizer", PLDI 2008; scattering dimensions:
 //! C. Bastoul, "Code generation in the polyhedral model is easier than you think", PACT 2004).
-//! Promises that `tiling` is exactly that of specs/Tilings.antt and `tiled` gives exactly the sets of
-//! specs/ScanSets.antt, that the tiling of a schedule of covers is a good plan at all parameters, that the whole points
-//! of those sets are the places of the instances, each once, that places come in the tiling's order, and that those
-//! sets can be scanned (`laws`).
+//! Promises that `tiled` gives exactly the tiling of specs/Tilings.antt and the sets of specs/ScanSets.antt, that the
+//! tiling of a schedule of covers is a good plan at all parameters, that the whole points of those sets are the places
+//! of the instances, each once, that places come in the tiling's order, and that those sets can be scanned (`laws`).
 #![tactic(auto)]
 
 mod forms;
@@ -15,7 +14,6 @@ mod layout;
 mod sets;
 mod statement_sets;
 
-pub use items::tiling;
 pub use statement_sets::tiled;
 
 // Passed on: what goes with this crate's contracts.

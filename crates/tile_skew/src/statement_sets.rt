@@ -1,9 +1,10 @@
-//! The scan sets of a schedule's statements, in textual order.
+//! The tiling of a schedule, and the scan sets of its statements, in textual order.
 ghost use Rattle.std.specs.Prelude.{◌≡◌, ◌+◌, ◌<◌, ◌≤◌, ◌^◌, All, pos, IfOk, length, max};
-ghost use Rattle.loop_tree.specs.TilingView.{item_of, items_of};
+ghost use Rattle.loop_tree.specs.TilingView.{item_of, items_of, tiling_of};
 ghost use Rattle.schedule_rows.specs.Schedule.{IsScheduled};
 ghost use Rattle.tile_skew.specs.ScanSets.{front_of, most_iterators as greatest, parallel_place as place_in, points_of};
 ghost use Rattle.tile_skew.specs.ScanSets.{scan_set as set_of, scan_sets, width};
+ghost use Rattle.tile_skew.specs.Tilings.{schedule_tiling};
 ghost use Rattle.tile_skew.specs.steps.Sizes.{FitsItem, FitsTurns};
 
 use crate::items::statement;
@@ -11,7 +12,7 @@ use crate::layout::{Layout, layout_of};
 use crate::sets::{equalities, rows};
 use integer_sets::{ScanSet, System};
 use iteration_domains::StatementModel;
-use loop_tree::TileItems;
+use loop_tree::{TileItems, Tiling};
 use schedule_rows::Schedule;
 use std::alloc::{AllocError, Global};
 
@@ -96,24 +97,32 @@ fn most_iterators(statements: &[StatementModel]) -> usize
     most
 }
 
-/// The scan sets of a schedule's statements, in textual order, for tiles of this size. A set's dimensions: the scalars
-/// before the first row, the wave sum, the tile coordinates, all items, the iterators, and zeros where another
-/// statement has more of them. The mark is the first tile coordinate's dimension.
+/// The tiling of a schedule, for tiles of this size, and the scan sets of its statements, in textual order. A set's
+/// dimensions: the scalars before the first row, the wave sum, the tile coordinates, all items, the iterators, and
+/// zeros where another statement has more of them. The mark is the first tile coordinate's dimension.
 ///
 /// # Errors
 /// `AllocError` alone.
-pub fn tiled(alloc: Global, schedule: &Schedule, size: u64) -> Result<Vec<ScanSet>, AllocError>
+pub fn tiled(
+    alloc: Global,
+    schedule: &Schedule,
+    size: u64,
+) -> Result<(Tiling, Vec<ScanSet>), AllocError>
     requires { (0 < size) × (size ≤ 1024) }
-    ensures { IfOk result (λ sets. (s : IsScheduled schedule.now)
-        → sets.items ≡ scan_sets (pos size) s.blocks schedule.now.model) }
+    ensures tiling { IfOk result (λ found. (s : IsScheduled schedule.now)
+        → tiling_of found.0 ≡ schedule_tiling size (length schedule.now.model.statements) s.blocks) }
+    ensures sets { IfOk result (λ found. (s : IsScheduled schedule.now)
+        → found.1.items ≡ scan_sets (pos size) s.blocks schedule.now.model) }
 {
     let statements = schedule.model().statements();
     let most = most_iterators(statements);
+    let mut tiles = Vec::new(alloc);
     let mut sets = Vec::new(alloc);
     for k in 0..statements.len() {
         let items = statement(alloc, schedule, k)?;
         let set = scan_set(alloc, size, most, &statements[k], &items)?;
         sets.push(set)?;
+        tiles.push(items)?;
     }
-    Ok(sets)
+    Ok((Tiling::Tiled(size, tiles), sets))
 }

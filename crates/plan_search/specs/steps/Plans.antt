@@ -1,16 +1,15 @@
 -- A plan that is put together of its parts.
-use Rattle.std.specs.Prelude.{◌≡◌, ◌⊎◌, ℕ, ℤ, Bool, List, [], Option, length}
+use Rattle.std.specs.Prelude.{◌≡◌, ◌⊎◌, ℕ, ℤ, Bool, List, [], Option}
 use Rattle.scop_syntax.specs.Limits.{HasParameters}
 use Rattle.scop_syntax.specs.Tree.{Program}
 use Rattle.iteration_domains.specs.Dependence.{Dependence}
 use Rattle.loop_tree.specs.Source.{source_of}
-use Rattle.loop_tree.specs.Tiling.{kept}
+use Rattle.loop_tree.specs.Tiling.{Tiling, kept}
 use Rattle.loop_tree.specs.TilingView.{tiling_of}
 use Rattle.loop_tree.specs.Tree.{Trees}
 use Rattle.loop_tree.specs.View.{trees_in}
 use Rattle.loop_tree.specs.Walk.{visits}
 use Rattle.pluto_search.specs.Schedule.{Scheduled, IsScheduled}
-use Rattle.plan_tree.specs.Tilings.{schedule_tiling}
 use Rattle.plan_tree.specs.Trees.{AreTreesOf}
 use Rattle.tile_list.specs.Tiles.{CanTile}
 use Rattle.plan_certificate.specs.KeptLine.{KeptLine}
@@ -18,10 +17,10 @@ use Rattle.plan_search.specs.declared.plans.Planned.{Planned}
 use Rattle.plan_search.specs.Planned.{AreKept, AreTiled, report_of}
 use Rattle.plan_search.specs.Planning.{IsLineText}
 
--- these trees, the tiling of the schedule, and its text where a report is asked for
-pub record IsTiledPlan (tile : ℕ) (report : Bool) (s : Scheduled) (ts : Trees) (p : Planned) : Type 0 where
+-- these trees, this tiling, and the schedule's text where a report is asked for
+pub record IsTiledPlan (report : Bool) (s : Scheduled) (ts : Trees) (plan : Tiling) (p : Planned) : Type 0 where
   pub trees : trees_in p.tree ≡ ts
-  pub is : (run : IsScheduled s) → tiling_of p.tiling ≡ schedule_tiling tile (length s.model.statements) run.blocks
+  pub is : tiling_of p.tiling ≡ plan
   pub told : (run : IsScheduled s) → p.lines.items ≡ report_of report run.blocks
 
 -- the source's own loops, kept, and the line's text

@@ -13,8 +13,8 @@ tree_of_sets-requires-clause-scanned c = subst AreScanned (sym c.deref.ensures.v
 pub tree_of_sets-requires-clause-rise : goal.tree_of_sets-requires-clause-rise
 tree_of_sets-requires-clause-rise c = subst NumbersRise (sym c.deref.ensures.value) c.in-Ok.ensures.rise
 
-pub returns-clause-tree : goal.returns-clause-tree
-returns-clause-tree c program marked is s =
+pub returns-in-Ok-tree_of_sets-clause-tree : goal.returns-in-Ok-tree_of_sets-clause-tree
+returns-in-Ok-tree_of_sets-clause-tree c program marked is s =
     let size = c.args.size in
     let ts = trees_in c.in-Ok-tree_of_sets.tree in
     let same : c.deref.result.now ≡ sets_of program size s.blocks =
@@ -28,8 +28,8 @@ returns-in-Err-tree_of_sets-clause-stops c s =
     subst (λ (ss : List Scanned). StopsScan ss c.in-Err-tree_of_sets.stop)
     (c.deref.ensures.value ∙ c.in-Ok.ensures.sets s) c.in-Err-tree_of_sets.ensures.stops
 
-pub returns-clause-small : goal.returns-clause-small
-returns-clause-small c =
+pub returns-in-Ok-tree_of_sets-clause-small : goal.returns-in-Ok-tree_of_sets-clause-small
+returns-in-Ok-tree_of_sets-clause-small c =
     let few = subst (λ (ss : List Scanned). dimensions_of ss < 2 ^ 32) (sym c.deref.ensures.value) c.in-Ok.ensures.few
     in
     (dimensions_of c.deref.result.now, few, c.in-Ok-tree_of_sets.ensures.scan.numbers)

@@ -10,8 +10,8 @@ pub returns-in-Ok : goal.returns-in-Ok
 returns-in-Ok c program params is has =
     let s = c.items-items.ensures.schedule in
     let tiling = tiling_of program c.args.size s.blocks in
-    let trees : AreTreesOf program [] tiling (trees_in c.in-Ok.tree) = elim c.match-scan.branch [
+    let trees : AreTreesOf program [] tiling (trees_in c.in-Ok.tiled.0) = elim c.match-scan.branch [
       | in-Hull w ↦ IfOk-at_ok _ (sym w.found-is ∙ c.in-Ok.is) w.hull_tree-found.ensures.tree program [] is s
       | in-Separated w ↦ IfOk-at_ok _ (sym w.found-is ∙ c.in-Ok.is) w.tiled_tree-found.ensures.tree program [] is s
     ] in
-    c.trees_of_plans_can_be_walked.ensures program params [] tiling (trees_in c.in-Ok.tree) trees has
+    c.trees_of_plans_can_be_walked.ensures program params [] tiling (trees_in c.in-Ok.tiled.0) trees has
