@@ -1,11 +1,9 @@
 -- Straight-line code: what its steps make depends on the leaves and slots that they name alone.
-use Rattle.scop_syntax.proofs.Common.{◌≡◌, ◌∙◌, ap, ap₂, refl, subst, ℕ, suc, ◌+◌, ◌-◌, ◌*◌, ◌/◌, ◌%◌, ◌^◌, ◌<◌, ◌≤◌}
-use Rattle.scop_syntax.proofs.Common.{List, [], ◌∷◌, ◌++◌, length, get_or, arith, get_or_append_left, length_push}
-use Rattle.scop_syntax.proofs.Common.{applied, operator_of}
-use Rattle.tile_table.specs.Codes.{AreSteps, IsStep, made, worked}
+use Rattle.scop_syntax.proofs.Common.{◌≡◌, ◌∙◌, ap, ap₂, refl, subst, ℕ, suc, ◌+◌, ◌<◌, ◌≤◌, List, [], ◌∷◌, ◌++◌}
+use Rattle.scop_syntax.proofs.Common.{length, get_or, arith, get_or_append_left, length_push, applied, operator_of}
+use Rattle.tile_table.specs.Codes.{AreSteps, IsStep, changed, made, worked}
 use Rattle.tile_table.specs.declared.code.Step.{Step}
-use Rattle.tile_table.specs.declared.code.Step.TheVariants.{Constant, Affine, Negated, Complemented, Binary}
-use Rattle.tile_table.specs.declared.code.Step.TheVariants.{ShiftedLeft, ShiftedRight, Narrowed}
+use Rattle.tile_table.specs.declared.code.Step.TheVariants.{Constant, Affine, Unary, Binary}
 
 -- where there are more leaves, a step names some of them still
 step_within : (n k m : ℕ) (step : Step) → n ≤ k → IsStep n m step → IsStep k m step
@@ -21,14 +19,9 @@ pub made_same : (n m : ℕ) (ls ks xs ys : List ℕ) (step : Step) → IsStep n 
     → made ls xs step ≡ made ks ys step
 made_same n m ls ks xs ys (Constant c) is leaves slots = refl
 made_same n m ls ks xs ys (Affine a) is leaves slots = leaves a is
-made_same n m ls ks xs ys (Negated a) is leaves slots = ap (λ (x : ℕ). (2 ^ 64 - x) % 2 ^ 64) (slots a is)
-made_same n m ls ks xs ys (Complemented a) is leaves slots = ap (λ (x : ℕ). 2 ^ 64 - 1 - x) (slots a is)
+made_same n m ls ks xs ys (Unary change a) is leaves slots = ap (λ (x : ℕ). changed change x) (slots a is)
 made_same n m ls ks xs ys (Binary op a b) is leaves slots =
     ap₂ (applied (operator_of op)) (slots a is.0) (slots b is.1)
-made_same n m ls ks xs ys (ShiftedLeft a count) is leaves slots =
-    ap (λ (x : ℕ). (x * 2 ^ count) % 2 ^ 64) (slots a is)
-made_same n m ls ks xs ys (ShiftedRight a count) is leaves slots = ap (λ (x : ℕ). x / 2 ^ count) (slots a is)
-made_same n m ls ks xs ys (Narrowed a) is leaves slots = ap (λ (x : ℕ). x % 2 ^ 32) (slots a is)
 
 -- steps that name leaves and slots that there are do so where there are more leaves
 pub steps_within : (n k m : ℕ) (steps : List Step) → n ≤ k → AreSteps n m steps → AreSteps k m steps

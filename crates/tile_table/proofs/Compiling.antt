@@ -9,13 +9,14 @@ use Rattle.std.proofs.lemmas.List.{get_or_push}
 use Rattle.scop_syntax.specs.Tree.{constant}
 use Rattle.scop_meaning.proofs.Chains.{chained_value}
 use Rattle.scop_syntax.specs.declared.tree.Operator.{Operator as CodeOperator}
-use Rattle.tile_table.specs.Codes.{AreSteps, IsStep, leaves_at, made, worked}
+use Rattle.tile_table.specs.Codes.{AreSteps, IsStep, changed, leaves_at, made, worked}
 use Rattle.tile_table.specs.Points.{point_in}
+use Rattle.tile_table.specs.declared.code.Change.{Change}
 use Rattle.tile_table.specs.declared.code.Code.{Code}
 use Rattle.tile_table.specs.declared.code.Step.{Step}
-use Rattle.tile_table.specs.declared.code.Step.TheVariants.{Constant, Affine as Leaf, Binary}
+use Rattle.tile_table.specs.declared.code.Step.TheVariants.{Constant, Affine as Leaf, Unary, Binary}
 use Rattle.tile_table.specs.steps.Codes.{GoesOn, IsBegun, IsPut, Makes, MakesStored, MakesValue, slots_by}
-use Rattle.tile_table.specs.steps.AffineParts.{IsFormOver}
+use Rattle.tile_table.specs.steps.Forms.{IsFormOver}
 use Rattle.tile_table.proofs.Codes.{Agree, steps_more, steps_within, worked_front, worked_long, worked_more, worked_same}
 
 -- the slots behind a step more
@@ -153,30 +154,16 @@ form_made params heads form over at old new result begun told =
     ∙ (ap (λ (l : List ℕ). get_or l (length old.leaves.items) 0) (map-append f old.leaves.items (over ∷ []))
     ∙ (get_or_push (leaves_at old turns) (f over) 0 (length old.leaves.items) count ∙ told turns many))) put)
 
--- a value more, by what its step makes of one that was made
-pub step_made : {E : Type 0} (loops : ℕ) (value meant : List ℤ → List ℕ → ℕ) (f : ℕ → ℕ) (step : Step)
-    (old mid new : Code) (part : ℕ) (result : Result ℕ E) → Makes loops meant old mid part
-    → ((n m : ℕ) → part < m → IsStep n m step) → ((ls xs : List ℕ) → made ls xs step ≡ f (get_or xs part 0))
-    → ((turns : List ℤ) (values : List ℕ) → value turns values ≡ f (meant turns values))
-    → IfOk result (IsPut [] step mid new) → IfOk result (Makes loops value old new)
-step_made loops value meant f step old mid new part result of_part names makes is =
-    IfOk-weaker result (IsPut [] step mid new) (Makes loops value old new) (λ slot put.
-    put_makes loops value [] step old mid new slot of_part.code (names _ _ of_part.there)
+-- a value more, by what a change makes of one that was made
+pub change_made : {E : Type 0} (loops : ℕ) (value meant : List ℤ → List ℕ → ℕ) (change : Change) (old mid new : Code)
+    (part : ℕ) (result : Result ℕ E) → Makes loops meant old mid part
+    → ((turns : List ℤ) (values : List ℕ) → value turns values ≡ changed change (meant turns values))
+    → IfOk result (IsPut [] (Unary change part) mid new) → IfOk result (Makes loops value old new)
+change_made loops value meant change old mid new part result of_part is =
+    IfOk-weaker result (IsPut [] (Unary change part) mid new) (Makes loops value old new) (λ slot put.
+    put_makes loops value [] (Unary change part) old mid new slot of_part.code of_part.there
     (λ turns values many long.
-    makes (leaves_at new turns) (slots_by mid turns values)
-    ∙ (ap f (of_part.value turns values many long) ∙ sym (is turns values))) put)
-
--- a node of one part
-pub unary_made : {E : Type 0} (params : List ℤ) (heads : List Head) (whole node e : Expression) (f : ℕ → ℕ) (step : Step)
-    (at : ℕ) (old mid new : Code) (part : ℕ) (result : Result ℕ E) → whole ≡ node
-    → MakesValue params heads e at old mid part → ((n m : ℕ) → part < m → IsStep n m step)
-    → ((ls xs : List ℕ) → made ls xs step ≡ f (get_or xs part 0))
-    → ((point : List ℤ) (vs : List ℕ) → value_on node point vs ≡ f (value_on e point vs))
-    → IfOk result (IsPut [] step mid new) → IfOk result (MakesValue params heads whole at old new)
-unary_made params heads whole node e f step at old mid new part result is of_part names makes value =
-    step_made (length heads) _ _ f step old mid new part result of_part names makes (λ turns values.
-    ap (λ (x : Expression). value_on x (point_in heads params turns) (drop at values)) is
-    ∙ value (point_in heads params turns) (drop at values))
+    ap (λ (x : ℕ). changed change x) (of_part.value turns values many long) ∙ sym (is turns values)) put)
 
 -- a node of two parts, whose reads stand one behind the other
 pub binary_made : {E : Type 0} (params : List ℤ) (heads : List Head) (whole e f : Expression) (op : CodeOperator)
@@ -201,26 +188,25 @@ binary_made params heads whole e f op at next old one two new a b result is firs
 nowhere : Access
 nowhere = record { array = 0; subscripts = [] }
 
--- a right side of a value read first, by what its step makes of that
-pub moved_made : {E : Type 0} (params : List ℤ) (heads : List Head) (own node : Right) (f : ℕ → ℕ) (step : Step)
-    (old new : Code) (result : Result ℕ E) → own ≡ node → IsBegun old
+-- a right side of a value read first, by what a change makes of that
+pub moved_made : {E : Type 0} (params : List ℤ) (heads : List Head) (own node : Right) (change : Change) (old new : Code)
+    (result : Result ℕ E) → own ≡ node → IsBegun old
     → ((place : Access) → old.reads ≡ length (reads_with place own))
-    → ((place : Access) → length (reads_with place node) ≡ 1) → ((n m : ℕ) → 0 < m → IsStep n m step)
-    → ((ls xs : List ℕ) → made ls xs step ≡ f (get_or xs 0 0))
-    → ((point : List ℤ) (vs : List ℕ) → stored_by node point vs ≡ f (get_or vs 0 0))
-    → IfOk result (IsPut [] step old new) → IfOk result (MakesStored params heads own old new)
-moved_made params heads own node f step old new result is begun reads one names makes value =
+    → ((place : Access) → length (reads_with place node) ≡ 1)
+    → ((point : List ℤ) (vs : List ℕ) → stored_by node point vs ≡ changed change (get_or vs 0 0))
+    → IfOk result (IsPut [] (Unary change 0) old new) → IfOk result (MakesStored params heads own old new)
+moved_made params heads own node change old new result is begun reads one value =
     let count = reads nowhere in
     let same = ap (λ (r : Right). length (reads_with nowhere r)) is in
     let single = one nowhere in
     let some : 0 < old.reads = omega (arith, count, same, single) in
-    IfOk-weaker result (IsPut [] step old new) (MakesStored params heads own old new) (λ slot put.
-    put_makes (length heads) _ [] step old old new slot (goes_nowhere old begun) (names _ _ (omega (arith, some)))
+    IfOk-weaker result (IsPut [] (Unary change 0) old new) (MakesStored params heads own old new) (λ slot put.
+    put_makes (length heads) _ [] (Unary change 0) old old new slot (goes_nowhere old begun) (omega (arith, some))
     (λ turns values many long.
     let point = point_in heads params turns in
-    makes (leaves_at new turns) (slots_by old turns values)
-    ∙ (ap f (worked_front (leaves_at old turns) old.steps.items values 0 (omega (arith, long, some)))
-    ∙ (sym (value point values) ∙ ap (λ (r : Right). stored_by r point values) (sym is)))) put)
+    ap (λ (x : ℕ). changed change x)
+    (worked_front (leaves_at old turns) old.steps.items values 0 (omega (arith, long, some)))
+    ∙ (sym (value point values) ∙ ap (λ (r : Right). stored_by r point values) (sym is))) put)
 
 -- a right side of a value read first and an expression
 pub combined_made : {E : Type 0} (params : List ℤ) (heads : List Head) (own : Right) (e : Expression) (op : CodeOperator)

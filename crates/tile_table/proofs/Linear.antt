@@ -1,11 +1,11 @@
--- A point within loops, and the number of an access's cell there, as forms of the turns.
+-- A point within loops, and the number of a cell there, as forms of the turns.
 use Rattle.scop_syntax.proofs.Common.{◌≡◌, ◌∙◌, ap, ap₂, sym, refl, ℕ, suc, ◌+◌, ◌-◌, ◌<◌, ◌≤◌, List, [], ◌∷◌, ◌++◌}
 use Rattle.scop_syntax.proofs.Common.{length, map, drop, get_or, set, arith, drop-cons, length-append, ℤ, pos, ◌+ℤ◌}
-use Rattle.scop_syntax.proofs.Common.{◌*ℤ◌, slice_index_or, take, ints, map-append, length-set, Affine, composed}
+use Rattle.scop_syntax.proofs.Common.{◌*ℤ◌, ints, map-append, length-set, Affine, composed}
 use Rattle.scop_syntax.proofs.Common.{form_of, multiple_of_form, sum_of_forms, value_of, values_of, dot, zeros}
 use Rattle.scop_syntax.proofs.Common.{dot_comm, dot-padded, dot-unit, dot-zeros, length-zeros, value_of-composed}
-use Rattle.scop_syntax.proofs.Common.{value_of-multiple, value_of-sum, values, total_cells, Access, Head, turn_point}
-use Rattle.tile_table.specs.Numbers.{number_at, row_major}
+use Rattle.scop_syntax.proofs.Common.{value_of-multiple, value_of-sum, values, Head, turn_point}
+use Rattle.tile_table.specs.Numbers.{number_behind, row_major}
 use Rattle.tile_table.specs.Points.{point_in}
 use Rattle.tile_table.specs.steps.Forms.{constants, number_form, offset_form, point_forms, turn_form}
 use Rattle.tile_table.proofs.LoopPoints.{point_by_front}
@@ -64,34 +64,33 @@ composed_values (form ∷ forms) inner n turns =
     ap₂ (λ (x : ℤ) (xs : List ℤ). x ∷ xs) (value_of-composed form inner n turns) (composed_values forms inner n turns)
 
 -- the form's value at n turns is the number
-number_value : (n : ℕ) (extents : List (List ℕ)) (heads : List Head) (params : List ℤ) (access : Access)
+number_value : (n before : ℕ) (extents : List ℕ) (subscripts : List Affine) (heads : List Head) (params : List ℤ)
     (turns : List ℤ) → length heads ≤ n → length turns ≡ n
-    → value_of (number_form n extents heads params access) turns
-    ≡ number_at extents access (point_in heads params turns)
+    → value_of (number_form n before extents subscripts heads params) turns
+    ≡ number_behind before extents subscripts (point_in heads params turns)
 unfolding number_form
-number_value n extents heads params access turns few long =
-    let own = slice_index_or extents access.array [] in
-    let before = form_of [] (pos (total_cells (take access.array extents))) in
+number_value n before extents subscripts heads params turns few long =
+    let first = form_of [] (pos before) in
     let inner = point_forms n heads (constants params) 0 in
-    let subscripts = map (λ form. composed form inner n) access.subscripts in
+    let told = map (λ form. composed form inner n) subscripts in
     let none : value_of (form_of [] (pos 0)) turns ≡ pos 0 = omega (arith, ints) in
-    let front : value_of before turns ≡ pos (total_cells (take access.array extents)) = omega (arith, ints) in
+    let front : value_of first turns ≡ pos before = omega (arith, ints) in
     let point : values_of inner turns ≡ point_in heads params turns =
     point_value n heads (constants params) 0 turns (omega (arith, few)) long
     ∙ ap (λ (p : List ℤ). point_in heads p turns) (constants_value params turns) in
-    value_of-sum before (offset_form (form_of [] (pos 0)) own subscripts) turns
+    value_of-sum first (offset_form (form_of [] (pos 0)) extents told) turns
     ∙ ap₂ (λ (x y : ℤ). x +ℤ y) front
-    (offset_value (form_of [] (pos 0)) own subscripts turns
-    ∙ ap₂ (λ (z : ℤ) (ss : List ℤ). row_major z own ss) none
-    (composed_values access.subscripts inner n turns ∙ ap (values access.subscripts) point))
+    (offset_value (form_of [] (pos 0)) extents told turns
+    ∙ ap₂ (λ (z : ℤ) (ss : List ℤ). row_major z extents ss) none
+    (composed_values subscripts inner n turns ∙ ap (values subscripts) point))
 
 -- at the turns of the loops alone, too
-pub number_told : (n : ℕ) (extents : List (List ℕ)) (heads : List Head) (params : List ℤ) (access : Access)
+pub number_told : (n before : ℕ) (extents : List ℕ) (subscripts : List Affine) (heads : List Head) (params : List ℤ)
     (turns : List ℤ) → length turns ≡ length heads → length heads ≤ n
-    → value_of (number_form n extents heads params access) turns
-    ≡ number_at extents access (point_in heads params turns)
-number_told n extents heads params access turns long few =
-    let form = number_form n extents heads params access in
+    → value_of (number_form n before extents subscripts heads params) turns
+    ≡ number_behind before extents subscripts (point_in heads params turns)
+number_told n before extents subscripts heads params turns long few =
+    let form = number_form n before extents subscripts heads params in
     let all = turns ++ zeros (n - length turns) in
     let more = length-append turns (zeros (n - length turns)) in
     let count = length-zeros (n - length turns) in
@@ -99,29 +98,29 @@ number_told n extents heads params access turns long few =
     dot_comm form.coefficients turns
     ∙ (sym (dot-padded turns (n - length turns) form.coefficients) ∙ dot_comm all form.coefficients) in
     ap (λ (z : ℤ). z +ℤ form.constant) padded
-    ∙ (number_value n extents heads params access all few (omega (arith, long, few, more, count))
-    ∙ ap (number_at extents access)
+    ∙ (number_value n before extents subscripts heads params all few (omega (arith, long, few, more, count))
+    ∙ ap (number_behind before extents subscripts)
     (point_by_front heads params turns (zeros (n - length turns)) (omega (arith, long))))
 
 -- its constant is the number at no turns, a coefficient what one turn adds
-pub constant_told : (n : ℕ) (extents : List (List ℕ)) (heads : List Head) (params : List ℤ) (access : Access)
-    → length heads ≤ n
-    → number_at extents access (point_in heads params (zeros n))
-    ≡ (number_form n extents heads params access).constant
-constant_told n extents heads params access few =
-    let form = number_form n extents heads params access in
+pub constant_told : (n before : ℕ) (extents : List ℕ) (subscripts : List Affine) (heads : List Head)
+    (params : List ℤ) → length heads ≤ n
+    → number_behind before extents subscripts (point_in heads params (zeros n))
+    ≡ (number_form n before extents subscripts heads params).constant
+constant_told n before extents subscripts heads params few =
+    let form = number_form n before extents subscripts heads params in
     let none = dot_comm form.coefficients (zeros n) ∙ dot-zeros n form.coefficients in
-    sym (number_value n extents heads params access (zeros n) few (length-zeros n)) ∙ (omega (arith, ints))
+    sym (number_value n before extents subscripts heads params (zeros n) few (length-zeros n)) ∙ (omega (arith, ints))
 
-pub coefficient_told : (n : ℕ) (extents : List (List ℕ)) (heads : List Head) (params : List ℤ) (access : Access) (k : ℕ)
-    → length heads ≤ n → k < n
-    → number_at extents access (point_in heads params (set (zeros n) k (pos 1)))
-    ≡ get_or (number_form n extents heads params access).coefficients k (pos 0)
-    +ℤ (number_form n extents heads params access).constant
-coefficient_told n extents heads params access k few less =
-    let form = number_form n extents heads params access in
+pub coefficient_told : (n before : ℕ) (extents : List ℕ) (subscripts : List Affine) (heads : List Head)
+    (params : List ℤ) (k : ℕ) → length heads ≤ n → k < n
+    → number_behind before extents subscripts (point_in heads params (set (zeros n) k (pos 1)))
+    ≡ get_or (number_form n before extents subscripts heads params).coefficients k (pos 0)
+    +ℤ (number_form n before extents subscripts heads params).constant
+coefficient_told n before extents subscripts heads params k few less =
+    let form = number_form n before extents subscripts heads params in
     let turns = set (zeros n) k (pos 1) in
     let unit = dot_comm form.coefficients turns ∙ dot-unit n k form.coefficients less in
     let long : length turns ≡ n = omega (arith, length-set (zeros n) k (pos 1), length-zeros n) in
-    sym (number_value n extents heads params access turns few long)
+    sym (number_value n before extents subscripts heads params turns few long)
     ∙ ap (λ (z : ℤ). z +ℤ form.constant) unit

@@ -2,8 +2,8 @@
 use Rattle.scop_syntax.proofs.Common.{◌≡◌, ◌∙◌, ap, refl, subst, ℕ, zero, suc, ◌+◌, ◌*◌, ◌≤◌, List, [], ◌∷◌, drop}
 use Rattle.scop_syntax.proofs.Common.{length, min, arith, ℤ, pos, negsuc, ◌+ℤ◌, ◌*ℤ◌, ◌≤ℤ◌, slice_index_or, take, ints}
 use Rattle.scop_syntax.proofs.Common.{cell_of, values, AreWithin, IsCell, cell_number, offset_from, size_of}
-use Rattle.scop_syntax.proofs.Common.{total_cells, Access}
-use Rattle.tile_table.specs.Numbers.{number_at, row_major}
+use Rattle.scop_syntax.proofs.Common.{total_cells, Access, Affine}
+use Rattle.tile_table.specs.Numbers.{number_at, number_behind, row_major}
 use Rattle.tile_table.specs.steps.Same.{AreSame, IsSame}
 use Rattle.tile_table.proofs.Congruences.{lists_same, offset_same, sum_same, values_same}
 
@@ -37,15 +37,13 @@ offset_whole (extent ∷ extents) (s ∷ ss) (suc at) offset past =
     offset_whole extents ss at offset (omega (arith, past))
 
 -- at points that are the same the numbers are
-pub number_same : (extents : List (List ℕ)) (access : Access) (p q : List ℤ) → AreSame p q
-    → IsSame (number_at extents access p) (number_at extents access q)
-number_same extents access p q all =
-    let own = slice_index_or extents access.array [] in
-    let before = pos (total_cells (take access.array extents)) in
-    let ss = values access.subscripts p in
-    let ts = values access.subscripts q in
-    sum_same before before (row_major (pos 0) own ss) (row_major (pos 0) own ts) refl
-    (offset_same own (pos 0) (pos 0) ss ts refl (values_same access.subscripts p q all))
+pub number_same : (before : ℕ) (extents : List ℕ) (subscripts : List Affine) (p q : List ℤ) → AreSame p q
+    → IsSame (number_behind before extents subscripts p) (number_behind before extents subscripts q)
+number_same before extents subscripts p q all =
+    let ss = values subscripts p in
+    let ts = values subscripts q in
+    sum_same (pos before) (pos before) (row_major (pos 0) extents ss) (row_major (pos 0) extents ts) refl
+    (offset_same extents (pos 0) (pos 0) ss ts refl (values_same subscripts p q all))
 
 step_exact : (extent offset : ℕ) (s : ℤ) → pos 0 ≤ℤ s
     → s +ℤ (pos extent *ℤ pos offset) ≡ pos (offset * extent + size_of s)

@@ -9,20 +9,26 @@ use Rattle.scop_syntax.specs.Values.{applied, stored_by, wrapped}
 use Rattle.scop_syntax.specs.View.{operator_of}
 use Rattle.tile_table.specs.Points.{point_in}
 use Rattle.tile_table.specs.declared.code.Code.{Code}
+use Rattle.tile_table.specs.declared.code.Change.{Change}
+use Rattle.tile_table.specs.declared.code.Change.TheVariants.{Negated, Complemented, ShiftedLeft, ShiftedRight}
+use Rattle.tile_table.specs.declared.code.Change.TheVariants.{Narrowed}
 use Rattle.tile_table.specs.declared.code.Step.{Step}
-use Rattle.tile_table.specs.declared.code.Step.TheVariants.{Constant, Affine, Negated, Complemented, Binary}
-use Rattle.tile_table.specs.declared.code.Step.TheVariants.{ShiftedLeft, ShiftedRight, Narrowed}
+use Rattle.tile_table.specs.declared.code.Step.TheVariants.{Constant, Affine, Unary, Binary}
 
--- the value that a step makes, where the leaves and the slots have these values: the formulas of `value_on`
+-- what a change makes of a value: the formulas of `value_on`
+abbrev pub changed : Change → ℕ → ℕ
+changed Negated x = (2 ^ 64 - x) % 2 ^ 64
+changed Complemented x = 2 ^ 64 - 1 - x
+changed (ShiftedLeft k) x = (x * 2 ^ k) % 2 ^ 64
+changed (ShiftedRight k) x = x / 2 ^ k
+changed Narrowed x = x % 2 ^ 32
+
+-- the value that a step makes, where the leaves and the slots have these values
 abbrev pub made : List ℕ → List ℕ → Step → ℕ
 made leaves slots (Constant c) = c
 made leaves slots (Affine k) = slice_index_or leaves k 0
-made leaves slots (Negated a) = (2 ^ 64 - slice_index_or slots a 0) % 2 ^ 64
-made leaves slots (Complemented a) = 2 ^ 64 - 1 - slice_index_or slots a 0
+made leaves slots (Unary change a) = changed change (slice_index_or slots a 0)
 made leaves slots (Binary op a b) = applied (operator_of op) (slice_index_or slots a 0) (slice_index_or slots b 0)
-made leaves slots (ShiftedLeft a k) = (slice_index_or slots a 0 * 2 ^ k) % 2 ^ 64
-made leaves slots (ShiftedRight a k) = slice_index_or slots a 0 / 2 ^ k
-made leaves slots (Narrowed a) = slice_index_or slots a 0 % 2 ^ 32
 
 -- the slots behind steps: each puts what it makes behind those so far
 abbrev pub worked : List ℕ → List Step → List ℕ → List ℕ
@@ -33,12 +39,8 @@ worked leaves (step ∷ steps) slots = worked leaves steps (slots ++ made leaves
 abbrev pub IsStep : ℕ → ℕ → Step → Type 0
 IsStep leaves slots (Constant c) = ⊤
 IsStep leaves slots (Affine k) = k < leaves
-IsStep leaves slots (Negated a) = a < slots
-IsStep leaves slots (Complemented a) = a < slots
+IsStep leaves slots (Unary change a) = a < slots
 IsStep leaves slots (Binary op a b) = (a < slots) × (b < slots)
-IsStep leaves slots (ShiftedLeft a k) = a < slots
-IsStep leaves slots (ShiftedRight a k) = a < slots
-IsStep leaves slots (Narrowed a) = a < slots
 
 -- each of some steps does, from so many slots on
 abbrev pub AreSteps : ℕ → ℕ → List Step → Type 0

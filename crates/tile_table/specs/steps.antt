@@ -2,4 +2,3 @@
 pub mod Same
 pub mod Codes
 pub mod Forms
-pub mod AffineParts

@@ -8,11 +8,13 @@ ghost use Rattle.scop_syntax.specs.Tree.{Access, affine, combined as exact_combi
 ghost use Rattle.scop_syntax.specs.Reductions.{addend};
 ghost use Rattle.scop_syntax.specs.View.{expression_of, operator_of, right_of, statement_of};
 ghost use Rattle.scop_syntax.specs.declared.instance.TheConstants.{MAX_LOOPS};
-ghost use Rattle.tile_table.specs.Codes.{Gives, IsStep, IsWellMade, loaded, made as exact_made, result_by};
+ghost use Rattle.tile_table.specs.Codes.{Gives, IsStep, IsWellMade, changed as exact_changed, loaded};
+ghost use Rattle.tile_table.specs.Codes.{made as exact_made, result_by};
 ghost use Rattle.tile_table.specs.declared.code.Step.TheVariants.{Affine as exact_affine};
-ghost use Rattle.tile_table.specs.steps.Codes.{IsBegun, IsPut, Makes, MakesAdded, MakesGiven, MakesStored, MakesValue};
+ghost use Rattle.tile_table.specs.steps.Codes.{IsBegun, IsPut, Makes, MakesAdded, MakesChanged, MakesGiven};
+ghost use Rattle.tile_table.specs.steps.Codes.{MakesStored, MakesValue};
 
-use crate::affine_parts::form_over;
+use crate::forms::form_over;
 use crate::lane::Lane;
 use crate::loads::load_count;
 use scop_meaning::operators::{
@@ -22,17 +24,23 @@ use scop_syntax::instance::MAX_LOOPS;
 use scop_syntax::tree::{Aff, Expr, Loop, Operator, Right, Stmt};
 use std::alloc::{AllocError, Global};
 
+/// What makes a value of one other.
+#[derive(Clone, Copy)]
+pub enum Change {
+    Negated,
+    Complemented,
+    ShiftedLeft(u8),
+    ShiftedRight(u8),
+    Narrowed,
+}
+
 /// One step: it makes a value of those in earlier slots, or of a leaf.
 #[derive(Clone, Copy)]
 pub enum Step {
     Constant(u64),
     Affine(usize),
-    Negated(usize),
-    Complemented(usize),
+    Unary(Change, usize),
     Binary(Operator, usize, usize),
-    ShiftedLeft(usize, u8),
-    ShiftedRight(usize, u8),
-    Narrowed(usize),
 }
 
 /// A right side as code. Its slots are the values read, `reads` many in the order of the text, and then what each step
@@ -45,6 +53,20 @@ pub struct Code {
     pub result: usize,
 }
 
+/// What a change makes of a value.
+#[inline]
+fn changed(change: Change, value: u64) -> u64
+    ensures { result ≡ exact_changed change value }
+{
+    match change {
+        Change::Negated => negated(value),
+        Change::Complemented => complemented(value),
+        Change::ShiftedLeft(count) => shifted_left(value, count),
+        Change::ShiftedRight(count) => shifted_right(value, count),
+        Change::Narrowed => narrowed(value),
+    }
+}
+
 /// What a step makes.
 #[inline]
 fn made(step: &Step, leaves: &[Lane], slots: &[u64]) -> u64
@@ -54,12 +76,8 @@ fn made(step: &Step, leaves: &[Lane], slots: &[u64]) -> u64
     match step {
         Step::Constant(value) => *value,
         Step::Affine(leaf) => leaves[*leaf].at,
-        Step::Negated(slot) => negated(slots[*slot]),
-        Step::Complemented(slot) => complemented(slots[*slot]),
+        Step::Unary(change, slot) => changed(*change, slots[*slot]),
         Step::Binary(operator, left, right) => combined(*operator, slots[*left], slots[*right]),
-        Step::ShiftedLeft(slot, count) => shifted_left(slots[*slot], *count),
-        Step::ShiftedRight(slot, count) => shifted_right(slots[*slot], *count),
-        Step::Narrowed(slot) => narrowed(slots[*slot]),
     }
 }
 
@@ -125,7 +143,31 @@ fn put_form(
     put_leaf(code, over)
 }
 
+/// Makes code for a change of an expression's value; `at` goes on as for the expression.
+#[cycle(putting)]
+fn put_changed(
+    alloc: Global,
+    change: Change,
+    operand: &Expr,
+    heads: &[&Loop],
+    params: &[i64],
+    at: &mut usize,
+    code: &mut Code,
+) -> Result<usize, AllocError>
+    requires loops { length heads.now ≤ MAX_LOOPS }
+    requires room { length params.now + length heads.now ≤ ROOM }
+    requires begun { IsBegun code.old }
+    requires reads { at.old + length (reads_of (expression_of operand.now)) ≤ code.old.reads }
+    ensures at { IfOk result (λ slot. at.new ≡ at.old + length (reads_of (expression_of operand.now))) }
+    ensures makes { IfOk result (MakesChanged change params.now (map (λ h. h.now) heads.now)
+        (expression_of operand.now) at.old code.old code.new) }
+{
+    let slot = put_value(alloc, operand, heads, params, at, code)?;
+    put(code, Step::Unary(change, slot))
+}
+
 /// Makes code for an expression, whose reads are those from `at` on; `at` goes on behind them.
+#[cycle(putting)]
 fn put_value(
     alloc: Global,
     expression: &Expr,
@@ -151,12 +193,18 @@ fn put_value(
         Expr::Constant(value) => put(code, Step::Constant(*value)),
         Expr::Affine(form) => put_form(alloc, form, heads, params, code),
         Expr::Negated(operand) => {
-            let slot = put_value(alloc, operand, heads, params, at, code)?;
-            put(code, Step::Negated(slot))
+            put_changed(alloc, Change::Negated, operand, heads, params, at, code)
         }
         Expr::Complemented(operand) => {
-            let slot = put_value(alloc, operand, heads, params, at, code)?;
-            put(code, Step::Complemented(slot))
+            put_changed(
+                alloc,
+                Change::Complemented,
+                operand,
+                heads,
+                params,
+                at,
+                code,
+            )
         }
         Expr::Cast(operand) => put_value(alloc, operand, heads, params, at, code),
         Expr::Binary(operator, left, right) => {
@@ -165,16 +213,15 @@ fn put_value(
             put(code, Step::Binary(*operator, first, second))
         }
         Expr::ShiftedLeft(operand, count) => {
-            let slot = put_value(alloc, operand, heads, params, at, code)?;
-            put(code, Step::ShiftedLeft(slot, *count))
+            let change = Change::ShiftedLeft(*count);
+            put_changed(alloc, change, operand, heads, params, at, code)
         }
         Expr::ShiftedRight(operand, count) => {
-            let slot = put_value(alloc, operand, heads, params, at, code)?;
-            put(code, Step::ShiftedRight(slot, *count))
+            let change = Change::ShiftedRight(*count);
+            put_changed(alloc, change, operand, heads, params, at, code)
         }
         Expr::Narrowed(_, operand) => {
-            let slot = put_value(alloc, operand, heads, params, at, code)?;
-            put(code, Step::Narrowed(slot))
+            put_changed(alloc, Change::Narrowed, operand, heads, params, at, code)
         }
     }
 }
@@ -219,15 +266,15 @@ fn put_right(
         Right::Combined(operator, value) => {
             put_combined(alloc, *operator, value, heads, params, code)
         }
-        Right::ShiftedLeft(count) => put(code, Step::ShiftedLeft(0, *count)),
-        Right::ShiftedRight(count) => put(code, Step::ShiftedRight(0, *count)),
+        Right::ShiftedLeft(count) => put(code, Step::Unary(Change::ShiftedLeft(*count), 0)),
+        Right::ShiftedRight(count) => put(code, Step::Unary(Change::ShiftedRight(*count), 0)),
         Right::CombinedNarrow(operator, value) => {
             let slot = put_combined(alloc, *operator, value, heads, params, code)?;
-            put(code, Step::Narrowed(slot))
+            put(code, Step::Unary(Change::Narrowed, slot))
         }
         Right::ShiftedLeftNarrow(count) => {
-            let slot = put(code, Step::ShiftedLeft(0, *count))?;
-            put(code, Step::Narrowed(slot))
+            let slot = put(code, Step::Unary(Change::ShiftedLeft(*count), 0))?;
+            put(code, Step::Unary(Change::Narrowed, slot))
         }
     }
 }
@@ -240,7 +287,7 @@ fn put_addend(code: &mut Code, operator: Operator, slot: usize) -> Result<usize,
 {
     match operator {
         Operator::Plus => Ok(slot),
-        Operator::Minus => put(code, Step::Negated(slot)),
+        Operator::Minus => put(code, Step::Unary(Change::Negated, slot)),
         Operator::Times => put(code, Step::Constant(0)),
         Operator::And => put(code, Step::Constant(0)),
         Operator::Or => put(code, Step::Constant(0)),

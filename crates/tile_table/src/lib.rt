@@ -7,7 +7,6 @@
 //! the codes make what the statements store, and that a desk stands at both, instance after instance.
 #![tactic(auto)]
 
-mod affine_parts;
 pub mod code;
 pub mod desk;
 mod forms;

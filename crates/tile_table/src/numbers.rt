@@ -1,14 +1,11 @@
-//! The number of an access's cell at any point, modulo 2^64.
-ghost use Rattle.std.specs.Prelude.{◌≡◌, ◌<◌, ◌≤◌, ◌^◌, All, length, pos};
+//! The number of a cell at any point, modulo 2^64.
+ghost use Rattle.std.specs.Prelude.{◌≡◌, ◌≤◌, ◌^◌, All, pos};
 ghost use Rattle.std.specs.Int.{int_wrap, w64};
 ghost use Rattle.scop_syntax.specs.Cells.{values};
-ghost use Rattle.scop_meaning.specs.Instances.{AreLayout};
-ghost use Rattle.tile_table.specs.Numbers.{number_at as exact_number, row_major};
+ghost use Rattle.tile_table.specs.Numbers.{number_behind as exact_number, row_major};
 
-use scop_meaning::accesses::cells_before;
 use scop_syntax::affine_values::{value_at, with_product};
-use scop_syntax::arrays::Extents;
-use scop_syntax::tree::{Access, Aff};
+use scop_syntax::tree::Aff;
 
 /// The row-major offset of these subscripts at `point`, in an array with these extents.
 fn offset_at(extents: &[u64], subscripts: &[Aff], point: &[i64]) -> i64
@@ -23,13 +20,18 @@ fn offset_at(extents: &[u64], subscripts: &[Aff], point: &[i64]) -> i64
     offset
 }
 
-/// The number of the access's cell among those of all arrays.
-pub(crate) fn number_at(access: &Access, extents: &Extents, point: &[i64]) -> i64
-    requires layout { AreLayout extents.now }
-    requires array { access.now.array < length extents.now }
-    ensures { result ≡ int_wrap w64 (exact_number extents.now access.now point.now) }
+/// The number of the cell with these subscripts at `point`, in an array with these extents behind so many cells.
+pub(crate) fn number_behind(
+    before: usize,
+    extents: &[u64],
+    subscripts: &[Aff],
+    point: &[i64],
+) -> i64
+    requires few { before ≤ 2 ^ 22 }
+    requires extents { All (λ e. (1 ≤ e) × (e ≤ 2 ^ 22)) extents.now }
+    ensures { result ≡ int_wrap w64 (exact_number before extents.now subscripts.now point.now) }
 {
-    let before = cells_before(extents, access.array) as i64;
-    let offset = offset_at(extents.array(access.array), &access.subscripts, point);
-    before.wrapping_add(offset)
+    let front = before as i64;
+    let offset = offset_at(extents, subscripts, point);
+    front.wrapping_add(offset)
 }

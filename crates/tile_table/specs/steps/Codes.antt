@@ -4,8 +4,9 @@ use Rattle.whole_numbers.specs.Affine.{Affine}
 use Rattle.scop_syntax.specs.Reductions.{added_by}
 use Rattle.scop_syntax.specs.Tree.{Expression, Head, Right}
 use Rattle.scop_syntax.specs.Values.{stored_by, value_on}
-use Rattle.tile_table.specs.Codes.{AreSteps, given_by, leaves_at, worked}
+use Rattle.tile_table.specs.Codes.{AreSteps, changed, given_by, leaves_at, worked}
 use Rattle.tile_table.specs.Points.{point_in}
+use Rattle.tile_table.specs.declared.code.Change.{Change}
 use Rattle.tile_table.specs.declared.code.Code.{Code}
 use Rattle.tile_table.specs.declared.code.Step.{Step}
 
@@ -45,6 +46,11 @@ pub record Makes (loops : ℕ) (meant : List ℤ → List ℕ → ℕ) (old new 
 abbrev pub MakesValue : List ℤ → List Head → Expression → ℕ → Code → Code → ℕ → Type 0
 MakesValue params heads e at =
     Makes (length heads) (λ turns values. value_on e (point_in heads params turns) (drop at values))
+
+-- what a change makes of that
+abbrev pub MakesChanged : Change → List ℤ → List Head → Expression → ℕ → Code → Code → ℕ → Type 0
+MakesChanged change params heads e at =
+    Makes (length heads) (λ turns values. changed change (value_on e (point_in heads params turns) (drop at values)))
 
 -- that of a right side
 abbrev pub MakesStored : List ℤ → List Head → Right → Code → Code → ℕ → Type 0

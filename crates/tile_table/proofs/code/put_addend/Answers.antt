@@ -1,15 +1,14 @@
-use Rattle.scop_syntax.proofs.Common.{ap, refl, ℕ, ◌-◌, ◌%◌, ◌^◌, operator_of}
+use Rattle.scop_syntax.proofs.Common.{ap, operator_of}
 use Rattle.scop_syntax.specs.Reductions.{addend}
 use Rattle.scop_syntax.specs.declared.tree.Operator.{Operator}
-use Rattle.tile_table.specs.declared.code.Step.TheVariants.{Negated}
-use Rattle.tile_table.proofs.Compiling.{step_made, zero_made}
+use Rattle.tile_table.specs.declared.code.Change.TheVariants.{Negated}
+use Rattle.tile_table.proofs.Compiling.{change_made, zero_made}
 use Rattle.tile_table.proofs.code.put_addend.Goals as goal
 
 pub returns-in-Minus : goal.returns-in-Minus
 returns-in-Minus c = λ loops meant before makes.
-    step_made loops (λ turns values. addend (operator_of c.args.operator) (meant turns values)) meant
-    (λ (x : ℕ). (2 ^ 64 - x) % 2 ^ 64) (Negated c.args.slot) before c.args.code.now c.put.new.code c.args.slot
-    c.put.result makes (λ n m l. l) (λ ls xs. refl)
+    change_made loops (λ turns values. addend (operator_of c.args.operator) (meant turns values)) meant Negated before
+    c.args.code.now c.put.new.code c.args.slot c.put.result makes
     (λ turns values. ap (λ (o : Operator). addend (operator_of o) (meant turns values)) c.in-Minus.is) c.put.ensures
 
 pub returns-in-Times : goal.returns-in-Times

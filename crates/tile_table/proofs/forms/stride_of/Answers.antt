@@ -12,6 +12,6 @@ returns c =
     let fit_base : FitsSigned w64 base = search rules in
     let many = length-map c.args.heads.now (λ h. h.now) in
     let few = c.requires.loops in
-    stride_is 5 c.args.extents.now heads c.args.params.now c.args.access.now c.args.at _ next base
+    stride_is 5 c.args.before c.args.extents.now c.args.subscripts.now heads c.args.params.now c.args.at _ next base
     (omega (arith, many, few)) c.requires.at c.number_in.ensures c.requires.base
     (wrapping_sub_is w64 next base fit_next fit_base)
