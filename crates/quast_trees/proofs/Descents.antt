@@ -1,5 +1,5 @@
 -- Where a walk from the root down stands: at a subtree that gives at its point what the tree gives at the first.
-use Rattle.whole_numbers.proofs.Common.{◌≡◌, ℕ, ◌+◌, ◌-◌, ◌≤◌, ◌<◌, ℤ, pos, ◌≤ℤ◌, ◌<ℤ◌, List, [], ◌∷◌, length, get_or}
+use Rattle.whole_numbers.proofs.Common.{◌≡◌, ℕ, ◌+◌, ◌-◌, ◌≤◌, ◌<◌, ℤ, pos, negsuc, ◌≤ℤ◌, List, [], ◌∷◌, length, get_or}
 use Rattle.whole_numbers.proofs.Common.{All, Result, Ok, refl, sym, ap, ◌∙◌, subst, length-append, arith, Affine}
 use Rattle.whole_numbers.proofs.Common.{value_of, floor}
 use Rattle.wide_math.specs.declared.Wide.{Wide}
@@ -13,10 +13,9 @@ use Rattle.quast_trees.specs.Tree.{Tree, initial, leaf, branch, bind, count, Spe
 use Rattle.quast_trees.specs.Postfix.{written}
 use Rattle.quast_trees.specs.Leaf.{Leaf}
 use Rattle.quast_trees.specs.Leaf as answer
-use Rattle.quast_trees.specs.Value.{value_run, leaf_run, bound_run}
+use Rattle.quast_trees.specs.Value.{by_sign, value_run, leaf_run, bound_run}
 use Rattle.quast_trees.specs.declared.node.Node.{Node}
 use Rattle.quast_trees.specs.declared.node.Node.TheVariants as node
-use Rattle.quast_trees.proofs.SignChoices.{by_sign_first, by_sign_second}
 use Rattle.quast_trees.proofs.Exact.{bound_run-exact}
 use Rattle.quast_trees.specs.Place.{IsAt}
 use Rattle.quast_trees.proofs.Places.{within, root, root_at, count_positive, at_end, at_body, at_first, at_second}
@@ -61,8 +60,7 @@ pub record Branches (nodes : List Node) (place : ℕ) (point : List ℤ) (goal :
     (n : ℕ) : Type 0 where
   pub variables : length f.coefficients ≡ length point
   pub room : n + 1 ≤ place
-  pub first : (v : ℤ) → form_run f point ≡ Ok v → pos 0 ≤ℤ v → Standing nodes (place - (n + 1)) point goal
-  pub second : (v : ℤ) → form_run f point ≡ Ok v → v <ℤ pos 0 → Standing nodes (place - 1) point goal
+  pub side : (v : ℤ) → form_run f point ≡ Ok v → Standing nodes (place - by_sign v (n + 1) 1) point goal
   pub stops : (cause : FormStop) → Fails cause (form_run f point) → Fails cause goal
 
 -- what is known where it is a bind
@@ -90,26 +88,29 @@ module _ (nodes : List Node) (place : ℕ) (point : List ℤ) (goal : Result Lea
   ends_by (branch _ _ _) s speaks r e = absurd (cc)
   ends_by (bind _ _ _) s speaks r e = absurd (cc)
 
+  side_of : (test : Affine) (a b : Tree) → IsAt nodes place (branch test a b)
+      → Speaks (length point) (branch test a b) → value_run (branch test a b) point ≡ goal
+      → (v : ℤ) → form_run test point ≡ Ok v → Standing nodes (place - by_sign v (count b + 1) 1) point goal
+  side_of test a b i speaks r (pos k) q = record {
+    tree = a;
+    stands = at_first nodes place test a b i;
+    speaks = speaks.1;
+    same = went_on (form_run test point) (λ v. by_sign v (value_run a point) (value_run b point)) (pos k) goal q r;
+  }
+  side_of test a b i speaks r (negsuc k) q = record {
+    tree = b;
+    stands = at_second nodes place test a b i;
+    speaks = speaks.2;
+    same = went_on (form_run test point) (λ v. by_sign v (value_run a point) (value_run b point)) (negsuc k) goal q r;
+  }
+
   branches : (test : Affine) (a b : Tree) → IsAt nodes place (branch test a b)
       → Speaks (length point) (branch test a b)
       → value_run (branch test a b) point ≡ goal → Branches nodes place point goal test (count b)
   branches test a b i speaks r = record {
     variables = speaks.0;
     room = let ends = i.ends in let p = count_positive a in omega arith;
-    first = λ v q h. record {
-      tree = a;
-      stands = at_first nodes place test a b i;
-      speaks = speaks.1;
-      same = sym (by_sign_first v (value_run a point) (value_run b point) h)
-          ∙ went_on (form_run test point) _ v goal q r;
-    };
-    second = λ v q h. record {
-      tree = b;
-      stands = at_second nodes place test a b i;
-      speaks = speaks.2;
-      same = sym (by_sign_second v (value_run a point) (value_run b point) h)
-          ∙ went_on (form_run test point) _ v goal q r;
-    };
+    side = side_of test a b i speaks r;
     stops = λ w q. stopped (form_run test point) _ w goal q r;
   }
 

@@ -1,9 +1,9 @@
 //! The leaf of a quast at a point, found from the root down by the places of the nodes.
-ghost use Rattle.std.specs.Prelude.{◌≡◌, pos, ◌≤ℤ◌, length, IfOk, All};
+ghost use Rattle.std.specs.Prelude.{◌≡◌, ◌+◌, ◌-◌, ◌<◌, ◌≤◌, pos, ◌≤ℤ◌, length, IfOk, All};
 ghost use Rattle.affine_forms.specs.Gives.{Gives};
 ghost use Rattle.quast_trees.specs.Postfix.{tree_of};
 ghost use Rattle.quast_trees.specs.Leaf.{leaf_of};
-ghost use Rattle.quast_trees.specs.Value.{value, value_run, values_run, leaf_run, bound_run};
+ghost use Rattle.quast_trees.specs.Value.{by_sign, value, value_run, values_run, leaf_run, bound_run};
 
 use crate::leaf::Leaf;
 use crate::naming::copied_source;
@@ -38,7 +38,7 @@ impl Quast {
                 Node::Forms(forms) => return leaf_at(alloc, forms, &values),
                 Node::Branch { test, second } => match test.value_at(&values) {
                     Err(stop) => return Err(stop),
-                    Ok(value) => at -= if value >= 0 { *second + 1 } else { 1 },
+                    Ok(value) => at = side_at(at, value, *second),
                 },
                 Node::Bind { form, divisor } => match push_quotient(form, *divisor, &mut values) {
                     Err(stop) => return Err(stop),
@@ -46,6 +46,19 @@ impl Quast {
                 },
             }
         }
+    }
+}
+
+// The place of the side that a number chooses of a branch at a place.
+fn side_at(at: usize, value: i128, second: usize) -> usize
+    requires { second + 1 ≤ at }
+    ensures place { result ≡ at - by_sign value (second + 1) 1 }
+    ensures falls { result < at }
+{
+    if value >= 0 {
+        at - (second + 1)
+    } else {
+        at - 1
     }
 }
 

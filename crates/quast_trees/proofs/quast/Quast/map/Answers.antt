@@ -1,12 +1,25 @@
-use Rattle.whole_numbers.proofs.Common.{length, subst, sym, rules, arith, All-get_or, All-same}
+use Rattle.whole_numbers.proofs.Common.{length, subst, sym, ap, ◌∙◌, arith, All-get_or, All-same}
 use Rattle.affine_forms.specs.Gives.{Fails}
 use Rattle.quast_trees.specs.Postfix.{tree_of}
 use Rattle.quast_trees.specs.Mapped.{SuitsNode, node_run}
 use Rattle.quast_trees.specs.Tree.{Speaks}
 use Rattle.quast_trees.specs.declared.node.Node.{Node}
+use Rattle.quast_trees.proofs.ListRuns.{each_more, each_start}
 use Rattle.quast_trees.proofs.QuastNodes.{quast_of_tree, tree_of_held}
 use Rattle.quast_trees.proofs.MappedTrees.{suits_written, maps_to, map_stops, map_run-speaks, map_run-value}
 use Rattle.quast_trees.proofs.quast.Quast.map.Goals as goal
+
+pub loop-node-init : goal.loop-node-init
+loop-node-init c =
+    each_start (node_run c.args.forms.now) c.nodes-nodes.result.now c.in-Ok.mapped.items c.in-Ok.ensures.items
+
+pub loop-node-preserved : goal.loop-node-preserved
+loop-node-preserved c =
+    let forms = c.args.forms.now in
+    let run = ap (λ (x : Node). node_run forms x) (sym c.node-item.is) ∙ c.in-Ok-mapped_node.ensures in
+    each_more (node_run forms) c.nodes-nodes.result.now c.loop-node.node-index c.loop-node.mapped.items
+    c.push.new.list.items c.node-item.result c.in-Ok-mapped_node.node c.loop-node-test.true c.loop-node.invariant run
+    c.in-Ok-push.ensures.pushed
 
 pub mapped_node-requires : goal.mapped_node-requires
 mapped_node-requires c =
@@ -23,8 +36,8 @@ pub returns-in-Err-mapped_node-clause-run : goal.returns-in-Err-mapped_node-clau
 returns-in-Err-mapped_node-clause-run c =
     let forms = c.args.forms.now in
     let item = c.node-item.result in
-    let e : Fails c.in-Err-mapped_node.stop (node_run forms item) = search rules in
-    let f = subst (λ (x : Node). Fails c.in-Err-mapped_node.stop (node_run forms x)) c.node-item.is e in
+    let f = subst (λ (x : Node). Fails c.in-Err-mapped_node.stop (node_run forms x)) c.node-item.is
+    c.in-Err-mapped_node.ensures in
     map_stops forms (tree_of c.args.self.now) c.nodes-nodes.result.now c.loop-node.mapped.items
     c.loop-node.node-index item c.in-Err-mapped_node.stop c.nodes-nodes.ensures.nodes (omega arith)
     c.loop-node.invariant f

@@ -1,4 +1,5 @@
 use Rattle.whole_numbers.proofs.Common.{◌≡◌, ◌<◌, Ok, length, FitsSigned, sym, ap, ◌∙◌, rules, arith, w128, ints}
+use Rattle.whole_numbers.proofs.Common.{to_z-of_z}
 use Rattle.affine_forms.specs.Gives.{Fails}
 use Rattle.affine_forms.specs.Runs.{value_run as form_run}
 use Rattle.quast_trees.specs.Postfix.{tree_of}
@@ -9,7 +10,6 @@ use Rattle.quast_trees.proofs.Places.{count_positive}
 use Rattle.quast_trees.proofs.WrittenNodes.{length-written}
 use Rattle.quast_trees.proofs.Descents.{inside, at_root, at_initial, at_forms, at_branch, at_bind}
 use Rattle.quast_trees.proofs.quast.Quast.value_at.Goals as goal
-use Rattle.quast_trees.proofs.quast.Quast.value_at.Goals.{then-value-ge0, else-value-ge0}
 
 pub overflow_sub-at : goal.overflow_sub-at
 overflow_sub-at c =
@@ -58,30 +58,20 @@ returns-in-Err-value_at c =
     let e : Fails c.in-Err-value_at.stop (form_run c.in-Branch.test c.deref-in-Branch.result.now) = search rules in
     record { run = b.stops c.in-Err-value_at.stop (rw c.deref-in-Branch.ensures.value at e); value = tt }
 
-pub overflow_add-at : goal.overflow_add-at
-overflow_add-at c =
-    let room = (at_branch c.loop-at.invariant c.index-nodes-at.is c.in-Branch.is).room in
-    omega arith
-
-pub overflow_sub-at-in-Ok-value_at : goal.overflow_sub-at-in-Ok-value_at
-overflow_sub-at-in-Ok-value_at c =
-    let room = (at_branch c.loop-at.invariant c.index-nodes-at.is c.in-Branch.is).room in
-    elim c.if-value-ge0.branch [ then-value-ge0 w ↦ omega arith | else-value-ge0 w ↦ omega arith ]
+pub side_at-at-requires : goal.side_at-at-requires
+side_at-at-requires c = (at_branch c.loop-at.invariant c.index-nodes-at.is c.in-Branch.is).room
 
 pub loop-at-smaller-in-Ok-value_at : goal.loop-at-smaller-in-Ok-value_at
-loop-at-smaller-in-Ok-value_at c =
-    let room = (at_branch c.loop-at.invariant c.index-nodes-at.is c.in-Branch.is).room in
-    elim c.if-value-ge0.branch [ then-value-ge0 w ↦ omega arith | else-value-ge0 w ↦ omega arith ]
+loop-at-smaller-in-Ok-value_at c = c.side_at-at.ensures.falls
 
 pub loop-at-preserved-in-Ok-value_at : goal.loop-at-preserved-in-Ok-value_at
 loop-at-preserved-in-Ok-value_at c =
     let b = at_branch c.loop-at.invariant c.index-nodes-at.is c.in-Branch.is in
     let e : form_run c.in-Branch.test c.deref-in-Branch.result.now ≡ Ok c.in-Ok-value_at.value = search rules in
     let run = rw c.deref-in-Branch.ensures.value at e in
-    elim c.if-value-ge0.branch [
-      | then-value-ge0 w ↦ rw w.at-is (b.first c.in-Ok-value_at.value run (omega (arith, ints)))
-      | else-value-ge0 w ↦ rw w.at-is (b.second c.in-Ok-value_at.value run (omega (arith, ints)))
-    ]
+    let fits : FitsSigned w128 c.in-Ok-value_at.value = search rules in
+    let place = simp to_z-of_z at c.side_at-at.ensures.place in
+    rw place (b.side c.in-Ok-value_at.value run)
 
 pub push_quotient-requires-clause-variables : goal.push_quotient-requires-clause-variables
 push_quotient-requires-clause-variables c = (at_bind c.loop-at.invariant c.index-nodes-at.is c.in-Bind.is).variables
