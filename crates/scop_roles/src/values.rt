@@ -655,14 +655,8 @@ fn add_tests(
             add_tests(alloc, left, entries, pushed)?;
             add_tests(alloc, right, entries, pushed)
         }
-        Formula::Constant(_, _, _) => Ok(()),
-        Formula::Name(_, _) => Ok(()),
-        Formula::Index(_, _, _) => Ok(()),
-        Formula::BareCall(_, _) => Ok(()),
-        Formula::Call(_, _, _) => Ok(()),
-        Formula::Unary(_, _, _) => Ok(()),
-        Formula::Cast(_, _, _) => Ok(()),
         Formula::Commas(_, _, _, _) => Ok(()),
+        _ => Ok(()),
     }
 }
 
