@@ -7,7 +7,7 @@ ghost use Rattle.whole_numbers.specs.Affine.{composed};
 ghost use Rattle.iteration_domains.specs.Path.{CanAccess};
 ghost use Rattle.iteration_domains.specs.Sizes.{CanCompose};
 
-use crate::forms::compose;
+use crate::forms::push_composed;
 use crate::statement::AccessForms;
 use integer_sets::{Form, push};
 use scop_syntax::accesses::{access_at, read_count};
@@ -26,8 +26,7 @@ fn subscripts_within(
 {
     let mut composed = Vec::new(alloc);
     for subscript in subscripts {
-        let form = compose(alloc, subscript, forms, variables)?;
-        push(&mut composed, form)?;
+        push_composed(&mut composed, alloc, subscript, forms, variables)?;
     }
     Ok(composed)
 }

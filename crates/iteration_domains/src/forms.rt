@@ -1,6 +1,6 @@
 //! Forms of 128 bits of a kernel's affine forms, composed over other variables. Within the limits of a kernel no number
 //! on the way is too wide, so only memory may run out.
-ghost use Rattle.std.specs.Prelude.{◌≡◌, ◌+◌, ◌*◌, ◌<◌, ◌≤◌, ◌^◌, ◌++◌, IfOk, OnOk, set, unsigned_abs};
+ghost use Rattle.std.specs.Prelude.{◌≡◌, ◌+◌, ◌*◌, ◌<◌, ◌≤◌, ◌^◌, ◌++◌, ◌∷◌, [], IfOk, OnOk, set, unsigned_abs};
 ghost use Rattle.integer_sets.specs.Parts.{variables_of};
 ghost use Rattle.whole_numbers.specs.Affine.{composed, form_of, multiple_of_form, sum_of_forms};
 ghost use Rattle.whole_numbers.specs.Lists.{zeros};
@@ -169,4 +169,19 @@ pub fn compose(
 {
     let form = wide_form(alloc, aff)?;
     compose_form(&form, forms, variables)
+}
+
+/// Appends that form.
+pub fn push_composed(
+    out: &mut Vec<Form>,
+    alloc: Global,
+    aff: &Aff,
+    forms: &[Form],
+    variables: usize,
+) -> Result<(), AllocError>
+    requires { CanCompose variables forms.now aff.now }
+    ensures { OnOk result (out.new.items ≡ out.old.items ++ composed aff.now forms.now variables ∷ []) }
+{
+    let form = compose(alloc, aff, forms, variables)?;
+    push(out, form)
 }

@@ -9,7 +9,7 @@ ghost use Rattle.iteration_domains.specs.Path.{CanModel, modelled_in, path_at, p
 use crate::accesses::accesses_within;
 use crate::rows::{Scope, rows_within};
 use crate::statement::StatementModel;
-use integer_sets::System;
+use integer_sets::{System, push};
 use scop_syntax::tree::{Guard, Item, Loop, Stmt};
 use std::alloc::{AllocError, Global};
 
@@ -56,10 +56,7 @@ fn model_statement(
 {
     let number = statements.len();
     let model = model_assignment(alloc, path, number, statement)?;
-    match statements.push(model) {
-        Err(_) => Err(AllocError),
-        Ok(()) => Ok(()),
-    }
+    push(statements, model)
 }
 
 /// Goes into a loop or a guard.

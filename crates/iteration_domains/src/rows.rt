@@ -9,7 +9,7 @@ ghost use Rattle.iteration_domains.specs.Rows.{composed_test, iterator, variable
 ghost use Rattle.iteration_domains.specs.Sizes.{CanCompose, forms_size};
 ghost use Rattle.iteration_domains.specs.Standing.{CanEnter, entered, finished, starting, with_tests};
 
-use crate::forms::{compose, plus_multiple, push_variables, variable_form};
+use crate::forms::{compose, plus_multiple, push_composed, push_variables, variable_form};
 use integer_sets::{Form, push};
 use scop_syntax::tree::{Guard, Loop, Test};
 use std::alloc::{AllocError, Global};
@@ -79,12 +79,16 @@ impl StatementRows {
     {
         let at = self.loops;
         let variables = self.variables;
-        let turn = variable_form(alloc, variables, at)?;
-        push(&mut self.rows, turn)?;
+        push_variables(&mut self.rows, alloc, variables, at, 1)?;
         let iterator = iterator_form(alloc, head, self.forms.as_slice(), at, variables)?;
         push(&mut self.forms, iterator)?;
-        let condition = compose(alloc, &head.condition, self.forms.as_slice(), variables)?;
-        push(&mut self.rows, condition)?;
+        push_composed(
+            &mut self.rows,
+            alloc,
+            &head.condition,
+            self.forms.as_slice(),
+            variables,
+        )?;
         self.loops = at + 1;
         Ok(())
     }
@@ -96,14 +100,11 @@ impl StatementRows {
             ≡ with_tests (shown self.old)
             (composed_test self.old.variables self.old.forms.items (test_of test.now) ∷ [])) }
     {
+        let forms = self.forms.as_slice();
         match test {
-            Test::AtLeast(row) => {
-                let form = compose(alloc, row, self.forms.as_slice(), self.variables)?;
-                push(&mut self.rows, form)
-            }
-            Test::Equal(equality) => {
-                let form = compose(alloc, equality, self.forms.as_slice(), self.variables)?;
-                push(&mut self.equalities, form)
+            Test::AtLeast(row) => push_composed(&mut self.rows, alloc, row, forms, self.variables),
+            Test::Equal(row) => {
+                push_composed(&mut self.equalities, alloc, row, forms, self.variables)
             }
         }
     }

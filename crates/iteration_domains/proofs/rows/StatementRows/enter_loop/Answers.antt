@@ -7,8 +7,8 @@ use Rattle.iteration_domains.proofs.Surroundings.{can_compose, sized-within}
 use Rattle.iteration_domains.proofs.Sizes.{sizes-within}
 use Rattle.iteration_domains.proofs.rows.StatementRows.enter_loop.Goals as goal
 
-pub compose-requires : goal.compose-requires
-compose-requires c =
+pub push_composed-requires : goal.push_composed-requires
+push_composed-requires c =
     let n = c.args.self.now.variables in
     let j = c.args.self.now.loops in
     let forms = c.args.self.now.forms.items in
@@ -32,16 +32,14 @@ returns c =
     let n = old.variables in
     let forms = old.forms.items in
     let head = c.args.head.now in
-    let inner : c.push-2.new.list.items ≡ within_loop n old.loops head forms =
-    c.in_ok-push-2.ensures.pushed
+    let inner : c.push.new.list.items ≡ within_loop n old.loops head forms =
+    c.in_ok-push.ensures.pushed
     ∙ ap (λ (f : Affine). forms ++ f ∷ [])
     (c.in_ok-iterator.ensures ∙ ap (iterator n old.loops head) c.as_slice.ensures.value) in
-    let condition : c.in_ok-condition.condition ≡ composed head.condition (within_loop n old.loops head forms) n =
-    c.in_ok-condition.ensures.form
-    ∙ ap₂ (λ (f : Affine) (fs : List Affine). composed f fs n) (ap (λ (z : Head). z.condition) c.head.view_is)
-    (c.as_slice-2.ensures.value ∙ inner) in
-    let rows : c.push.new.list.items ≡ old.rows.items ++ variable n old.loops ∷ [] =
-    c.in_ok-push.ensures.pushed ∙ ap (λ (f : Affine). old.rows.items ++ f ∷ []) c.in_ok-turn.ensures in
-    let all = c.in_ok-push-3.ensures.pushed ∙ (ap₂ (λ (fs : List Affine) (f : Affine). fs ++ f ∷ []) rows condition
+    let condition = ap₂ (λ (f : Affine) (fs : List Affine). composed f fs n)
+    (ap (λ (z : Head). z.condition) c.head.view_is) (c.as_slice-2.ensures.value ∙ inner) in
+    let rows : c.push_variables.new.out.items ≡ old.rows.items ++ variable n old.loops ∷ [] =
+    c.in_ok-push_variables.ensures in
+    let all = c.in_ok-push_composed.ensures ∙ (ap₂ (λ (fs : List Affine) (f : Affine). fs ++ f ∷ []) rows condition
     ∙ append_assoc old.rows.items (variable n old.loops ∷ []) _) in
     ap₂ (λ (fs rs : List Affine). standing n (old.loops + 1) fs old.equalities.items rs) inner all
