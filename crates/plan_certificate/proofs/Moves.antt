@@ -60,14 +60,20 @@ row_front [] more at h = absurd (omega (arith, h))
 row_front (r ∷ rows) more zero h = refl
 row_front (r ∷ rows) more (suc at) h = row_front rows more at (omega (arith, h))
 
+pub divided_next : (n at : ℕ) (rows more now : List Affine) (s : State) (o whole : Outcome) → at < length rows
+    → now ≡ rows ++ more → divided_from n at (drop at rows) s ≡ whole → divided_one n at (row_of now at) s ≡ o
+    → and_then o (divided_from n (suc at) (drop (suc at) rows)) ≡ whole
+divided_next n at rows more now s o whole lt is h e =
+    let row : row_of now at ≡ row_of rows at = ap (λ (fs : List Affine). row_of fs at) is ∙ row_front rows more at lt in
+    let own = subst (λ (f : Affine). divided_one n at f s ≡ o) row e in
+    let a = subst (λ (fs : List Affine). divided_from n at fs s ≡ whole)
+    (drop-cons rows at (form_of [] (pos 0)) lt) h in
+    let b = sym (divided_step n at (row_of rows at) (drop (suc at) rows) s) ∙ a in
+    subst (λ (p : Outcome). and_then p (divided_from n (suc at) (drop (suc at) rows)) ≡ whole) own b
+
 pub divided_goes : (n at : ℕ) (rows more now : List Affine) (s t : State) (whole : Outcome) → at < length rows
     → now ≡ rows ++ more → divided_from n at (drop at rows) s ≡ whole → divided_one n at (row_of now at) s ≡ goes t
     → divided_from n (at + 1) (drop (at + 1) rows) t ≡ whole
 divided_goes n at rows more now s t whole lt is h e =
-    let row : row_of now at ≡ row_of rows at = ap (λ (fs : List Affine). row_of fs at) is ∙ row_front rows more at lt in
-    let own = subst (λ (f : Affine). divided_one n at f s ≡ goes t) row e in
-    let a = subst (λ (fs : List Affine). divided_from n at fs s ≡ whole)
-    (drop-cons rows at (form_of [] (pos 0)) lt) h in
-    let b = sym (divided_step n at (row_of rows at) (drop (suc at) rows) s) ∙ a in
-    let d = subst (λ (o : Outcome). and_then o (divided_from n (suc at) (drop (suc at) rows)) ≡ whole) own b in
-    subst (λ (k : ℕ). divided_from n k (drop k rows) t ≡ whole) (sym (add-one at)) d
+    subst (λ (k : ℕ). divided_from n k (drop k rows) t ≡ whole) (sym (add-one at))
+    (divided_next n at rows more now s (goes t) whole lt is h e)

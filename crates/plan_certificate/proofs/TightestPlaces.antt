@@ -1,9 +1,12 @@
--- One place more among those of the tightest rows, by the place of the first whose row has the same coefficients.
+-- One place more among those of the tightest rows, by the place of the first whose row has the same coefficients; and
+-- among those whose coefficient of a variable passes a test.
 use Rattle.scop_syntax.proofs.Common.{◌≡◌, ℕ, ◌<◌, ◌≤◌, Bool, true, false, List, [], ◌∷◌, ◌++◌, length, get_or, set}
-use Rattle.scop_syntax.proofs.Common.{refl, ◌∙◌, ap, subst, arith, Affine}
+use Rattle.scop_syntax.proofs.Common.{refl, ◌∙◌, ap, subst, arith, Affine, ℤ, ◌+◌, drop, drop-cons, add-one, sym}
+use Rattle.scop_syntax.proofs.Common.{append_assoc, if◌then◌else◌}
+use Rattle.fractions.specs.Elimination.{coefficient_of}
 use Rattle.fm_projection.specs.Tightest.{are_parallel}
-use Rattle.plan_certificate.specs.Derivation.{row_of, tighter, with_place}
-use Rattle.plan_certificate.specs.steps.Places.{parallel_place}
+use Rattle.plan_certificate.specs.Derivation.{chosen, row_of, tighter, with_place}
+use Rattle.plan_certificate.specs.steps.Places.{one_if, parallel_place}
 
 module _ (rows : List Affine) (q : ℕ) where
   -- behind the others
@@ -43,3 +46,22 @@ module _ (rows : List Affine) (q : ℕ) where
       ∙ (ap (λ (k : ℕ). set ps place (tighter rows k q)) there
       ∙ (ap (λ (k : ℕ). set ps k (tighter rows (get_or ps k old) q)) is
       ∙ put_at ps old (subst (λ k. k < length ps) is inside)))
+
+-- one place more, if its coefficient passes
+pub chosen_more : (test : ℤ → Bool) (v : ℕ) (rows : List Affine) (ps : List ℕ) (i : ℕ) (z : ℤ) (stays : Bool)
+    (out new whole : List ℕ) → i < length ps → z ≡ coefficient_of v (row_of rows (get_or ps i 0)) → stays ≡ test z
+    → new ≡ out ++ one_if stays (get_or ps i 0) → out ++ chosen test v rows (drop i ps) ≡ whole
+    → new ++ chosen test v rows (drop (i + 1) ps) ≡ whole
+chosen_more test v rows ps i z stays out new whole inside found told grown so_far =
+    let p = get_or ps i 0 in
+    let rest = chosen test v rows (drop (i + 1) ps) in
+    let here : drop i ps ≡ p ∷ drop (i + 1) ps =
+    drop-cons ps i 0 inside ∙ ap (λ (k : ℕ). p ∷ drop k ps) (sym (add-one i)) in
+    ap (λ (ks : List ℕ). ks ++ rest) grown
+    ∙ (at stays p rest
+    ∙ (ap (λ (b : Bool). out ++ (if b then p ∷ rest else rest)) (told ∙ ap test found)
+    ∙ (ap (λ (ks : List ℕ). out ++ chosen test v rows ks) (sym here) ∙ so_far)))
+  where
+    at : (b : Bool) (p : ℕ) (rest : List ℕ) → (out ++ one_if b p) ++ rest ≡ out ++ (if b then p ∷ rest else rest)
+    at true p rest = append_assoc out (p ∷ []) rest
+    at false p rest = append_assoc out [] rest

@@ -74,6 +74,7 @@ fn with_proofs(alloc: Global, head: Vec<u8>, all: Goals) -> Result<Vec<u8>, Cert
     let mut number: u64 = 0;
     loop {
         let Some(current) = number.checked_add(1) else {
+            drop(goals);
             return Err(CertifyStop::NoMemory);
         };
         number = current;
@@ -82,7 +83,10 @@ fn with_proofs(alloc: Global, head: Vec<u8>, all: Goals) -> Result<Vec<u8>, Cert
             Ok(None) => return Ok(out),
             Ok(Some(next)) => {
                 match push_goal(alloc, &mut out, number, &next.goal) {
-                    Err(stop) => return Err(stop),
+                    Err(stop) => {
+                        drop(next);
+                        return Err(stop);
+                    }
                     Ok(()) => {}
                 }
                 goals = next.goals;

@@ -2,7 +2,7 @@
 ghost use Rattle.std.specs.Prelude.{◌≡◌, ◌&&◌, ◌+◌, ◌++◌, ◌∷◌, [], IfOk, OnOk, drop, length, map, suc};
 ghost use Rattle.plan_check.specs.Derivations.{renumbered, step_of};
 ghost use Rattle.plan_certificate.specs.Derivation.{marked_takes, needed, needed_lines, takes};
-ghost use Rattle.plan_certificate.specs.steps.Numbers.{number_in, number_of, one_if};
+ghost use Rattle.plan_certificate.specs.steps.Numbers.{number_in, number_of, one_if, term_in};
 
 use affine_forms::push;
 use plan_check::{Line, Term};
@@ -85,6 +85,16 @@ fn number_in(rows: usize, numbers: &[usize], row: usize) -> usize
     }
 }
 
+/// A term with its row's new number.
+fn term_in(rows: usize, numbers: &[usize], term: Term) -> Term
+    ensures { result ≡ term_in (number_in rows numbers.now) term }
+{
+    Term {
+        row: number_in(rows, numbers, term.row),
+        ..term
+    }
+}
+
 /// A line with its rows' new numbers.
 fn renumbered(
     alloc: Global,
@@ -96,9 +106,7 @@ fn renumbered(
 {
     let mut terms = Vec::new(alloc);
     for term in &line.terms {
-        let row = number_in(rows, numbers, term.row);
-        let factor = term.factor;
-        match push(&mut terms, Term { row, factor }) {
+        match push(&mut terms, term_in(rows, numbers, *term)) {
             Err(error) => return Err(error),
             Ok(()) => {}
         }

@@ -1,6 +1,8 @@
-use Rattle.scop_syntax.proofs.Common.{rules, ◌≡◌, ◌<◌, length, arith}
+use Rattle.scop_syntax.proofs.Common.{rules, ◌≡◌, ◌<◌, length, arith, map, sym}
+use Rattle.plan_check.specs.Derivations.{step_of}
+use Rattle.plan_certificate.specs.Derivation.{ended, passed}
 use Rattle.plan_certificate.specs.steps.States.{state_of}
-use Rattle.plan_certificate.proofs.Moves.{grows_then, divided_goes}
+use Rattle.plan_certificate.proofs.Moves.{grows_then, divided_goes, divided_next}
 use Rattle.plan_certificate.proofs.dividing.divide.Goals as goal
 
 pub returns-in-Ok-Ended-clause-grows : goal.returns-in-Ok-Ended-clause-grows
@@ -10,6 +12,21 @@ returns-in-Ok-Ended-clause-grows c =
 pub returns-in-Ok-Passed-clause-grows : goal.returns-in-Ok-Passed-clause-grows
 returns-in-Ok-Passed-clause-grows c =
     grows_then c.args.variables _ c.loop-at.rows.rows.items _ c.loop-at.invariant.grows c.in-Ok-Passed.ensures.grows
+
+pub returns-in-Ok-Ended-clause-comes : goal.returns-in-Ok-Ended-clause-comes
+returns-in-Ok-Ended-clause-comes c =
+    let count : c.len-count.result ≡ length c.args.rows.now.rows.items = search rules in
+    sym (divided_next c.args.variables c.loop-at.at c.args.rows.now.rows.items c.loop-at.invariant.grows.more
+    c.loop-at.rows.rows.items (state_of c.loop-at.rows) (ended (map step_of c.divide_row.new.rows.lines.items)) _
+    (omega (arith, count, c.loop-at-test.true)) c.loop-at.invariant.grows.is c.loop-at.invariant.rest
+    (rw c.in-Ok-Ended.field-0-is at c.in-Ok-Ended.ensures.comes))
+
+pub returns-in-Ok-Passed-clause-comes : goal.returns-in-Ok-Passed-clause-comes
+returns-in-Ok-Passed-clause-comes c =
+    let count : c.len-count.result ≡ length c.args.rows.now.rows.items = search rules in
+    sym (divided_next c.args.variables c.loop-at.at c.args.rows.now.rows.items c.loop-at.invariant.grows.more
+    c.loop-at.rows.rows.items (state_of c.loop-at.rows) passed _ (omega (arith, count, c.loop-at-test.true))
+    c.loop-at.invariant.grows.is c.loop-at.invariant.rest (rw c.in-Ok-Passed.field-0-is at c.in-Ok-Passed.ensures.comes))
 
 pub loop-at-preserved : goal.loop-at-preserved
 loop-at-preserved c =
