@@ -14,3 +14,4 @@ pub mod Reached
 pub mod PrintedTexts
 pub mod FirstFaults
 pub mod ReadTexts
+pub mod GrownLists

@@ -155,7 +155,10 @@ impl Checker {
         match self.goals.next(alloc) {
             Err(error) => Err(error),
             Ok(None) => Ok(true),
-            Ok(Some(_)) => Ok(false),
+            Ok(Some(next)) => {
+                drop(next);
+                Ok(false)
+            }
         }
     }
 }

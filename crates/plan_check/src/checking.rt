@@ -167,8 +167,10 @@ fn prove(alloc: Global, lines: usize, checker: Checker, said: Said) -> Result<St
     match said {
         Said::Goal(number) => goal_line(alloc, lines, checker, number),
         Said::Step(step) => step_line(alloc, lines, checker, &step),
-        Said::Row(_) => Err(rejected(FaultKind::Form, lines)),
-        Said::Scalar(_) => Err(rejected(FaultKind::Form, lines)),
+        Said::Row(_) | Said::Scalar(_) => {
+            drop(checker);
+            Err(rejected(FaultKind::Form, lines))
+        }
     }
 }
 
@@ -210,8 +212,14 @@ fn read_line(
         (line_judged model.now lines (stage_view stage) (said_in (loops_in model.now) line.now)) }
 {
     match read_said(alloc, loops, line) {
-        Err(_) => Err(CheckStop::NoMemory),
-        Ok(None) => Err(rejected(FaultKind::Form, lines)),
+        Err(_) => {
+            drop(stage);
+            Err(CheckStop::NoMemory)
+        }
+        Ok(None) => {
+            drop(stage);
+            Err(rejected(FaultKind::Form, lines))
+        }
         Ok(Some(said)) => advance(alloc, model, loops, lines, stage, said),
     }
 }
@@ -244,6 +252,7 @@ fn end_goals(alloc: Global, lines: usize, checker: Checker) -> Result<(), CheckS
     ensures points { IsOk result → All HasNoPoint checker.goals }
 {
     if !checker.is_ended() {
+        drop(checker);
         return Err(rejected_here(FaultKind::Goal, lines));
     }
     match checker.end_of_goals(alloc) {

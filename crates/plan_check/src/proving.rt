@@ -150,10 +150,15 @@ pub fn prove_step(
     ensures { Gives rejected_in (λ c. c) result (step_judged lines checker (step_view step.now)) }
 {
     if !step_held(step) {
-        return Err(rejected(unheld(checker.row_count(), step), lines));
+        let kind = unheld(checker.row_count(), step);
+        drop(checker);
+        return Err(rejected(kind, lines));
     }
     match line_of(alloc, step) {
-        Err(_) => Err(CheckStop::NoMemory),
+        Err(_) => {
+            drop(checker);
+            Err(CheckStop::NoMemory)
+        }
         Ok(line) => match checker.add_line(alloc, &line) {
             Err(stop) => Err(told(stop, lines)),
             Ok(checker) => Ok(checker),
@@ -172,9 +177,11 @@ pub fn prove_goal(
     ensures { Gives rejected_in (λ c. c) result (goal_judged lines checker number) }
 {
     if !checker.is_ended() {
+        drop(checker);
         return Err(rejected_here(FaultKind::Goal, lines));
     }
     if !is_next(number, checker.begun() as u128) {
+        drop(checker);
         return Err(rejected(FaultKind::Goal, lines));
     }
     match checker.begin_goal(alloc) {
