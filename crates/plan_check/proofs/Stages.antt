@@ -1,5 +1,5 @@
 -- Stages go from line to line: items suit the kernel and their numbers are not negative, goals stay those of the plan.
-use Rattle.scop_syntax.proofs.Common.{◌⊎◌, inl, inr, ◌≡◌, ◌∙◌, ap, sym, refl, subst, ℕ, suc, ◌≤◌, Bool, true, false}
+use Rattle.scop_syntax.proofs.Common.{◌⊎◌, inl, inr, ◌≡◌, ◌∙◌, ap, sym, refl, subst, ℕ, suc, Bool, true, false}
 use Rattle.scop_syntax.proofs.Common.{List, [], ◌∷◌, ◌++◌, length, map, arith, ◌==◌, ◌≤ℤ◌, not, if◌then◌else◌, pos}
 use Rattle.scop_syntax.proofs.Common.{Option, Some, None, Result, Ok, Err, option_map, ints, length-map, All-nil}
 use Rattle.scop_syntax.proofs.Common.{All-map, All-push, Affine}

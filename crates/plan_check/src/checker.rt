@@ -119,7 +119,10 @@ impl Checker {
         ensures { Gives fault_of (λ c. c) result (line_added self (step_of line.now)) }
     {
         match row_of(alloc, self.variables, &self.rows, line) {
-            Err(stop) => Err(stop),
+            Err(stop) => {
+                drop(self);
+                Err(stop)
+            }
             Ok(row) => self.with_row(row),
         }
     }
@@ -132,7 +135,10 @@ impl Checker {
         let ended = contradicts(&row);
         let mut rows = self.rows;
         match push(&mut rows, row) {
-            Err(_) => Err(LineStop::NoMemory),
+            Err(_) => {
+                drop(self.goals);
+                Err(LineStop::NoMemory)
+            }
             Ok(()) => Ok(Checker {
                 goals: self.goals,
                 begun: self.begun,
