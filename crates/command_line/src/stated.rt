@@ -88,9 +88,15 @@ fn with_command<'a>(
     match made {
         Ok(command) => match inner {
             Ok(inner) => command.subcommand(inner),
-            Err(error) => Err(error),
+            Err(error) => {
+                drop(command);
+                Err(error)
+            }
         },
-        Err(error) => Err(error),
+        Err(error) => {
+            drop(inner);
+            Err(error)
+        }
     }
 }
 
