@@ -7,7 +7,7 @@ ghost use Rattle.c_printer.specs.Reading.{divided_bound, read_bound, read_bounds
 ghost use Rattle.c_printer.specs.View.{bound_in, bound_part, divisor_in, form_part, sides_in};
 ghost use Rattle.c_printer.specs.steps.Reading.{all_bounds, chosen_bound, closed_bounds, last_bound};
 
-use crate::part::{Read, strip_repeated};
+use crate::part::{Read, push, strip_repeated};
 use crate::read_forms::read_tree_form;
 use form_text::{read_number, strip};
 use loop_tree::{Bound, Bounds};
@@ -187,7 +187,7 @@ pub fn read_bounds<'a>(
         };
         match read_chosen(alloc, divided, parameters, names, behind) {
             Ok(Some(bound)) => {
-                match bounds.push(bound.part) {
+                match push(&mut bounds, bound.part) {
                     Ok(()) => {}
                     Err(_) => return Err(AllocError),
                 }

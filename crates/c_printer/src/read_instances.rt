@@ -9,7 +9,7 @@ ghost use Rattle.c_printer.specs.steps.Reading.{given_end, read_given, body_end,
 ghost use Rattle.scop_syntax.specs.Standings.{standings_of};
 
 use crate::instances::names_of;
-use crate::part::{Read, strip_between};
+use crate::part::{Read, push, strip_between};
 use crate::place::Place;
 use crate::read_forms::read_turn;
 use crate::texts::{copies, push_name};
@@ -73,7 +73,7 @@ fn read_givens<'a>(
         let head = heads[at];
         match read_given(alloc, parameters, loops, names.as_slice(), head, rest) {
             Ok(Some(turn)) => {
-                match turns.push(turn.part) {
+                match push(&mut turns, turn.part) {
                     Ok(()) => {}
                     Err(_) => return Err(AllocError),
                 }

@@ -14,7 +14,7 @@ ghost use Rattle.c_printer.specs.steps.Reading.{parallel_from, read_condition, r
 
 use crate::header::put_front;
 use crate::nodes::print;
-use crate::part::{Read, strip_between, strip_repeated};
+use crate::part::{Read, push, strip_between, strip_repeated};
 use crate::place::{Place, Source, within_guard, within_loop};
 use crate::read_bounds::read_bounds;
 use crate::read_instances::read_instance;
@@ -191,7 +191,7 @@ fn read_nodes<'a>(
         };
         match read_node(steps - (at + 1), alloc, place, behind) {
             Ok(Some(node)) => {
-                match nodes.push(node.part) {
+                match push(&mut nodes, node.part) {
                     Ok(()) => {}
                     Err(_) => return Err(AllocError),
                 }
@@ -271,12 +271,12 @@ fn read_loop<'a>(
 {
     let source = place.source;
     let parameters = source.kernel.parameters.len();
+    let inner = within_loop(alloc, place)?;
     let line = match read_line_at(alloc, steps, parameters, place, parallel, text) {
         Ok(Some(line)) => line,
         Ok(None) => return Ok(None),
         Err(_) => return Err(AllocError),
     };
-    let inner = within_loop(alloc, place)?;
     match read_nodes(steps, alloc, &inner, line.rest) {
         Ok(body) => Ok(closed_loop(line.part, closed_body(place.level, body))),
         Err(_) => Err(AllocError),
@@ -299,12 +299,12 @@ fn read_guard<'a>(
 {
     let source = place.source;
     let parameters = source.kernel.parameters.len();
+    let inner = within_guard(alloc, place)?;
     let condition = match read_condition(alloc, steps, parameters, &place.names, text) {
         Ok(Some(condition)) => condition,
         Ok(None) => return Ok(None),
         Err(_) => return Err(AllocError),
     };
-    let inner = within_guard(alloc, place)?;
     match read_nodes(steps, alloc, &inner, condition.rest) {
         Ok(body) => Ok(closed_guard(condition.part, closed_body(place.level, body))),
         Err(_) => Err(AllocError),

@@ -6,7 +6,7 @@ ghost use Rattle.c_printer.specs.Reading.{read_tests, test_behind, with_test};
 ghost use Rattle.c_printer.specs.View.{condition_in, form_part, test_in, test_part, tests_in};
 ghost use Rattle.c_printer.specs.steps.Reading.{read_condition};
 
-use crate::part::Read;
+use crate::part::{Read, push};
 use crate::read_bounds::read_divisor;
 use crate::read_forms::read_tree_form;
 use form_text::strip;
@@ -102,7 +102,7 @@ fn alone(alloc: Global, test: Test) -> Result<Vec<Test>, AllocError>
     ensures { IfOk result (λ v. v.items ≡ test ∷ []) }
 {
     let mut tests = Vec::new(alloc);
-    match tests.push(test) {
+    match push(&mut tests, test) {
         Ok(()) => Ok(tests),
         Err(_) => Err(AllocError),
     }
@@ -128,7 +128,7 @@ fn with_more<'a>(
         };
         match read_test(alloc, parameters, names, behind) {
             Ok(Some(test)) => {
-                match tests.push(test.part) {
+                match push(&mut tests, test.part) {
                     Ok(()) => {}
                     Err(_) => return Err(AllocError),
                 }
