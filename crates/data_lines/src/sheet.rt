@@ -1,6 +1,6 @@
 //! What data says so far.
 
-ghost use Rattle.std.specs.Prelude.{◌≡◌, ◌<◌, IfOk, length, slice_set, slice_index_or, Some};
+ghost use Rattle.std.specs.Prelude.{◌≡◌, ◌<◌, IfOk, length, map, replicate, slice_set, slice_index_or, Some};
 ghost use Rattle.scop_syntax.specs.View.{program_of};
 ghost use Rattle.data_lines.specs.Sheets.{IsSheetOf, given_of, empty_sheet, nothing, sheet_of};
 ghost use Rattle.data_lines.specs.Entries.{is_given};
@@ -26,6 +26,17 @@ pub struct Sheet {
     pub rows: Vec<Given>,
 }
 
+/// Nothing is said of so many arrays.
+fn empty_rows(alloc: Global, count: usize) -> Result<Vec<Given>, AllocError>
+    ensures { IfOk result (λ rows. map given_of rows.items ≡ replicate count nothing) }
+{
+    let mut rows = Vec::new(alloc);
+    while rows.len() < count {
+        rows.push(Given::Nothing)?;
+    }
+    Ok(rows)
+}
+
 impl Sheet {
     /// A sheet on which nothing is said.
     pub fn of(alloc: Global, kernel: &Kernel) -> Result<Sheet, AllocError>
@@ -33,11 +44,7 @@ impl Sheet {
         ensures shape { IfOk result (λ sheet. IsSheetOf (program_of kernel.now) (sheet_of sheet)) }
     {
         let values = vec![in alloc; None; kernel.parameters.len()]?;
-        let count = kernel.arrays.len();
-        let mut rows = Vec::with_capacity(alloc, count)?;
-        while rows.len() < count {
-            rows.push(Given::Nothing)?;
-        }
+        let rows = empty_rows(alloc, kernel.arrays.len())?;
         Ok(Sheet { values, rows })
     }
 

@@ -1,7 +1,7 @@
 -- Nothing is said of the arrays so far.
 use Rattle.scop_syntax.proofs.Common.{◌≡◌, ◌≤◌, ◌-◌, length, map, replicate}
 use Rattle.data_lines.specs.Sheets.{given_of, nothing}
-use Rattle.data_lines.proofs.sheet.Sheet.of.Given as goal
+use Rattle.data_lines.proofs.sheet.empty_rows.Given as goal
 
 abbrev pub invariant-loop-rows : goal.invariant-loop-rows
 invariant-loop-rows l = record {
