@@ -1,6 +1,6 @@
 -- The texts of terms and of steps, and terms with new numbers, one more.
 use Rattle.scop_syntax.proofs.Common.{◌≡◌, ◌+◌, ◌<◌, ◌++◌, ℕ, List, refl, ap, ◌∙◌, add-one, drop-cons, drop, get_or}
-use Rattle.scop_syntax.proofs.Common.{length, map, codes, [], ◌∷◌, get_or_default, map_more, subst}
+use Rattle.scop_syntax.proofs.Common.{length, map, codes, [], ◌∷◌, get_or_default, map_end, map_more, subst, ◌≤◌}
 use Rattle.scop_lexer.specs.Bytes.{Text}
 use Rattle.plan_check.specs.Derivations.{step_of}
 use Rattle.plan_check.specs.Printed.{step_text, terms_text}
@@ -33,3 +33,8 @@ term_more at own terms i d y done next whole is inside made =
     let less = subst (λ (ts : List Term). i < length ts) is inside in
     map_more (term_in at) terms i (get_or terms i d) y done next whole less (get_or_default terms i d _ less)
     (made ∙ ap (λ (ts : List Term). term_in at (get_or ts i d)) is)
+
+pub term_end : (at : ℕ → ℕ) (own terms : List Term) (i : ℕ) (done whole : List Term) → own ≡ terms → length own ≤ i
+    → done ++ map (term_in at) (drop i terms) ≡ whole → done ≡ whole
+term_end at own terms i done whole is past =
+    map_end (term_in at) terms i done whole (subst (λ (ts : List Term). length ts ≤ i) is past)

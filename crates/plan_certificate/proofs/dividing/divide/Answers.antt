@@ -1,4 +1,6 @@
-use Rattle.scop_syntax.proofs.Common.{rules, ◌≡◌, ◌<◌, length, arith, map, sym}
+use Rattle.scop_syntax.proofs.Common.{rules, ◌≡◌, ◌<◌, All, All-append, List, ap, length, length-append, arith, map, subst, sym}
+use Rattle.scop_syntax.proofs.Common.{Affine}
+use Rattle.affine_forms.specs.Parts.{variables_of}
 use Rattle.plan_check.specs.Derivations.{step_of}
 use Rattle.plan_certificate.specs.Derivation.{ended, passed}
 use Rattle.plan_certificate.specs.steps.States.{state_of}
@@ -40,3 +42,18 @@ loop-at-preserved c =
           c.loop-at.invariant.grows.is c.loop-at.invariant.rest
           (rw c.in-Ok-Goes.field-0-is at c.in-Ok-Goes.ensures.comes);
     }
+
+pub divide_row-requires-clause-sized : goal.divide_row-requires-clause-sized
+divide_row-requires-clause-sized c =
+    let g = c.loop-at.invariant.grows in
+    subst (λ (fs : List Affine). All (λ f. variables_of f ≡ c.args.variables) fs) (sym g.is)
+    (All-append (λ f. variables_of f ≡ c.args.variables) c.args.rows.now.rows.items g.more c.requires.sized g.sized)
+
+pub divide_row-requires-clause-place : goal.divide_row-requires-clause-place
+divide_row-requires-clause-place c =
+    let g = c.loop-at.invariant.grows in
+    let rows = c.args.rows.now.rows.items in
+    let count : c.len-count.result ≡ length rows = search rules in
+    let all = ap (λ (fs : List Affine). length fs) g.is in
+    let both = length-append rows g.more in
+    omega (arith, count, c.loop-at-test.true)
