@@ -1,7 +1,7 @@
 -- Lists that loops make from others: the entry at a place (`here`), one entry more, and all of them.
-use Rattle.scop_syntax.proofs.Common.{◌≡◌, ◌∙◌, ap, sym, refl, ℕ, ◌+◌, ◌<◌, ◌≤◌, List, [], ◌∷◌, ◌++◌, drop, get_or, length}
-use Rattle.scop_syntax.proofs.Common.{map, add-one, append-nil, append_assoc, drop-cons, drop_of_length-le, Option, Some}
-use Rattle.scop_syntax.proofs.Common.{None, Affine, Result, Ok, Err, negsuc, get_or_default}
+use Rattle.scop_syntax.proofs.Common.{◌≡◌, ◌∙◌, ap, sym, refl, ℕ, ◌+◌, ◌<◌, ◌≤◌, List, [], ◌∷◌, ◌++◌, drop, get_or}
+use Rattle.scop_syntax.proofs.Common.{length, map, add-one, append-nil, append_assoc, drop-cons, drop_of_length-le}
+use Rattle.scop_syntax.proofs.Common.{Option, Some, None, Affine, Result, Ok, Err, negsuc, get_or_default}
 use Rattle.wide_math.specs.Checked.{◌>>=◌}
 use Rattle.wide_math.specs.Gives.{IsTold}
 use Rattle.wide_math.specs.declared.Wide.{Wide}

@@ -1,5 +1,5 @@
-use Rattle.scop_syntax.proofs.Common.{rules, ◌≡◌, ◌<◌, All, All-append, List, ap, length, length-append, arith, map, subst, sym}
-use Rattle.scop_syntax.proofs.Common.{Affine}
+use Rattle.scop_syntax.proofs.Common.{rules, ◌≡◌, ◌<◌, All, All-append, List, ap, length, length-append}
+use Rattle.scop_syntax.proofs.Common.{Affine, arith, map, subst, sym}
 use Rattle.affine_forms.specs.Parts.{variables_of}
 use Rattle.plan_check.specs.Derivations.{step_of}
 use Rattle.plan_certificate.specs.Derivation.{ended, passed}
@@ -28,7 +28,8 @@ returns-in-Ok-Passed-clause-comes c =
     let count : c.len-count.result ≡ length c.args.rows.now.rows.items = search rules in
     sym (divided_next c.args.variables c.loop-at.at c.args.rows.now.rows.items c.loop-at.invariant.grows.more
     c.loop-at.rows.rows.items (state_of c.loop-at.rows) passed _ (omega (arith, count, c.loop-at-test.true))
-    c.loop-at.invariant.grows.is c.loop-at.invariant.rest (rw c.in-Ok-Passed.field-0-is at c.in-Ok-Passed.ensures.comes))
+    c.loop-at.invariant.grows.is c.loop-at.invariant.rest
+    (rw c.in-Ok-Passed.field-0-is at c.in-Ok-Passed.ensures.comes))
 
 pub loop-at-preserved : goal.loop-at-preserved
 loop-at-preserved c =

@@ -1,4 +1,5 @@
-use Rattle.scop_syntax.proofs.Common.{rules, ◌≡◌, pos, arith, FitsSigned, get_or, get_or_default, map_end, map_more, w128, to_z-of_z}
+use Rattle.scop_syntax.proofs.Common.{rules, ◌≡◌, pos, arith, FitsSigned, get_or, get_or_default}
+use Rattle.scop_syntax.proofs.Common.{map_end, map_more, w128, to_z-of_z}
 use Rattle.plan_check.proofs.laying.signed.Goals as goal
 
 pub loop-at-preserved : goal.loop-at-preserved
