@@ -9,6 +9,7 @@ pub mod GoodStates
 pub mod NextStates
 pub mod RunSteps
 pub mod CutDependences
+pub mod ReadParts
 pub mod ValueOrder
 -- Passed on: lemmas about what this crate passes on.
 pub use Rattle.schedule_rows.proofs.Determinism

@@ -11,12 +11,18 @@ use Rattle.schedule_rows.specs.Next.{Restricts, Uncuts}
 use Rattle.schedule_rows.specs.Outcomes.{Outcome, ends, no_order, Orders}
 use Rattle.schedule_rows.specs.Schedule.{block_of}
 use Rattle.schedule_rows.specs.declared.item.Block.TheVariants as code_block
+use Rattle.schedule_rows.specs.declared.item.Part as code_part
 use Rattle.schedule_rows.specs.declared.item.Row as code_row
+use Rattle.pluto_systems.specs.Unknowns.{Part}
 use Rattle.pluto_search.specs.Sizes.{narrowed_each}
 use Rattle.pluto_search.specs.Questions.{AreRuledBy}
 use Rattle.pluto_search.specs.Steps.{AllRuled, state_of, vectors_in}
 use Rattle.pluto_search.specs.declared.state.Progress.{Progress}
 use Rattle.pluto_search.specs.declared.kept.Kept.TheVariants as kept
+
+-- what the code's parts of a row stand for
+abbrev pub parts_of : List code_part.Part → List Part
+parts_of ps = map (λ p. record { coefficients = p.coefficients.items; shift = p.shift }) ps
 
 -- both statements of each dependence are among n
 abbrev pub AreWithin : ℕ → List Dependence → Type 0

@@ -2,6 +2,7 @@
 ghost use Rattle.std.specs.Prelude.{◌≡◌, true, false, ◌++◌, [], All, IfOk, IfErr, length, map, suc, ◌+◌};
 ghost use Rattle.scop_syntax.specs.Members.{In};
 ghost use Rattle.iteration_domains.specs.Dependence.{Dependence};
+ghost use Rattle.schedule_rows.specs.Items.{closed_by};
 ghost use Rattle.schedule_rows.specs.Next.{rows_of};
 ghost use Rattle.schedule_rows.specs.Posed.{IsFull};
 ghost use Rattle.schedule_rows.specs.Outcomes.{items_in};
@@ -21,6 +22,7 @@ use crate::restricting::restrict_all;
 use crate::rows::{is_parallel, is_within, narrow_all, row_from};
 use crate::state::{Progress, Search, Step};
 use crate::stops::{by_rows, by_solver};
+use affine_forms::push;
 use integer_sets::System;
 use iteration_domains::Dep;
 use null_space::Rows;
@@ -28,6 +30,7 @@ use pip_solver::least_point_in;
 use pluto_systems::{Ruled, posed_over};
 use schedule_rows::{Block, Marked, Row};
 use std::alloc::{AllocError, Global};
+use std::mem;
 
 /// Whether no kernel vector is left.
 fn is_full(vectors: &[Rows]) -> bool
@@ -73,6 +76,14 @@ fn end(alloc: Global, loops: &[usize], closed: Vec<Block>, left: &[Dep]) -> Resu
     }
 }
 
+/// The blocks, with the open band if it has rows.
+fn blocks_of(progress: Progress) -> Result<Vec<Block>, AllocError>
+    ensures { IfOk result (λ v. map block_of v.items
+        ≡ closed_by (map block_of progress.closed.items) (map marked_of progress.rows.items)) }
+{
+    close(progress.closed, progress.rows)
+}
+
 /// All statements have full rank: the last restriction, and the end.
 fn finish(alloc: Global, search: &Search, progress: Progress) -> Result<Step, Kept>
     requires good { IsGood search.now.parameters search.now.loops.now search.now.budget progress }
@@ -83,12 +94,17 @@ fn finish(alloc: Global, search: &Search, progress: Progress) -> Result<Step, Ke
         Err(_) => return Err(Kept::NoMemory),
         Ok(deps) => deps,
     };
-    let Progress { closed, rows, .. } = progress;
-    let left = match restrict_all(alloc, search.parameters, &rows, &deps, search.budget) {
+    let left = match restrict_all(
+        alloc,
+        search.parameters,
+        &progress.rows,
+        &deps,
+        search.budget,
+    ) {
         Err(kept) => return Err(kept),
         Ok(left) => left,
     };
-    let blocks = match close(closed, rows) {
+    let blocks = match blocks_of(progress) {
         Err(_) => return Err(Kept::NoMemory),
         Ok(blocks) => blocks,
     };
@@ -224,32 +240,17 @@ fn too_large(progress: &Progress) -> Kept
 /// The least row is appended with its mark.
 fn append(
     alloc: Global,
-    progress: Progress,
+    mut progress: Progress,
     row: Row,
     parallel: bool,
 ) -> Result<Progress, AllocError>
     requires { CanNarrowEach (map (λ c. c.coefficients.items) row.parts.items) (vectors_in progress) }
     ensures { IfOk result (IsAppended progress row parallel) }
 {
-    let Progress {
-        closed,
-        rows,
-        ruled,
-        bare,
-        vectors,
-    } = progress;
-    let vectors = narrow_all(alloc, &row, &vectors)?;
-    let mut rows = rows;
-    match rows.push(Marked { row, parallel }) {
-        Err(_) => Err(AllocError),
-        Ok(()) => Ok(Progress {
-            closed,
-            rows,
-            ruled,
-            bare,
-            vectors,
-        }),
-    }
+    let vectors = narrow_all(alloc, &row, &progress.vectors)?;
+    push(&mut progress.rows, Marked { row, parallel })?;
+    drop(mem::replace(&mut progress.vectors, vectors));
+    Ok(progress)
 }
 
 /// The least row is appended, marked by the questions of `phi_T - phi_S >= 1`; or it is too large.
@@ -300,7 +301,7 @@ fn rule_all(
     for dep in bare {
         match Ruled::of(alloc, dep, budget) {
             Err(stuck) => return Err(by_rows(stuck)),
-            Ok(next) => match all.push(next) {
+            Ok(next) => match push(&mut all, next) {
                 Err(_) => return Err(Kept::NoMemory),
                 Ok(()) => {}
             },

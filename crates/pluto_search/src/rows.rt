@@ -7,10 +7,11 @@ ghost use Rattle.null_space.specs.Narrowing.{narrowed_by};
 ghost use Rattle.schedule_rows.specs.Dependences.{IsEmptyDep, above_at};
 ghost use Rattle.schedule_rows.specs.Next.{IsWithin};
 ghost use Rattle.schedule_rows.specs.Schedule.{row_of};
-ghost use Rattle.pluto_systems.specs.Placing.{columns_of, row_from};
+ghost use Rattle.pluto_systems.specs.Placing.{columns_in, columns_of, parts_from, row_from};
 ghost use Rattle.pluto_systems.specs.Posing.{RuledDep, dep_of};
 ghost use Rattle.pluto_search.specs.Questions.{AnswersMark, AnswersMarks, StopsEmptiness, StopsMarks};
 ghost use Rattle.pluto_search.specs.Sizes.{CanTell, CanNarrow, CanNarrowEach, narrowed_each};
+ghost use Rattle.pluto_search.specs.StepParts.{parts_of};
 ghost use Rattle.pluto_search.specs.Stopping.{IsStop};
 
 use crate::kept::Kept;
@@ -37,6 +38,22 @@ fn part_from(alloc: Global, numbers: &[i128], loops: usize) -> Result<Part, Allo
     })
 }
 
+/// The parts of these numbers.
+fn parts_from(alloc: Global, loops: &[usize], numbers: &[i128]) -> Result<Vec<Part>, AllocError>
+    requires { length numbers.now ≡ columns_in loops.now }
+    ensures { IfOk result (λ v. parts_of v.items ≡ parts_from loops.now numbers.now) }
+{
+    let mut parts = Vec::new(alloc);
+    let mut rest = numbers;
+    for s in 0..loops.len() {
+        let part = part_from(alloc, rest, loops[s])?;
+        parts.push(part)?;
+        let (_, behind) = rest.split_at(loops[s] + 1);
+        rest = behind;
+    }
+    Ok(parts)
+}
+
 /// The row of these numbers in the objective's order.
 pub fn row_from(
     alloc: Global,
@@ -47,15 +64,9 @@ pub fn row_from(
     requires { length numbers.now ≡ columns_of parameters loops.now }
     ensures { IfOk result (λ r. row_of r ≡ row_from parameters loops.now numbers.now) }
 {
-    let mut u = Vec::new(alloc);
-    u.extend_from_slice(&numbers[..parameters])?;
-    let mut parts = Vec::new(alloc);
-    let mut rest = &numbers[parameters + 1..];
-    for s in 0..loops.len() {
-        let part = part_from(alloc, rest, loops[s])?;
-        parts.push(part)?;
-        rest = &rest[loops[s] + 1..];
-    }
+    let u = Vec::from_slice(alloc, &numbers[..parameters])?;
+    let (_, behind) = numbers.split_at(parameters + 1);
+    let parts = parts_from(alloc, loops, behind)?;
     Ok(Row {
         u,
         w: numbers[parameters],

@@ -27,7 +27,7 @@ loop-dep-preserved c =
     let x = c.in-Ok.next in
     let d = c.in-Some.dep in
     let budget = c.args.budget in
-    let e = c.in-Ok-push.ensures.items in
+    let e = c.in-Ok-push.ensures.pushed in
     let steps = c.in-Some.ensures.steps.0 in
     let own = c.in-Ok.ensures.dep in (
       tt,
