@@ -1,16 +1,14 @@
 -- Seats at the table: of one worker, and at the start of several.
-use Rattle.std.specs.Prelude.{◌≡◌, ℕ, ◌-◌, List, [], Some}
+use Rattle.std.specs.Prelude.{◌≡◌, ℕ, ◌-◌, List, [], All, Some}
 use Rattle.atomic_table.specs.declared.shared.Seat.{Seat}
 use Rattle.tile_events.specs.Rule.{unmoved}
 use Rattle.tile_core.specs.declared.plan.Plan.{Plan}
 use Rattle.tile_core.specs.declared.worker.Stage.{Stage}
 use Rattle.tile_core.specs.declared.worker.Stage.TheVariants.{Idle}
-use Rattle.tile_core.specs.declared.worker.Worker.{Worker}
-use Rattle.tile_core.specs.Workers.{IsWorker}
 use Rattle.tile_core.specs.declared.view.View.{View}
 use Rattle.tile_core.specs.declared.words.Words.{Words}
 use Rattle.tile_core.specs.declared.words.Pass.{Pass}
-use Rattle.tile_core.specs.Passes.{IsWords}
+use Rattle.tile_core.specs.Passes.{IsPass, IsWords}
 
 -- the seat stands for one worker, which is at stage s and has read xs for its next instance
 pub record IsSeat (words : Words) (s : Stage) (xs : List ℕ) (seat : Seat (Unit {0}) View) : Type 0 where
@@ -55,8 +53,8 @@ IsIdlePass pass = pass.worker.stage ≡ Idle
 abbrev pub IsUnmoved : Pass → Type 0
 IsUnmoved pass = pass.seat.me.0.clock.steps ≡ 0
 
--- a worker of the plan that is idle and has read nothing
-pub record IsIdleWorker (plan : Plan) (w : Worker) : Type 0 where
-  pub is : IsWorker plan w
-  pub stage : w.stage ≡ Idle
-  pub reads : w.reads.items ≡ []
+-- the passes are of these words, their workers are idle, and none has made a step
+pub record AreUnused (words : Words) (passes : List Pass) : Type 0 where
+  pub are : All (IsPass words) passes
+  pub idle : All IsIdlePass passes
+  pub unmoved : All IsUnmoved passes

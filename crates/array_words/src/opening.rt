@@ -1,9 +1,8 @@
 //! The start: the words of the opening state, and a pass for each worker.
-ghost use Rattle.std.specs.Prelude.{◌≡◌, ◌-◌, ◌<◌, ◌≤◌, All, IfOk, length};
-ghost use Rattle.array_words.specs.Seats.{IsIdlePass, IsIdleWorker, IsRest, IsStart, IsUnmoved};
+ghost use Rattle.std.specs.Prelude.{◌≡◌, ◌+◌, ◌-◌, ◌<◌, ◌≤◌, All, IfOk, OnOk, length};
+ghost use Rattle.array_words.specs.Seats.{AreUnused, IsIdlePass, IsRest, IsStart, IsUnmoved};
 ghost use Rattle.tile_core.specs.Passes.{IsPass, IsWords};
 ghost use Rattle.tile_core.specs.Plans.{HasRest, IsPlan, shape_of};
-ghost use Rattle.tile_core.specs.declared.worker.Stage.TheVariants.{Idle};
 
 use atomic_table::{Seat, Split, Table};
 use std::alloc::{AllocError, Global};
@@ -60,18 +59,52 @@ fn opened<'a>(
     Ok((Words { plan, table }, rest))
 }
 
-/// A pass for one of the workers for whom the seat stands.
-fn split(words: &Words, rest: &mut Seat<(), View>, worker: Worker) -> Pass
+/// A seat for one of the workers for whom the seat stands.
+fn split(words: &Words, rest: &mut Seat<(), View>) -> Seat<(), View>
     requires rest { IsRest words.now rest.old.me.0.parts rest.old }
     requires more { 1 < rest.old.me.0.parts }
-    requires worker { IsIdleWorker words.now.plan worker }
     ensures rest { IsRest words.now (rest.old.me.0.parts - 1) rest.new }
-    ensures pass { IsPass words.now result }
-    ensures idle { result.worker.stage ≡ Idle }
-    ensures unmoved { IsUnmoved result }
+    ensures one { IsRest words.now 1 result }
 {
     seats_are_allowed::<View>();
-    Pass::of(words.table.shared.split_seat::<Cut>(rest), worker)
+    words.table.shared.split_seat::<Cut>(rest)
+}
+
+/// One pass more, of a seat that stands for one worker.
+fn push_pass(
+    passes: &mut Vec<Pass>,
+    alloc: Global,
+    words: &Words,
+    seat: Seat<(), View>,
+) -> Result<(), AllocError>
+    requires { IsRest words.now 1 seat }
+    ensures unused { OnOk result (AreUnused words.now passes.old.items → AreUnused words.now passes.new.items) }
+    ensures count { OnOk result (length passes.new.items ≡ length passes.old.items + 1) }
+{
+    let worker = Worker::idle(alloc, &words.plan)?;
+    passes.push(Pass::of(seat, worker))?;
+    Ok(())
+}
+
+/// A pass for each of the workers for whom the seat stands.
+fn deal(
+    alloc: Global,
+    words: &Words,
+    mut rest: Seat<(), View>,
+    workers: usize,
+) -> Result<Vec<Pass>, AllocError>
+    requires rest { IsRest words.now workers rest }
+    requires some { 1 ≤ workers }
+    ensures unused { IfOk result (λ v. AreUnused words.now v.items) }
+    ensures count { IfOk result (λ v. length v.items ≡ workers) }
+{
+    let mut passes = Vec::with_capacity(alloc, workers)?;
+    for _ in 1..workers {
+        let seat = split(words, &mut rest);
+        push_pass(&mut passes, alloc, words, seat)?;
+    }
+    push_pass(&mut passes, alloc, words, rest)?;
+    Ok(passes)
 }
 
 /// The words of the opening state, with these cells, which stay as they are, and a pass for each worker, none of which has
@@ -99,12 +132,7 @@ pub fn start<'a>(
     ensures unmoved { IfOk result (λ r. All IsUnmoved r.1.items) }
     ensures count { IfOk result (λ r. length r.1.items ≡ workers) }
 {
-    let (words, mut rest) = opened(alloc, plan, cells, workers)?;
-    let mut passes = Vec::with_capacity(alloc, workers)?;
-    for _ in 1..workers {
-        let worker = Worker::idle(alloc, &words.plan)?;
-        passes.push(split(&words, &mut rest, worker))?;
-    }
-    passes.push(Pass::of(rest, Worker::idle(alloc, &words.plan)?))?;
+    let (words, rest) = opened(alloc, plan, cells, workers)?;
+    let passes = deal(alloc, &words, rest, workers)?;
     Ok((words, passes))
 }
