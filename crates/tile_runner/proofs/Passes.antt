@@ -27,7 +27,7 @@ rewritten [] (y ∷ ys) e = absurd (omega (arith, e))
 rewritten (x ∷ xs) [] e = absurd (omega (arith, e))
 rewritten (x ∷ xs) (y ∷ ys) e = ap (λ zs. x ∷ zs) (rewritten xs ys (omega (arith, e)))
 
-whole : (old new : List Pass) (n : ℕ) → n ≡ length old → length new ≡ length old
+pub whole : (old new : List Pass) (n : ℕ) → n ≡ length old → length new ≡ length old
     → take n (new ++ drop (length new) old) ≡ new
 whole old new n is same = ap (λ (m : ℕ). take m (new ++ drop (length new) old)) is ∙ rewritten new old same
 

@@ -1,4 +1,4 @@
-use Rattle.scop_syntax.proofs.Common.{arith, subst, sym}
+use Rattle.scop_syntax.proofs.Common.{[], ◌∷◌, ◌∙◌, ap, arith, length, length-append, subst, sym}
 use Rattle.array_words.specs.Loads.{IsNextRead}
 use Rattle.tile_core.specs.Passes.{walk_in}
 use Rattle.tile_core.specs.declared.worker.Stage.{Stage}
@@ -37,3 +37,14 @@ load-requires-clause-next c =
     subst (λ (u : Stage). IsNextRead (walk_in w) u xs c.cell_read-cell.result) (sym is.stage)
     (copy_read w.plan c.args.pass.now.worker.stage c.args.instance.now c.requires.due w.table.shared.key.cells.items xs
     c.loop-read.read c.cell_read-cell.result is.count (omega (arith, end, less)) c.cell_read-cell.ensures.cell)
+
+pub loop-read-preserved : goal.loop-read-preserved
+loop-read-preserved c =
+    let is = c.loop-read.invariant in
+    let count = is.count in
+    let longer = ap length c.load.ensures.reads ∙ length-append c.loop-read.pass.worker.reads.items (c.load.result ∷ [])
+    in record {
+      pass = c.load.ensures.pass;
+      stage = c.load.ensures.stage ∙ is.stage;
+      count = omega (arith, count, longer);
+    }

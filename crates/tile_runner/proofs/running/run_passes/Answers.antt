@@ -3,8 +3,16 @@ use Rattle.scop_syntax.proofs.Common.{take-append_seam}
 use Rattle.tile_core.specs.declared.plan.Plan.{Plan}
 use Rattle.tile_core.specs.Plans.{plan_of}
 use Rattle.array_words.specs.Closing.{IsClosed}
-use Rattle.tile_runner.proofs.Passes.{all_count, all_passes, all_rest}
+use Rattle.tile_runner.proofs.Passes.{all_count, all_passes, all_rest, whole}
 use Rattle.tile_runner.proofs.running.run_passes.Goals as goal
+
+pub close-requires-clause-all : goal.close-requires-clause-all
+close-requires-clause-all g c =
+    let n : c.in_ok-words.passes.len ≡ length c.in_ok-words.passes.items = search rules in
+    let l : length c.work_all.new.passes ≡ length c.in_ok-words.passes.items = search rules in
+    let k : length c.in_ok-words.passes.items ≡ c.args.workers = search rules in
+    ap length (whole c.in_ok-words.passes.items c.work_all.new.passes c.in_ok-words.passes.len n l)
+    ∙ (l ∙ (k ∙ sym c.in_ok-words.ensures.key.all))
 
 pub close-requires-clause-over : goal.close-requires-clause-over
 close-requires-clause-over g c =
