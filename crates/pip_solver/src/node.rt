@@ -1,6 +1,6 @@
 //! A node: a tableau, a context of rows over its parameters, and the parameters that cuts have bound. A move changes
 //! it in place; a cut or a split takes its memory before it changes anything.
-ghost use Rattle.std.specs.Prelude.{◌≡◌, ℕ, ◌+◌, ◌<◌, length, All, None, Some, Ok, Err, IfOk, IfErr, OnOk};
+ghost use Rattle.std.specs.Prelude.{◌≡◌, ℕ, ◌+◌, ◌<◌, length, All, None, Some, Ok, Err, IfOk, IfErr, OnErr, OnOk};
 ghost use Rattle.affine_forms.specs.Gives.{Gives};
 ghost use Rattle.affine_forms.specs.Parts.{variables_of};
 ghost use Rattle.wide_math.specs.declared.Wide.{Wide};
@@ -17,7 +17,7 @@ use crate::bounds::{Bound, bind_front, copied_bounds, place_of};
 use crate::forms::{copies_with, opposite, tied_forms};
 use crate::parts::{all_zero, part_of, taken_off};
 use crate::ties::tied_parts;
-use affine_forms::{Form, FormStop, copies};
+use affine_forms::{Form, FormStop, copies, push};
 use checked_tableau::{Problem, Rows, TableauStop};
 use std::alloc::{AllocError, Global};
 use std::mem;
@@ -143,7 +143,7 @@ impl Tableau {
         if let Some(wide) = self.rows.stopped() {
             return Err(TableauStop::Wide(wide));
         }
-        let (part, test, opposite) = match split_forms(alloc, &self.rows, row) {
+        let (test, opposite) = match split_forms(alloc, &self.rows, row) {
             Err(FormStop::NoMemory) => return Err(TableauStop::NoMemory),
             Err(FormStop::Wide(wide)) => {
                 self.rows.stop(wide);
@@ -151,15 +151,32 @@ impl Tableau {
             }
             Ok(forms) => forms,
         };
-        let second = match self.side(alloc, opposite) {
-            Err(_) => return Err(TableauStop::NoMemory),
+        match self.split_on(alloc, &test, opposite) {
+            Err(_) => Err(TableauStop::NoMemory),
+            Ok(second) => Ok(Move::Splits { test, second }),
+        }
+    }
+
+    // The node becomes the side of a split on which a form is at least 0, beside the one on which another is.
+    fn split_on(&mut self, alloc: Global, form: &Form, other: Form) -> Result<Tableau, AllocError>
+        ensures beside { IfOk result (λ t. (node_of t ≡ side (node_of self.old) other) × (t.rows ≡ self.old.rows)) }
+        ensures goes { OnOk result (node_of self.new ≡ side (node_of self.old) form.now) }
+        ensures stays { OnErr result (node_of self.new ≡ node_of self.old) }
+        ensures rows { self.new.rows ≡ self.old.rows }
+    {
+        let part = match form.copy() {
+            Err(_) => return Err(AllocError),
+            Ok(part) => part,
+        };
+        let second = match self.side(alloc, other) {
+            Err(error) => return Err(error),
             Ok(second) => second,
         };
-        match self.context.push(part) {
-            Err(_) => Err(TableauStop::NoMemory),
+        match push(&mut self.context, part) {
+            Err(error) => Err(error),
             Ok(()) => {
                 self.begins = true;
-                Ok(Move::Splits { test, second })
+                Ok(second)
             }
         }
     }
@@ -333,23 +350,18 @@ impl Tableau {
     }
 }
 
-// A row's part, twice, and its opposite.
-fn split_forms(alloc: Global, rows: &Rows, row: usize) -> Result<(Form, Form, Form), FormStop>
+// A row's part, and its opposite.
+fn split_forms(alloc: Global, rows: &Rows, row: usize) -> Result<(Form, Form), FormStop>
     requires { row < length rows.now.rows }
     ensures part { IfOk result (λ p. p.0 ≡ part_of rows.now.unknowns (row_at rows.now.rows row)) }
-    ensures test { IfOk result (λ p. p.1 ≡ part_of rows.now.unknowns (row_at rows.now.rows row)) }
-    ensures opposite { Gives (λ p. p.2) result (opposite_run (part_of rows.now.unknowns (row_at rows.now.rows row))) }
+    ensures opposite { Gives (λ p. p.1) result (opposite_run (part_of rows.now.unknowns (row_at rows.now.rows row))) }
 {
     let part = match part_of(alloc, rows, row) {
         Err(_) => return Err(FormStop::NoMemory),
         Ok(part) => part,
     };
-    let opposite = match opposite(alloc, &part) {
-        Err(stop) => return Err(stop),
-        Ok(opposite) => opposite,
-    };
-    match part.copy() {
-        Err(_) => Err(FormStop::NoMemory),
-        Ok(test) => Ok((part, test, opposite)),
+    match opposite(alloc, &part) {
+        Err(stop) => Err(stop),
+        Ok(opposite) => Ok((part, opposite)),
     }
 }
