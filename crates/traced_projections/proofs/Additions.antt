@@ -2,11 +2,13 @@
 use Rattle.whole_numbers.proofs.Common.{◌≡◌, ◌∙◌, ℕ, ◌+◌, ◌<◌, ◌≤◌, List, [], ◌∷◌, ◌++◌, length, get_or, drop}
 use Rattle.whole_numbers.proofs.Common.{drop-cons, add-one, inl, inr, refl, sym, ap, subst, Bool, true, false}
 use Rattle.whole_numbers.proofs.Common.{drop_of_length-le, Result, Ok, Err, if◌then◌else◌, nat_le, count_ones}
-use Rattle.whole_numbers.proofs.Common.{All-append, All-head, All-nil, All-tail}
+use Rattle.whole_numbers.proofs.Common.{All-append, All-head, All-nil, All-tail, append_assoc}
+use Rattle.fractions.specs.Elimination.{coefficient_of}
 use Rattle.fm_projection.specs.declared.stop.FmStop.{FmStop}
 use Rattle.fm_projection.specs.declared.stop.FmStop.TheVariants as fm
 use Rattle.fm_projection.specs.Projecting.{Passes, gone}
-use Rattle.traced_projections.specs.Tracing.{Row}
+use Rattle.traced_projections.specs.Tracing.{Row, has_sign, signed}
+use Rattle.traced_projections.specs.declared.rows.Sign.{Sign}
 use Rattle.traced_projections.specs.Eliminating.{Source, Adds, FirstStops, Halts, PassAll, if_few}
 use Rattle.traced_projections.specs.Eliminating.{with_left, with_sources}
 
@@ -14,6 +16,22 @@ use Rattle.traced_projections.specs.Eliminating.{with_left, with_sources}
 pub ahead : {X : Type 0} (k : ℕ) (xs : List X) (x : X) → k < length xs → x ≡ get_or xs k x
     → drop k xs ≡ x ∷ drop (k + 1) xs
 ahead k xs x inside is = rw (drop-cons xs k x inside, ← is, add-one k) refl
+
+-- the rows that have the sign, where the next one has it or not
+module _ (sign : Sign) (i k : ℕ) (rows : List Row) (r : Row) (next : drop k rows ≡ r ∷ drop (k + 1) rows) where
+  pub with_sign : (old new all : List Row) → has_sign sign (coefficient_of i r.form) ≡ true → new ≡ old ++ r ∷ []
+      → old ++ signed sign i (drop k rows) ≡ all → new ++ signed sign i (drop (k + 1) rows) ≡ all
+  with_sign old new all has made so_far =
+      let rest = signed sign i (drop (k + 1) rows) in
+      let here : signed sign i (drop k rows) ≡ r ∷ rest = rw (next, has) refl in
+      ap (λ (rs : List Row). rs ++ rest) made
+      ∙ (append_assoc old (r ∷ []) rest ∙ (ap (λ (rs : List Row). old ++ rs) (sym here) ∙ so_far))
+
+  pub without_sign : (old all : List Row) → has_sign sign (coefficient_of i r.form) ≡ false
+      → old ++ signed sign i (drop k rows) ≡ all → old ++ signed sign i (drop (k + 1) rows) ≡ all
+  without_sign old all lacks so_far =
+      let here : signed sign i (drop k rows) ≡ signed sign i (drop (k + 1) rows) = rw (next, lacks) refl in
+      ap (λ (rs : List Row). old ++ rs) (sym here) ∙ so_far
 
 joined : (i : ℕ) (xs ys : List Source) (rows : List Row)
     → with_sources i (with_sources i rows xs) ys ≡ with_sources i rows (xs ++ ys)

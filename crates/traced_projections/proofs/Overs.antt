@@ -1,5 +1,5 @@
 -- What holds of the constraints of a system holds of the sources of an elimination and of what that leaves.
-use Rattle.whole_numbers.proofs.Common.{◌≡◌, ℕ, suc, ◌+◌, ◌<◌, Bool, true, false, ℤ, pos, ◌≤ℤ◌, List, [], ◌∷◌, ◌++◌}
+use Rattle.whole_numbers.proofs.Common.{◌≡◌, ℕ, suc, ◌+◌, ◌<◌, Bool, true, false, pos, ◌≤ℤ◌, List, [], ◌∷◌, ◌++◌}
 use Rattle.whole_numbers.proofs.Common.{All, ◌∙◌, ◌-◌, ◌≤◌, ap, subst, get_or, refl, set, arith, ◌-ℤ◌, if◌then◌else◌}
 use Rattle.whole_numbers.proofs.Common.{map, nat_le, Option, Some, None, IfSome, Ok, count_ones, All-append, All-cons}
 use Rattle.whole_numbers.proofs.Common.{All-filter, All-head, All-map, All-nil, All-set, All-tail, Affine, value_of}

@@ -8,7 +8,6 @@ use Rattle.affine_forms.specs.Parts.{variables_of}
 use Rattle.integer_sets.specs.Constraints.{Constraints, IsSized, system_of, variables_in}
 use Rattle.integer_sets.specs.Points.{Satisfies}
 use Rattle.fm_projection.specs.declared.stop.FmStop.{FmStop}
-use Rattle.fm_projection.specs.declared.stop.FmStop.TheVariants as fm
 use Rattle.fm_projection.specs.Alone.{AreInRange, LeavesAlone, range_rows}
 use Rattle.fm_projection.proofs.RangeRows.{least_row, most_row}
 use Rattle.fm_projection.proofs.Ranges.{fitted, fitted_length, last_value, place_value, satisfies_fitted}
