@@ -1,9 +1,10 @@
 -- The forms of a join, as the code puts them together.
-use Rattle.quast_joins.proofs.Common.{◌≡◌, ℕ, zero, suc, ◌+◌, ◌-◌, ◌≤◌, ℤ, pos, negsuc, ◌+ℤ◌, ◌-ℤ◌, ◌*ℤ◌, List, [], ◌∷◌}
-use Rattle.quast_joins.proofs.Common.{◌++◌, length, take, drop, refl, sym, ap, ap₂, ◌∙◌, arith, neg_ℤ, ints, zeros}
-use Rattle.quast_joins.proofs.Common.{multiples, sums, Affine, form_of, sum_of_forms, multiple_of_form, shifted}
-use Rattle.quast_joins.proofs.Common.{shifted_form, less_by_one}
-use Rattle.whole_numbers.proofs.Common.{append_assoc, length-drop, take-length, multiples-one}
+use Rattle.whole_numbers.proofs.Common.{◌≡◌, ℕ, zero, suc, ◌-◌, ◌≤◌, ℤ, pos, negsuc, ◌+ℤ◌, ◌-ℤ◌, ◌*ℤ◌, List, []}
+use Rattle.whole_numbers.proofs.Common.{◌∷◌, ◌++◌, length, take, drop, refl, sym, ap, ap₂, ◌∙◌, arith, append_assoc}
+use Rattle.whole_numbers.proofs.Common.{neg_ℤ, ints, length-drop, take-length, zeros, multiples, sums, Affine, form_of}
+use Rattle.whole_numbers.proofs.Common.{sum_of_forms, multiple_of_form, multiples-one}
+use Rattle.quast_joins.specs.Shifts.{shifted, shifted_form}
+use Rattle.quast_joins.specs.Joins.{less_by_one}
 
 -- a list with zeros put in, in three parts
 shifted_parts : (n k : ℕ) (cs : List ℤ) → n ≤ length cs → shifted n k cs ≡ take n cs ++ (zeros k ++ drop n cs)

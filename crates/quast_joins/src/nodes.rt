@@ -32,16 +32,31 @@ fn push_under(
     let alloc = builder.allocator();
     match node {
         Node::Initial => builder.source_leaf(widen_leaf(alloc, leaf, binds)?),
-        Node::Forms(other) => {
-            let first = widen_leaf(alloc, leaf, binds)?;
-            let second = move_leaf(alloc, other, variables, more)?;
-            push_meet(builder, way, &first, &second)
-        }
-        Node::Branch { test, .. } => builder.branch(move_form(alloc, test, variables, more)?),
-        Node::Bind { form, divisor } => {
-            builder.bind(move_form(alloc, form, variables, more)?, *divisor)
-        }
+        Node::Forms(other) => push_leaves(builder, way, variables, more, leaf, other, binds),
+        Node::Branch { .. } => push_moved(builder, variables, more, node, binds),
+        Node::Bind { .. } => push_moved(builder, variables, more, node, binds),
     }
+}
+
+// What stands where a leaf of the first quast meets one of the second.
+fn push_leaves(
+    builder: &mut Builder,
+    way: Way,
+    variables: usize,
+    more: usize,
+    leaf: &Forms,
+    other: &Forms,
+    binds: usize,
+) -> Result<(), AllocError>
+    requires leaf { FitsAt leaf_limit variables (Node.Forms leaf.now) more }
+    requires other { FitsAt leaf_limit variables (Node.Forms other.now) binds }
+    ensures { OnOk result (standing builder.new
+        ≡ under_built way variables more leaf.now (standing builder.old) binds (Node.Forms other.now)) }
+{
+    let alloc = builder.allocator();
+    let first = widen_leaf(alloc, leaf, binds)?;
+    let second = move_leaf(alloc, other, variables, more)?;
+    push_meet(builder, way, &first, &second)
 }
 
 // The second quast's nodes under a leaf of the first.
