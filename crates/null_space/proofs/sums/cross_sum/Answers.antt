@@ -38,3 +38,17 @@ returns c =
     (within_mul (2 ^ 64) (2 ^ 47) b y c.requires.b c.requires.y) in
     let ft = fits_signed_from_abs w128 ((a *ℤ x) +ℤ (b *ℤ y)) (omega (arith, l)) in
     simp to_z-of_z refl
+
+pub overflow_mul-result : goal.overflow_mul-result
+overflow_mul-result c =
+    let f1 = c.ranges.a in
+    let f2 = c.ranges.x in
+    simp to_z-of_z
+    (fits_signed_mul w128 c.args.a c.args.x (2 ^ 64) (2 ^ 47) c.requires.a c.requires.x (omega arith))
+
+pub overflow_mul-result-2 : goal.overflow_mul-result-2
+overflow_mul-result-2 c =
+    let f3 = c.ranges.b in
+    let f4 = c.ranges.y in
+    simp to_z-of_z
+    (fits_signed_mul w128 c.args.b c.args.y (2 ^ 64) (2 ^ 47) c.requires.b c.requires.y (omega arith))

@@ -1,5 +1,5 @@
 use Rattle.whole_numbers.proofs.Common.{◌≡◌, [], ℕ, ℤ, List, get_or, take, sym, ◌∙◌, ap, subst, arith, take_all}
-use Rattle.whole_numbers.proofs.Common.{All-take}
+use Rattle.whole_numbers.proofs.Common.{All-get_or, All-take}
 use Rattle.null_space.specs.Narrowing.{narrowed_by, kernel_vectors}
 use Rattle.null_space.specs.Sizes.{AreCoefficients, AreLong, AreNarrow}
 use Rattle.null_space.proofs.ListLoops.{views, views_length, kernel_step, kernel_long, long_at}
@@ -28,6 +28,20 @@ narrowed_by-requires-clause-lengths c =
     (subst (AreLong c.args.columns) (sym (are c))
     (kernel_long c.args.columns (take c.loop-at.at (views c.args.rows.now))))
 
+pub narrowed_by-requires-clause-few : goal.narrowed_by-requires-clause-few
+narrowed_by-requires-clause-few c =
+    let e = views_length c.args.rows.now in
+    let n = long_at c.args.columns c.loop-at.at
+    (views c.args.rows.now) c.vector_at.result.now c.vector_at.ensures (omega arith) c.requires.lengths in
+    let few = c.requires.columns in
+    omega (arith, n, few)
+
+pub narrowed_by-requires-clause-coefficients : goal.narrowed_by-requires-clause-coefficients
+narrowed_by-requires-clause-coefficients c =
+    let e = views_length c.args.rows.now in
+    subst AreCoefficients (sym c.vector_at.ensures)
+    (All-get_or AreCoefficients (views c.args.rows.now) c.loop-at.at [] (omega arith) c.requires.coefficients)
+
 pub loop-at-preserved : goal.loop-at-preserved
 loop-at-preserved c =
     let n = c.args.columns in
@@ -39,6 +53,12 @@ loop-at-preserved c =
     c.in_ok-vectors-2.ensures
     ∙ (ap (λ (r : List ℤ). narrowed_by r (views c.deref.result.now)) c.vector_at.ensures
     ∙ (ap (narrowed_by (get_or rows i [])) so_far ∙ kernel_step n rows i (omega arith)))
+
+pub returns-clause-narrowed : goal.returns-clause-narrowed
+returns-clause-narrowed c =
+    let rows = views c.args.rows.now in
+    let e = views_length c.args.rows.now in
+    c.loop-at.invariant ∙ ap (kernel_vectors c.args.columns) (take_all c.loop-at.at rows (omega arith))
 
 pub returns-clause-are : goal.returns-clause-are
 returns-clause-are c =
