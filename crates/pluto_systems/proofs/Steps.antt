@@ -4,7 +4,8 @@ use Rattle.scop_syntax.proofs.Common.{drop, add-one, drop-cons, append_assoc, ge
 use Rattle.scop_syntax.proofs.Common.{All-cons, All-head, All-tail}
 use Rattle.null_space.specs.Sizes.{IsWithin, AreWithin}
 use Rattle.null_space.proofs.Sizes.{within_add}
-use Rattle.pluto_systems.specs.Posing.{added, growth_rows, growth_from}
+use Rattle.null_space.specs.Narrowing.{kernel_vectors}
+use Rattle.pluto_systems.specs.Posing.{added, growth_rows, growth_from, vectors_for}
 
 pub more : {X : Type 0} (xs ys new rest rest' whole : List X) → new ≡ xs ++ ys → ys ++ rest' ≡ rest
     → xs ++ rest ≡ whole → new ++ rest' ≡ whole
@@ -43,3 +44,10 @@ pub growth_step : (m : ℕ) (loops : List ℕ) (vectors : List (List (List ℤ))
 growth_step m loops vectors i vs h e =
     ap (λ z. growth_rows m loops i z ++ growth_from m loops (i + 1) (drop (i + 1) vectors)) e
     ∙ rw (add-one i, drop-cons vectors i [] h) refl
+
+-- the kernel vectors of one statement more
+pub vectors_step : (loops : List ℕ) (rows : List (List (List ℤ))) (s : ℕ) → s < length loops
+    → length rows ≡ length loops
+    → kernel_vectors (get_or loops s 0) (get_or rows s []) ∷ vectors_for (drop (s + 1) loops) (drop (s + 1) rows)
+    ≡ vectors_for (drop s loops) (drop s rows)
+vectors_step loops rows s h e = rw (add-one s, drop-cons loops s 0 h, drop-cons rows s [] (omega (arith, h, e))) refl
