@@ -2,7 +2,6 @@
 ghost use Rattle.std.specs.Prelude.{◌≡◌, true, false, ◌++◌, [], All, IfOk, IfErr, length, map, suc, ◌+◌};
 ghost use Rattle.scop_syntax.specs.Members.{In};
 ghost use Rattle.iteration_domains.specs.Dependence.{Dependence};
-ghost use Rattle.schedule_rows.specs.Items.{closed_by};
 ghost use Rattle.schedule_rows.specs.Next.{rows_of};
 ghost use Rattle.schedule_rows.specs.Posed.{IsFull};
 ghost use Rattle.schedule_rows.specs.Outcomes.{items_in};
@@ -76,14 +75,6 @@ fn end(alloc: Global, loops: &[usize], closed: Vec<Block>, left: &[Dep]) -> Resu
     }
 }
 
-/// The blocks, with the open band if it has rows.
-fn blocks_of(progress: Progress) -> Result<Vec<Block>, AllocError>
-    ensures { IfOk result (λ v. map block_of v.items
-        ≡ closed_by (map block_of progress.closed.items) (map marked_of progress.rows.items)) }
-{
-    close(progress.closed, progress.rows)
-}
-
 /// All statements have full rank: the last restriction, and the end.
 fn finish(alloc: Global, search: &Search, progress: Progress) -> Result<Step, Kept>
     requires good { IsGood search.now.parameters search.now.loops.now search.now.budget progress }
@@ -94,17 +85,12 @@ fn finish(alloc: Global, search: &Search, progress: Progress) -> Result<Step, Ke
         Err(_) => return Err(Kept::NoMemory),
         Ok(deps) => deps,
     };
-    let left = match restrict_all(
-        alloc,
-        search.parameters,
-        &progress.rows,
-        &deps,
-        search.budget,
-    ) {
+    let Progress { closed, rows, .. } = progress;
+    let left = match restrict_all(alloc, search.parameters, &rows, &deps, search.budget) {
         Err(kept) => return Err(kept),
         Ok(left) => left,
     };
-    let blocks = match blocks_of(progress) {
+    let blocks = match close(closed, rows) {
         Err(_) => return Err(Kept::NoMemory),
         Ok(blocks) => blocks,
     };

@@ -73,8 +73,8 @@ returns-in-Err-end c =
     let g = c.args.search.now in
     let at = (goal.at.returns-in-Err-end c).After-deref-3 in
     end_steps g.parameters g.loops.now g.budget (state_of c.args.progress) c.deref-2.result.now c.deref-3.result.now
-    (map block_of c.in-Ok-blocks_of.blocks.items) (Err c.in-Err-end.kept)
-    (left (goal.at.returns-in-Err-end c).After-deref-2) c.requires.full (answered at) (kept at) c.in-Ok-blocks_of.ensures
+    (map block_of c.in-Ok-close.blocks.items) (Err c.in-Err-end.kept)
+    (left (goal.at.returns-in-Err-end c).After-deref-2) c.requires.full (answered at) (kept at) c.in-Ok-close.ensures
     c.in-Err-end.ensures
 
 pub returns : goal.returns
@@ -82,5 +82,5 @@ returns c =
     let g = c.args.search.now in
     let at = (goal.at.returns c).After-deref-3 in
     end_steps g.parameters g.loops.now g.budget (state_of c.args.progress) c.deref-2.result.now c.deref-3.result.now
-    (map block_of c.in-Ok-blocks_of.blocks.items) (Ok c.in-Ok-end.blocks) (left (goal.at.returns c).After-deref-2)
-    c.requires.full (answered at) (kept at) c.in-Ok-blocks_of.ensures c.in-Ok-end.ensures
+    (map block_of c.in-Ok-close.blocks.items) (Ok c.in-Ok-end.blocks) (left (goal.at.returns c).After-deref-2)
+    c.requires.full (answered at) (kept at) c.in-Ok-close.ensures c.in-Ok-end.ensures
