@@ -7,7 +7,7 @@ use Rattle.whole_numbers.proofs.Common.{All-nil, All-head, All-tail, All-same, A
 use Rattle.whole_numbers.proofs.Common.{sums, multiples, zeros, content, length-sums, length-multiples, length-zeros}
 use Rattle.whole_numbers.proofs.Remainders.{length-floors}
 use Rattle.null_space.specs.Narrowing.{made_flat, against, narrowed_by, narrowed_all, units_from}
-use Rattle.null_space.specs.Narrowing.{kernel_vectors, Grows, is_zero}
+use Rattle.null_space.specs.Narrowing.{kernel_vectors, Grows}
 use Rattle.null_space.specs.Sizes.{AreWithin, AreLong, AreNarrow}
 use Rattle.null_space.proofs.KernelSizes.{zero_of, narrowed_yes, narrowed_off}
 
@@ -33,11 +33,6 @@ goes c vs i h some = elim (zero_of (dot (get_or vs i []) c)) [
   | inl z ↦ absurd (some z.1)
   | inr z ↦ rw (add-one i, drop-cons vs i [] h) (sym (narrowed_off c (get_or vs i []) (drop (suc i) vs) z.0))
 ]
-
-pub stays : (c : List ℤ) (vs : List (List ℤ)) (i : ℕ) → i < length vs → dot (get_or vs i []) c ≡ pos 0
-    → narrowed_by c (drop i vs) ≡ get_or vs i [] ∷ narrowed_by c (drop (i + 1) vs)
-stays c vs i h is =
-    rw (add-one i, drop-cons vs i [] h) (narrowed_yes c (get_or vs i []) (drop (suc i) vs) (ap is_zero is))
 
 pub units_step : (n i : ℕ) → i < n
     → set (zeros n) i (pos 1) ∷ units_from n (i + 1) (n - (i + 1)) ≡ units_from n i (n - i)

@@ -1,7 +1,7 @@
 use Rattle.whole_numbers.proofs.Common.{◌≡◌, ◌+◌, ◌++◌, [], ℤ, List, Result, Ok, Err, map, drop, get_or, ◌∙◌, ap, arith}
-use Rattle.whole_numbers.proofs.Common.{pos, IfOk, of_z, w128, dot, rules, ints, sym, Vec, Global}
+use Rattle.whole_numbers.proofs.Common.{pos, IfOk, of_z, w128, dot}
 use Rattle.null_space.specs.Narrowing.{against, narrowed_by}
-use Rattle.null_space.proofs.ListLoops.{views, views_length, views_more, goes, stays}
+use Rattle.null_space.proofs.ListLoops.{views, views_length, goes}
 use Rattle.null_space.proofs.vectors.narrowed_by.Goals as goal
 
 weaker : {T E : Type 0} (A B : T → Type 0) (r : Result T E) → IfOk r A → ((x : T) → A x → B x) → IfOk r B
@@ -22,20 +22,3 @@ returns-then-a-ne0 c =
     (drop (i + 1) (views vs)))
     (λ w. views w.items ≡ narrowed_by row (views vs)) c.push_orthogonal.result c.push_orthogonal.ensures
     (λ w h. h ∙ (ap (λ (l : List (List ℤ)). views c.loop-at.narrowed.items ++ l) g ∙ c.loop-at.invariant))
-
-pub loop-at-preserved : goal.loop-at-preserved
-loop-at-preserved c =
-    let row = c.args.row.now in
-    let vs = views c.args.vectors.now in
-    let i = c.loop-at.at in
-    let old = c.loop-at.narrowed.items in
-    let copy = c.in_ok-from_slice.field-0 in
-    let rest = narrowed_by row (drop (i + 1) vs) in
-    let e = views_length c.args.vectors.now in
-    let none : c.dot-a.result ≡ pos 0 = omega (arith, ints) in
-    let flat : dot (get_or vs i []) row ≡ pos 0 =
-    sym (c.dot-a.ensures ∙ ap (λ (v : List ℤ). dot v row) c.vector_at-vector.ensures) ∙ none in
-    let same : copy.items ≡ c.vector_at-vector.result.now = search rules in
-    ap (λ (l : List (Vec ℤ Global)). views l ++ rest) c.in_ok-push.ensures.items
-    ∙ (views_more old copy (get_or vs i []) rest (same ∙ c.vector_at-vector.ensures)
-    ∙ (ap (λ (l : List (List ℤ)). views old ++ l) (sym (stays row vs i (omega arith) flat)) ∙ c.loop-at.invariant))
