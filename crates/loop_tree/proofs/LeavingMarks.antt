@@ -2,7 +2,7 @@
 use Rattle.scop_syntax.proofs.Common.{◌≡◌, ◌∙◌, ◌++◌, ◌∷◌, ℕ, ℤ, [], List, length, take, drop, ap, sym, subst, refl}
 use Rattle.scop_syntax.proofs.Common.{arith, append-nil, false, slice_set, drop-map, length-map, map-append, take-map}
 use Rattle.scop_syntax.proofs.Common.{In, Instance, in_front}
-use Rattle.loop_tree.specs.steps.Going.{HasGone, Leads}
+use Rattle.loop_tree.specs.steps.Going.{CanGo, HasGone, Leads}
 use Rattle.loop_tree.specs.Spot.{IsAt, Mark, rest_of}
 use Rattle.loop_tree.specs.SpotView.{mark_of, marks_of}
 use Rattle.loop_tree.specs.Tree.{Trees}
@@ -27,6 +27,31 @@ at_behind nodes [] m params outer = tt
 at_behind nodes (n ∷ ms) m params outer =
     at_next nodes (length nodes) m.value m.last (marks_of ms) params outer
 
+-- a place in nodes that marks lead to can go on, and what goes on there goes on in all
+pub can_within : (us : Trees) (ms back : List CodeMark) (params row values : List ℤ) (k : ℕ) → back ≡ drop k ms
+    → values ≡ row → CanGo us (drop k (marks_of ms)) params row → CanGo us (marks_of back) params values
+can_within us ms back params row values k back_is values_are can =
+    subst (λ (os : List ℤ). CanGo us (marks_of back) params os) (sym values_are)
+    (subst (λ (ns : List Mark). CanGo us ns params row)
+    (drop-map mark_of k ms ∙ ap (λ (ns : List CodeMark). marks_of ns) (sym back_is)) can)
+
+pub gone_within : (ts us : Trees) (ms front back new : List CodeMark) (found : List Instance)
+    (params row values : List ℤ) (k : ℕ)
+    → Leads ts (marks_of ms) params us k (take k row) → front ≡ take k ms → back ≡ drop k ms → values ≡ take k row
+    → HasGone us (marks_of back) (marks_of new) found params values
+    → HasGone ts (marks_of ms) (marks_of (front ++ new)) found params []
+gone_within ts us ms front back new found params row values k leads front_is back_is values_are gone =
+    let inner_is : drop k (marks_of ms) ≡ marks_of back =
+    drop-map mark_of k ms ∙ ap (λ (ns : List CodeMark). marks_of ns) (sym back_is) in
+    let marks_are : take k (marks_of ms) ++ marks_of new ≡ marks_of (front ++ new) =
+    ap (λ (ns : List Mark). ns ++ marks_of new)
+    (take-map mark_of k ms ∙ ap (λ (ns : List CodeMark). marks_of ns) (sym front_is))
+    ∙ sym (map-append mark_of front new) in
+    subst (λ (ns : List Mark). HasGone ts (marks_of ms) ns found params []) marks_are
+    (leads.lifts (marks_of new) found
+    (subst (λ (ns : List Mark). HasGone us ns (marks_of new) found params (take k row)) (sym inner_is)
+    (subst (λ (os : List ℤ). HasGone us (marks_of back) (marks_of new) found params os) values_are gone)))
+
 -- where the marks further in stand behind all, the place goes on by all that was to come there
 pub gone_by_all : (ts us : Trees) (ms front back new : List CodeMark) (params row values : List ℤ) (k : ℕ)
     → Leads ts (marks_of ms) params us k (take k row) → front ≡ take k ms → back ≡ drop k ms → values ≡ take k row
@@ -34,29 +59,14 @@ pub gone_by_all : (ts us : Trees) (ms front back new : List CodeMark) (params ro
     → ((ps os : List ℤ) → IsAt us (marks_of new) ps os)
     → HasGone ts (marks_of ms) (marks_of (front ++ new)) (rest_of us (marks_of back) params values) params []
 gone_by_all ts us ms front back new params row values k leads front_is back_is values_are room none at =
-    let inner = drop k (marks_of ms) in
-    let here = take k row in
-    let all = rest_of us inner params here in
-    let inner_is : inner ≡ marks_of back =
-    drop-map mark_of k ms ∙ ap (λ (ns : List CodeMark). marks_of ns) (sym back_is) in
+    let all = rest_of us (marks_of back) params values in
     let a = length-map new mark_of in
     let b = length-map back mark_of in
-    let d = ap (λ (ns : List Mark). length ns) inner_is in
-    let gone : HasGone us inner (marks_of new) all params here =
-    record {
-      rest = sym (ap (λ (is : List Instance). all ++ is) (none params here) ∙ append-nil all);
-      room = omega (arith, a, b, d, room);
-      stands = at params here;
-    } in
-    let marks_are : take k (marks_of ms) ++ marks_of new ≡ marks_of (front ++ new) =
-    ap (λ (ns : List Mark). ns ++ marks_of new)
-    (take-map mark_of k ms ∙ ap (λ (ns : List CodeMark). marks_of ns) (sym front_is))
-    ∙ sym (map-append mark_of front new) in
-    let found_is : all ≡ rest_of us (marks_of back) params values =
-    ap (λ (ns : List Mark). rest_of us ns params here) inner_is
-    ∙ ap (λ (os : List ℤ). rest_of us (marks_of back) params os) (sym values_are) in
-    subst (λ (is : List Instance). HasGone ts (marks_of ms) (marks_of (front ++ new)) is params []) found_is
-    (subst (λ (ns : List Mark). HasGone ts (marks_of ms) ns all params []) marks_are (leads.lifts (marks_of new) all gone))
+    gone_within ts us ms front back new all params row values k leads front_is back_is values_are record {
+      rest = sym (ap (λ (is : List Instance). all ++ is) (none params values) ∙ append-nil all);
+      room = omega (arith, a, b, room);
+      stands = at params values;
+    }
 
 -- what was to come there was to come
 pub waits_there : (ts : Trees) (nodes : List Node) (ms back : List CodeMark) (params row values : List ℤ) (k : ℕ)

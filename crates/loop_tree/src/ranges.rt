@@ -55,6 +55,24 @@ fn ceiling_of(number: i128, divisor: i64) -> i128
     -floor_of(-number, divisor)
 }
 
+/// What is left of a number of 64 bits by a divisor.
+#[inline]
+fn narrow_remainder(number: i64, divisor: i64) -> i64
+    requires { pos 0 <ℤ divisor }
+    ensures { result ≡ remainder number divisor }
+{
+    number.rem_euclid(divisor)
+}
+
+/// What is left of a wider one.
+#[inline]
+fn wide_remainder(number: i128, divisor: i128) -> i128
+    requires { pos 0 <ℤ divisor }
+    ensures { result ≡ remainder number divisor }
+{
+    number.rem_euclid(divisor)
+}
+
 /// What is left of a number by a divisor; by 64 bits where they hold it.
 #[inline]
 fn remainder_of(number: i128, divisor: i64) -> i128
@@ -62,8 +80,8 @@ fn remainder_of(number: i128, divisor: i64) -> i128
     ensures { result ≡ remainder number divisor }
 {
     match i64::try_from(number) {
-        Ok(narrow) => i128::from(narrow.rem_euclid(divisor)),
-        Err(_) => number.rem_euclid(i128::from(divisor)),
+        Ok(narrow) => i128::from(narrow_remainder(narrow, divisor)),
+        Err(_) => wide_remainder(number, i128::from(divisor)),
     }
 }
 

@@ -410,6 +410,30 @@ fn next_near(
     next_of(near.nodes, inner, &outer, params, stretch, braid)
 }
 
+/// The next instance of nodes within no loop: from the innermost loop with values left on, or else from the outermost.
+fn next_behind(
+    nodes: &[Node],
+    marks: &mut [Mark],
+    outer: &Outer,
+    params: &[i64],
+    stretch: &mut Stretch,
+    braid: &mut Braid,
+) -> bool
+    requires outer { values_in outer.now ≡ [] }
+    requires go { CanGo (nodes_of nodes.now) (marks_of marks.old) params.now [] }
+    requires spent { IsSpent stretch.old braid.old }
+    ensures gone { HasGone (nodes_of nodes.now) (marks_of marks.old) (marks_of marks.new)
+        (shown_in result stretch.new braid.new) params.now [] }
+    ensures ready { result ≡ false → IsSpent stretch.new braid.new }
+    ensures held { result ≡ true → CanPass stretch.new braid.new }
+    ensures none { result ≡ false → rest_of (nodes_of nodes.now) (marks_of marks.old) params.now [] ≡ [] }
+{
+    if next_near(nodes, marks, params, stretch, braid) {
+        return true;
+    }
+    next_of(nodes, marks, outer, params, stretch, braid)
+}
+
 impl Spot {
     /// The place before the first instance of `tree`, whatever the parameters.
     ///
@@ -441,23 +465,17 @@ impl Spot {
         ensures none { IsNone result → to_come (nodes_of nodes.now) params.now self.old ≡ [] }
         ensures spot { IsSpotOf (nodes_of nodes.now) params.now self.new }
     {
-        let marks = self.marks.as_mut_slice();
-        if next_near(nodes, marks, params, &mut self.stretch, &mut self.braid) {
-            return Some(self.stretch.before);
-        }
-        let marks = self.marks.as_mut_slice();
-        if next_of(
+        if next_behind(
             nodes,
-            marks,
+            self.marks.as_mut_slice(),
             &Outer::Row(&[]),
             params,
             &mut self.stretch,
             &mut self.braid,
         ) {
-            Some(self.stretch.before)
-        } else {
-            None
+            return Some(self.stretch.before);
         }
+        None
     }
 
     /// The next instance that `tree`, of which this is a spot, visits for `params`, with which it came to its place;
