@@ -450,6 +450,41 @@ impl Cut {
     }
 }
 
+/// Takes what is still to come behind the first instance, which is in its tile.
+fn take_all(
+    alloc: Global,
+    tree: &Tree,
+    tiling: &Tiling,
+    params: &[i64],
+    first: &Instance,
+    front: &mut Front,
+    spot: &mut Spot,
+    scout: &mut Scout,
+    cut: &mut Cut,
+) -> Result<(), AllocError>
+    requires walk { CanWalk (trees_in tree.now) params.now [] }
+    requires rise { RiseByTile (tiling_of tiling.now) (visits (trees_in tree.now) params.now) }
+    requires fits { CanTile (tiling_of tiling.now) (visits (trees_in tree.now) params.now) }
+    requires come { HasCome (trees_in tree.now) params.now front.old spot.old }
+    requires room { length front.old.steps.items ≡ deep_all (trees_in tree.now) }
+    requires scout { length scout.old.spot.marks.items ≡ deep_all (trees_in tree.now) }
+    requires key { IsKeyOf (tiling_of tiling.now) (instance_of first.now) cut.old.key }
+    requires cut { IsCutTo (trees_in tree.now) params.now (tiling_of tiling.now)
+        (to_come (trees_in tree.now) params.now spot.old) cut.old }
+    ensures { OnOk result (IsCutTo (trees_in tree.now) params.now (tiling_of tiling.now) [] cut.new) }
+{
+    cut.take_rest(tiling, first, false, spot)?;
+    cut.leave_loops(tree, tiling, params, spot, scout)?;
+    let mut asked = has_left(&spot.stretch, &spot.braid);
+    while let Some(instance) = front.next(tree, params, spot) {
+        cut.take(alloc, tiling, instance, front, spot)?;
+        cut.take_rest(tiling, &instance, asked, spot)?;
+        cut.leave_loops(tree, tiling, params, spot, scout)?;
+        asked = has_left(&spot.stretch, &spot.braid);
+    }
+    Ok(())
+}
+
 /// Cuts what is still to come behind the first instance.
 fn cut_rest(
     alloc: Global,
@@ -471,15 +506,9 @@ fn cut_rest(
 {
     let mut scout = Scout::of(alloc, spot)?;
     let mut cut = Cut::of(alloc, tiling, first, front, spot)?;
-    cut.take_rest(tiling, &first, false, spot)?;
-    cut.leave_loops(tree, tiling, params, spot, &mut scout)?;
-    let mut asked = has_left(&spot.stretch, &spot.braid);
-    while let Some(instance) = front.next(tree, params, spot) {
-        cut.take(alloc, tiling, instance, front, spot)?;
-        cut.take_rest(tiling, &instance, asked, spot)?;
-        cut.leave_loops(tree, tiling, params, spot, &mut scout)?;
-        asked = has_left(&spot.stretch, &spot.braid);
-    }
+    take_all(
+        alloc, tree, tiling, params, &first, front, spot, &mut scout, &mut cut,
+    )?;
     Ok(cut)
 }
 

@@ -4,7 +4,7 @@ use Rattle.loop_tree.specs.SpotView.{IsSpotOf, to_come}
 use Rattle.loop_tree.specs.TilingView.{tiling_of}
 use Rattle.loop_tree.specs.View.{trees_in}
 use Rattle.tile_list.specs.steps.Cutting.{IsCutTo}
-use Rattle.tile_list.proofs.cutting.cut_rest.Given as goal
+use Rattle.tile_list.proofs.cutting.take_all.Given as goal
 
 abbrev pub invariant-loop-instance : goal.invariant-loop-instance
 invariant-loop-instance l = record {
