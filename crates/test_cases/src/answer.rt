@@ -38,14 +38,25 @@ fn print_part(rt: &HostRuntime, bytes: &[u8]) -> io::Result<()> {
     out.write_all(b"\n")
 }
 
+/// Prints a record with its answer.
+fn print_record(
+    rt: &HostRuntime,
+    call: &Call,
+    exit_code: u8,
+    out: &[u8],
+    err: &[u8],
+) -> io::Result<()> {
+    print_heading(rt, call, exit_code, out, err)?;
+    print_part(rt, call.input)?;
+    print_part(rt, out)?;
+    print_part(rt, err)
+}
+
 /// Makes the call of a record over ports in memory that fail at no call, and prints the record with its answer.
 pub fn print_answered(rt: &HostRuntime, call: &Call) -> io::Result<()> {
     let mut source = MemSource::of(rt.alloc(), call.input, STEP, &[])?;
     let mut out = MemSink::of(rt.alloc(), OUT_ROOM, STEP, &[])?;
     let mut err = MemSink::of(rt.alloc(), ERR_ROOM, STEP, &[])?;
     let status = plain_command(rt.alloc(), &call.words, &mut source, &mut out, &mut err);
-    print_heading(rt, call, status.exit_code(), out.taken(), err.taken())?;
-    print_part(rt, call.input)?;
-    print_part(rt, out.taken())?;
-    print_part(rt, err.taken())
+    print_record(rt, call, status.exit_code(), out.taken(), err.taken())
 }

@@ -1,8 +1,7 @@
 //! The cases of Farkas's lemma: a dependence, and its legal and its bounded rows.
 
-use crate::forms::print_forms;
 use crate::lines::Lines;
-use crate::systems::read_system;
+use crate::systems::{print_ended, read_system};
 use farkas::{Stuck, bounded_rows, legal_rows};
 use fm_projection::FmStop;
 use integer_sets::System;
@@ -18,13 +17,10 @@ fn read_sides<R: Print + AllocGlobal>(
     rt: &R,
     lines: &mut Lines,
 ) -> io::Result<Option<(DepEnd, DepEnd)>> {
-    let counts = match lines.counts(rt.alloc(), "dep")? {
+    let counts = match lines.counts(rt.alloc(), "dep", 4)? {
         Some(counts) => counts,
         None => return Ok(None),
     };
-    if counts.len() != 4 {
-        return Ok(None);
-    }
     let source = DepEnd {
         statement: counts[0],
         loops: counts[1],
@@ -76,6 +72,25 @@ fn pass_answer(lines: &mut Lines, head: &str) {
     }
 }
 
+/// Prints why rows are not found.
+fn print_stuck<R: Print + AllocGlobal>(rt: &R, head: &str, stuck: &Stuck) -> io::Result<()> {
+    match stuck {
+        Stuck::Solver(Stop::Wide { moves, .. }) => println!(rt; "{head} stuck wide {moves}"),
+        Stuck::Solver(Stop::Spent { moves, .. }) => println!(rt; "{head} stuck spent {moves}"),
+        Stuck::Elimination(FmStop::Wide(_)) => println!(rt; "{head} stuck wide 0"),
+        Stuck::Elimination(FmStop::Crowded { pairs }) => {
+            println!(rt; "{head} stuck crowded {pairs}")
+        }
+        _ => println!(rt; "{head} no memory"),
+    }
+}
+
+/// Prints rows that are found.
+fn print_found<R: Print + AllocGlobal>(rt: &R, head: &str, rows: &System) -> io::Result<()> {
+    println!(rt; "{head} {}", rows.dimensions())?;
+    print_ended(rt, rows)
+}
+
 /// Prints rows, or why they are not found.
 fn print_rows<R: Print + AllocGlobal>(
     rt: &R,
@@ -83,34 +98,27 @@ fn print_rows<R: Print + AllocGlobal>(
     answer: Result<System, Stuck>,
 ) -> io::Result<()> {
     match answer {
-        Ok(rows) => {
-            println!(rt; "{head} {}", rows.dimensions())?;
-            print_forms(rt, "equality", rows.equalities())?;
-            print_forms(rt, "row", rows.rows())?;
-            println!(rt; "end")
-        }
-        Err(Stuck::Solver(Stop::Wide { moves, .. })) => println!(rt; "{head} stuck wide {moves}"),
-        Err(Stuck::Solver(Stop::Spent { moves, .. })) => println!(rt; "{head} stuck spent {moves}"),
-        Err(Stuck::Elimination(FmStop::Wide(_))) => println!(rt; "{head} stuck wide 0"),
-        Err(Stuck::Elimination(FmStop::Crowded { pairs })) => println!(rt;
-            "{head} stuck crowded {pairs}"
-        ),
-        Err(_) => println!(rt; "{head} no memory"),
+        Ok(rows) => print_found(rt, head, &rows),
+        Err(stuck) => print_stuck(rt, head, &stuck),
+    }
+}
+
+/// Reads a dependence and prints it; none where its lines are not what they are to be.
+fn read_dependence<R: Print + AllocGlobal>(rt: &R, lines: &mut Lines) -> io::Result<Option<Dep>> {
+    let (source, target) = match read_sides(rt, lines)? {
+        Some(sides) => sides,
+        None => return Ok(None),
+    };
+    match read_system(rt, lines)? {
+        Some(system) => Ok(dependence(source, target, system)),
+        None => Ok(None),
     }
 }
 
 /// Reads a dependence, leaves its answers out of account, and prints it with those of the planner. False where the line
 /// in front is not what it is to be.
 pub fn farkas_rows<R: Print + AllocGlobal>(rt: &R, lines: &mut Lines) -> io::Result<bool> {
-    let (source, target) = match read_sides(rt, lines)? {
-        Some(sides) => sides,
-        None => return Ok(false),
-    };
-    let system = match read_system(rt, lines)? {
-        Some(system) => system,
-        None => return Ok(false),
-    };
-    let dependence = match dependence(source, target, system) {
+    let dependence = match read_dependence(rt, lines)? {
         Some(dependence) => dependence,
         None => return Ok(false),
     };

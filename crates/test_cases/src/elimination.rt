@@ -3,9 +3,8 @@
 ghost use Rattle.std.specs.Prelude.{◌<◌};
 ghost use Rattle.integer_sets.specs.Constraints.{variables_in};
 
-use crate::forms::print_forms;
 use crate::lines::Lines;
-use crate::systems::read_system;
+use crate::systems::{print_ended, read_system};
 use fm_projection::{FmStop, eliminate};
 use integer_sets::System;
 use std::io;
@@ -34,29 +33,21 @@ fn print_answer<R: Print + AllocGlobal>(rt: &R, system: &System, variable: usize
         Err(FmStop::Crowded { pairs }) => println!(rt; "crowded {pairs}"),
         Err(FmStop::Large { number }) => println!(rt; "large {number}"),
         Err(FmStop::NoMemory) => println!(rt; "no memory"),
-        Ok(result) => {
-            print_forms(rt, "equality", result.equalities())?;
-            print_forms(rt, "row", result.rows())?;
-            println!(rt; "end")
-        }
+        Ok(result) => print_ended(rt, &result),
     }
 }
 
-/// Reads a case, leaves its answer out of account, and prints it with that of the planner. False where the line in
-/// front is not what it is to be.
-pub fn elimination<R: Print + AllocGlobal>(rt: &R, lines: &mut Lines) -> io::Result<bool> {
-    let system = match read_system(rt, lines)? {
-        Some(system) => system,
-        None => return Ok(false),
-    };
-    let counts = match lines.counts(rt.alloc(), "eliminate")? {
+/// Reads what is eliminated from a system, and prints it with the planner's answer. False where the line in front does
+/// not say it.
+fn eliminated<R: Print + AllocGlobal>(
+    rt: &R,
+    lines: &mut Lines,
+    system: &System,
+) -> io::Result<bool> {
+    let [variable, _, _, _] = match lines.counts(rt.alloc(), "eliminate", 1)? {
         Some(counts) => counts,
         None => return Ok(false),
     };
-    if counts.len() != 1 {
-        return Ok(false);
-    }
-    let variable = counts[0];
     let variables = match system.dimensions().checked_add(system.parameters()) {
         Some(variables) => variables,
         None => return Ok(false),
@@ -67,6 +58,15 @@ pub fn elimination<R: Print + AllocGlobal>(rt: &R, lines: &mut Lines) -> io::Res
     lines.pass();
     pass_answer(lines);
     println!(rt; "eliminate {variable}")?;
-    print_answer(rt, &system, variable - 1)?;
+    print_answer(rt, system, variable - 1)?;
     Ok(true)
+}
+
+/// Reads a case, leaves its answer out of account, and prints it with that of the planner. False where the line in
+/// front is not what it is to be.
+pub fn elimination<R: Print + AllocGlobal>(rt: &R, lines: &mut Lines) -> io::Result<bool> {
+    match read_system(rt, lines)? {
+        Some(system) => eliminated(rt, lines, &system),
+        None => Ok(false),
+    }
 }

@@ -65,22 +65,35 @@ impl Lines {
         Ok(Some(numbers))
     }
 
-    /// The numbers behind the word, which the line in front is to begin with, as counts.
-    pub fn counts(&self, alloc: Global, word: &str) -> Result<Option<Vec<usize>>, AllocError> {
+    /// The numbers behind the word, which the line in front is to begin with, as counts, where there are so many; zeros
+    /// behind them.
+    pub fn counts(
+        &self,
+        alloc: Global,
+        word: &str,
+        many: usize,
+    ) -> Result<Option<[usize; 4]>, AllocError> {
         if !self.begins(word) {
             return Ok(None);
         }
-        let numbers = match self.numbers(alloc)? {
-            Some(numbers) => numbers,
-            None => return Ok(None),
-        };
-        let mut counts = Vec::new(alloc);
-        for number in numbers.iter() {
-            match usize::try_from(*number) {
-                Ok(count) => counts.push(count)?,
-                Err(_) => return Ok(None),
-            }
+        match self.numbers(alloc)? {
+            None => Ok(None),
+            Some(numbers) => Ok(counts_of(&numbers, many)),
         }
-        Ok(Some(counts))
     }
+}
+
+/// So many numbers, at most four, as counts.
+fn counts_of(numbers: &[i128], many: usize) -> Option<[usize; 4]> {
+    if numbers.len() != many {
+        return None;
+    }
+    let mut counts = [0; 4];
+    for at in 0..numbers.len() {
+        match usize::try_from(numbers[at]) {
+            Ok(count) if at < 4 => counts[at] = count,
+            _ => return None,
+        }
+    }
+    Some(counts)
 }

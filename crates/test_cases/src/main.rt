@@ -84,19 +84,24 @@ fn print_case(rt: &HostRuntime, lines: &mut Lines, times: u64) -> io::Result<boo
     }
 }
 
-fn main(rt: HostRuntime) -> io::Result<()> {
-    let times = times(&rt)?;
-    let mut text = Vec::new(rt.alloc());
-    let _count = rt.stdin().read_to_end(&mut text)?;
-    let rest = print_calls(&rt, &text)?;
+/// Prints the cases of a text with the program's answers.
+fn print_cases(rt: &HostRuntime, text: &[u8], times: u64) -> io::Result<()> {
+    let rest = print_calls(rt, text)?;
     let mut lines = Lines::of(rt.alloc(), rest)?;
     for _ in 0..lines.left() {
         if lines.left() == 0 {
             return Ok(());
         }
-        if !print_case(&rt, &mut lines, times)? {
+        if !print_case(rt, &mut lines, times)? {
             return println!(rt; "unknown: {}", lines.front());
         }
     }
     Ok(())
+}
+
+fn main(rt: HostRuntime) -> io::Result<()> {
+    let times = times(&rt)?;
+    let mut text = Vec::new(rt.alloc());
+    let _count = rt.stdin().read_to_end(&mut text)?;
+    print_cases(&rt, &text, times)
 }

@@ -24,14 +24,10 @@ fn read_text(alloc: Global, lines: &mut Lines, bytes: usize) -> Result<Option<St
 
 /// Reads the line that heads a kernel and the kernel's text, and prints them.
 fn read_heading<R: Print + AllocGlobal>(rt: &R, lines: &mut Lines) -> io::Result<Option<String>> {
-    let counts = match lines.counts(rt.alloc(), "kernel")? {
+    let [bytes, _, _, _] = match lines.counts(rt.alloc(), "kernel", 1)? {
         Some(counts) => counts,
         None => return Ok(None),
     };
-    if counts.len() != 1 {
-        return Ok(None);
-    }
-    let bytes = counts[0];
     lines.pass();
     match read_text(rt.alloc(), lines, bytes)? {
         None => Ok(None),

@@ -1,5 +1,7 @@
 //! The cases of a problem, and what the solver answers.
 
+ghost use Rattle.std.specs.Prelude.{IfOk};
+ghost use Rattle.std.specs.Option.{ForSome};
 ghost use Rattle.pip_solver.specs.Solving.{IsOver};
 
 use crate::forms::{print_forms, read_forms};
@@ -7,7 +9,7 @@ use crate::lines::Lines;
 use crate::quast::print_quast;
 use affine_forms::copies;
 use checked_tableau::Problem;
-use pip_solver::{Stop, solve};
+use pip_solver::{Solution, Stop, solve};
 use std::alloc::{AllocError, Global};
 use std::io;
 
@@ -27,53 +29,86 @@ fn solve_again(alloc: Global, problem: &Problem, budget: u64) -> Result<(), Allo
     Ok(())
 }
 
+/// Prints the answer line of a problem that is solved.
+fn print_solution<R: Print + AllocGlobal>(rt: &R, solution: &Solution) -> io::Result<()> {
+    print!(rt; "answer quast {} ", solution.moves)?;
+    print_quast(rt, &solution.quast)?;
+    println!(rt; "")
+}
+
+/// Prints the answer line of one whose run stops.
+fn print_stop<R: Print + AllocGlobal>(rt: &R, stop: &Stop) -> io::Result<()> {
+    match stop {
+        Stop::Wide { moves, .. } => println!(rt; "answer wide {moves}"),
+        Stop::Spent { moves, .. } => println!(rt; "answer spent {moves}"),
+        Stop::NoMemory => println!(rt; "no memory"),
+    }
+}
+
 /// Prints the answer line of a problem.
 fn print_answer<R: Print + AllocGlobal>(rt: &R, problem: Problem, budget: u64) -> io::Result<()>
     requires { IsOver problem.unknowns problem.parameters problem }
 {
     match solve(rt.alloc(), problem, budget) {
-        Ok(solution) => {
-            print!(rt; "answer quast {} ", solution.moves)?;
-            print_quast(rt, &solution.quast)?;
-            println!(rt; "")
-        }
-        Err(Stop::Wide { moves, .. }) => println!(rt; "answer wide {moves}"),
-        Err(Stop::Spent { moves, .. }) => println!(rt; "answer spent {moves}"),
-        Err(Stop::NoMemory) => println!(rt; "no memory"),
+        Ok(solution) => print_solution(rt, &solution),
+        Err(stop) => print_stop(rt, &stop),
     }
+}
+
+/// Reads the rows and the context of a problem; nothing where so many variables have no number.
+fn read_problem(
+    alloc: Global,
+    lines: &mut Lines,
+    unknowns: usize,
+    parameters: usize,
+) -> Result<Option<Problem>, AllocError>
+    ensures { IfOk result (λ o. ForSome o (λ p. IsOver p.unknowns p.parameters p)) }
+{
+    let variables = match unknowns.checked_add(parameters) {
+        Some(variables) => variables,
+        None => return Ok(None),
+    };
+    lines.pass();
+    let rows = read_forms(alloc, lines, "row", variables)?;
+    let context = read_forms(alloc, lines, "context", parameters)?;
+    Ok(Some(Problem {
+        unknowns,
+        parameters,
+        rows,
+        context,
+    }))
+}
+
+/// Prints a problem but for its answer.
+fn print_problem<R: Print + AllocGlobal>(
+    rt: &R,
+    problem: &Problem,
+    budget: usize,
+) -> io::Result<()> {
+    println!(rt;
+        "problem {} {} {budget}",
+        problem.unknowns, problem.parameters
+    )?;
+    print_forms(rt, "row", &problem.rows)?;
+    print_forms(rt, "context", &problem.context)
 }
 
 /// Reads a case, leaves its answer out of account, and prints it with that of the solver, which is asked so many times
 /// over, once at least. False where the line in front is not what it is to be.
 pub fn problem<R: Print + AllocGlobal>(rt: &R, lines: &mut Lines, times: u64) -> io::Result<bool> {
-    let counts = match lines.counts(rt.alloc(), "problem")? {
+    let [unknowns, parameters, budget, _] = match lines.counts(rt.alloc(), "problem", 3)? {
         Some(counts) => counts,
         None => return Ok(false),
     };
-    if counts.len() != 3 {
-        return Ok(false);
-    }
-    let (unknowns, parameters, budget) = (counts[0], counts[1], counts[2]);
-    let variables = match unknowns.checked_add(parameters) {
-        Some(variables) => variables,
+    let problem = match read_problem(rt.alloc(), lines, unknowns, parameters)? {
+        Some(problem) => problem,
         None => return Ok(false),
     };
-    lines.pass();
-    let rows = read_forms(rt.alloc(), lines, "row", variables)?;
-    let context = read_forms(rt.alloc(), lines, "context", parameters)?;
     if !lines.begins("answer") {
         return Ok(false);
     }
     lines.pass();
-    println!(rt; "problem {unknowns} {parameters} {budget}")?;
-    print_forms(rt, "row", rows.as_slice())?;
-    print_forms(rt, "context", context.as_slice())?;
-    let problem = Problem {
-        unknowns,
-        parameters,
-        rows,
-        context,
-    };
+    print_problem(rt, &problem, budget)?;
     for _ in 1..times {
         solve_again(rt.alloc(), &problem, budget as u64)?;
     }

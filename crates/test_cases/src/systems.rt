@@ -5,11 +5,22 @@ use crate::lines::Lines;
 use integer_sets::System;
 use std::io;
 
+/// Prints the constraints of a system.
+fn print_constraints<R: Print + AllocGlobal>(rt: &R, system: &System) -> io::Result<()> {
+    print_forms(rt, "equality", system.equalities())?;
+    print_forms(rt, "row", system.rows())
+}
+
+/// So, and the line that ends an answer.
+pub fn print_ended<R: Print + AllocGlobal>(rt: &R, system: &System) -> io::Result<()> {
+    print_constraints(rt, system)?;
+    println!(rt; "end")
+}
+
 /// Prints a system.
 pub fn print_system<R: Print + AllocGlobal>(rt: &R, system: &System) -> io::Result<()> {
     println!(rt; "system {} {}", system.dimensions(), system.parameters())?;
-    print_forms(rt, "equality", system.equalities())?;
-    print_forms(rt, "row", system.rows())
+    print_constraints(rt, system)
 }
 
 /// Reads a system and prints it; nothing where the line in front heads none.
@@ -17,14 +28,10 @@ pub fn read_system<R: Print + AllocGlobal>(
     rt: &R,
     lines: &mut Lines,
 ) -> io::Result<Option<System>> {
-    let counts = match lines.counts(rt.alloc(), "system")? {
+    let [dimensions, parameters, _, _] = match lines.counts(rt.alloc(), "system", 2)? {
         Some(counts) => counts,
         None => return Ok(None),
     };
-    if counts.len() != 2 {
-        return Ok(None);
-    }
-    let (dimensions, parameters) = (counts[0], counts[1]);
     let variables = match dimensions.checked_add(parameters) {
         Some(variables) => variables,
         None => return Ok(None),
