@@ -1,14 +1,21 @@
 //! Whole calls over ports in memory: one that nothing disturbs, streams that fail, and an input that is too long.
 
-use io_ports::{MemSink, MemSource, OpenGate};
+ghost use Rattle.std.specs.Prelude.{◌≤◌};
+
+use io_ports::{Gate, MemSink, MemSource, OpenGate};
 use polypar::{Status, command_in_memory, polypar};
 use std::alloc::{AllocError, Global};
 use std::sync::Wait;
 use std::test::Fail;
 use std::thread::Threads;
 
-const COPY: &str =
-    "void copy(int64_t N, uint64_t A[N], uint64_t B[N]) { for (int64_t i = 0; i < N; i++) B[i] = A[i]; }\n";
+/// A copy of two cells.
+const TWO_CELLS: &str = "void copy(int64_t N, uint64_t A[N], uint64_t B[N]) {
+    for (int64_t i = 0; i < N; i++) B[i] = A[i]; }
+%%
+N = 2
+A = 3 4
+";
 
 const USAGE: &str =
     "usage: polypar run|schedule|deps|emit|gen|certify|check [--workers 1..64] [--tile 1..1024] [--budget 1..20000] [--report] [--expand] [--sync waves|tiles] [--reduce]\n";
@@ -39,45 +46,27 @@ pub fn words_of(alloc: Global, words: &[&str]) -> Result<Vec<String>, AllocError
     Ok(all)
 }
 
-/// Calls `polypar` on these ports and an error stream of which these calls fail.
-fn call_with<R: Threads + Wait + Sync>(
+/// Calls `polypar` with these words on an input, with this gate: so many bytes go through a call of a port, the output has
+/// this room, and these calls of the source, of the output and of the error output fail.
+pub fn answer_of<R: Threads + Wait + Sync, G: Gate>(
     rt: &R,
     alloc: Global,
     words: &[&str],
-    mut source: MemSource,
-    mut out: MemSink,
-    err_fails: &[u64],
-) -> Result<Answer, AllocError> {
+    input: &[u8],
+    step: usize,
+    room: usize,
+    fails: [&[u64]; 3],
+    gate: &G,
+) -> Result<Answer, AllocError>
+    requires { 1 ≤ step }
+{
     let words = words_of(alloc, words)?;
-    let mut err = MemSink::of(alloc, 200, 200, err_fails)?;
-    let status = polypar(
-        rt,
-        alloc,
-        &words,
-        &mut source,
-        &mut out,
-        &mut err,
-        &OpenGate,
-    );
+    let [source_fails, out_fails, err_fails] = fails;
+    let mut source = MemSource::of(alloc, input, step, source_fails)?;
+    let mut out = MemSink::of(alloc, room, step, out_fails)?;
+    let mut err = MemSink::of(alloc, 4096, step, err_fails)?;
+    let status = polypar(rt, alloc, &words, &mut source, &mut out, &mut err, gate);
     Ok(Answer { status, out, err })
-}
-
-/// Calls `polypar` on these ports and an error stream that never fails.
-fn call<R: Threads + Wait + Sync>(
-    rt: &R,
-    alloc: Global,
-    words: &[&str],
-    source: MemSource,
-    out: MemSink,
-) -> Result<Answer, AllocError> {
-    call_with(rt, alloc, words, source, out, &[])
-}
-
-/// The copy kernel and data behind it.
-fn with_data(alloc: Global, data: &str) -> Result<String, AllocError> {
-    let mut input = String::from_str(alloc, COPY)?;
-    input.push_str(data)?;
-    Ok(input)
 }
 
 /// Runs an input over streams in memory that never fail.
@@ -92,74 +81,130 @@ pub fn run_on(rt: &HostRuntime, input: &[u8]) -> Result<Answer, AllocError> {
 
 #[test]
 fn prints_the_arrays_of_the_execution(rt: HostRuntime) -> Result<(), Fail> {
-    let input = with_data(rt.alloc(), "%%\nN = 2\nA = 3 4\n")?;
-    let answer = run_on(&rt, input.as_bytes())?;
+    let answer = run_on(&rt, TWO_CELLS.as_bytes())?;
     assert!(rt; is_told(answer, 0, b"A = 3 4\nB = 3 4\n", b""));
     Ok(())
 }
 
-#[test]
-fn tells_a_source_and_a_sink_that_fail(rt: HostRuntime) -> Result<(), Fail> {
-    let input = with_data(rt.alloc(), "%%\nN = 4\nA = 1 2 3 4\n")?;
-    let broken = MemSource::of(rt.alloc(), input.as_bytes(), 8, &[2])?;
-    let out = MemSink::of(rt.alloc(), 99, 99, &[])?;
-    let read = call(&rt, rt.alloc(), &["polypar", "run"], broken, out)?;
-    assert!(rt; is_told(read, 5, b"", b"read fault\n"));
+/// A call over ports of which calls fail, how it ends, and how many calls of its error output failed.
+struct Fault {
+    words: &'static [&'static str],
+    room: usize,
+    fails: [&'static [u64]; 3],
+    exit: u8,
+    out: &'static str,
+    err: &'static str,
+    faults: u64,
+}
 
-    let source = MemSource::of(rt.alloc(), input.as_bytes(), 8, &[])?;
-    let full = MemSink::of(rt.alloc(), 7, 7, &[])?;
-    let written = call(&rt, rt.alloc(), &["polypar", "run"], source, full)?;
-    assert!(rt; is_told(written, 6, b"A = 1 2", b"write fault\n"));
+/// The source, the output, and flushes of both outputs, also behind a line that was told.
+const FAULTS: &[Fault] = &[
+    Fault {
+        words: &["polypar", "run"],
+        room: 99,
+        fails: [&[2], &[], &[]],
+        exit: 5,
+        out: "",
+        err: "read fault\n",
+        faults: 0,
+    },
+    Fault {
+        words: &["polypar", "run"],
+        room: 7,
+        fails: [&[], &[], &[]],
+        exit: 6,
+        out: "A = 3 4",
+        err: "write fault\n",
+        faults: 0,
+    },
+    Fault {
+        words: &["polypar", "run"],
+        room: 99,
+        fails: [&[], &[2], &[]],
+        exit: 6,
+        out: "A = 3 4\nB = 3 4\n",
+        err: "write fault\n",
+        faults: 0,
+    },
+    Fault {
+        words: &["polypar", "run"],
+        room: 99,
+        fails: [&[], &[], &[1]],
+        exit: 6,
+        out: "A = 3 4\nB = 3 4\n",
+        err: "write fault\n",
+        faults: 1,
+    },
+    Fault {
+        words: &["polypar"],
+        room: 9,
+        fails: [&[], &[], &[2]],
+        exit: 1,
+        out: "",
+        err: USAGE,
+        faults: 1,
+    },
+];
+
+/// Whether a call on the copy kernel ends as told.
+fn is_fault<R: Threads + Wait + Sync>(
+    rt: &R,
+    alloc: Global,
+    fault: &Fault,
+) -> Result<bool, AllocError> {
+    let input = TWO_CELLS.as_bytes();
+    let answer = answer_of(
+        rt,
+        alloc,
+        fault.words,
+        input,
+        200,
+        fault.room,
+        fault.fails,
+        &OpenGate,
+    )?;
+    let faults = answer.err.faults();
+    let is = is_told(
+        answer,
+        fault.exit,
+        fault.out.as_bytes(),
+        fault.err.as_bytes(),
+    );
+    Ok(is && faults == fault.faults)
+}
+
+#[test]
+fn tells_calls_of_ports_that_fail(rt: HostRuntime) -> Result<(), Fail> {
+    for fault in FAULTS {
+        assert!(rt; is_fault(&rt, rt.alloc(), fault)?);
+    }
     Ok(())
 }
 
-/// The answer to so many spaces.
-fn answer_to_spaces<R: Threads + Wait + Sync>(
+/// Whether so many spaces are refused with this line.
+fn is_refused<R: Threads + Wait + Sync>(
     rt: &R,
     alloc: Global,
     count: usize,
-) -> Result<Answer, AllocError> {
+    line: &str,
+) -> Result<bool, AllocError> {
     let spaces = vec![in alloc; b' '; count]?;
-    let source = MemSource::of(alloc, &spaces, 65536, &[])?;
-    let out = MemSink::of(alloc, 9, 9, &[])?;
-    call(rt, alloc, &["polypar", "run"], source, out)
+    let fails: [&[u64]; 3] = [&[], &[], &[]];
+    let words = ["polypar", "run"];
+    let answer = answer_of(rt, alloc, &words, &spaces, 65536, 9, fails, &OpenGate)?;
+    Ok(is_told(answer, 2, b"", line.as_bytes()))
 }
 
 #[test]
 fn refuses_an_input_that_is_too_long(rt: HostRuntime) -> Result<(), Fail> {
-    let last = answer_to_spaces(&rt, rt.alloc(), 134_217_728)?;
-    assert!(rt; is_told(last, 2, b"", b"refused: Unended 1:134217729\n"));
-    let past = answer_to_spaces(&rt, rt.alloc(), 134_217_729)?;
-    assert!(rt; is_told(past, 2, b"", b"refused: TooLong 1:1\n"));
-    Ok(())
-}
-
-#[test]
-fn tells_a_flush_that_fails(rt: HostRuntime) -> Result<(), Fail> {
-    let input = with_data(rt.alloc(), "%%\nN = 1\nA = 5\n")?;
-    let source = MemSource::of(rt.alloc(), input.as_bytes(), 99, &[])?;
-    let out = MemSink::of(rt.alloc(), 99, 99, &[2])?;
-    let answer = call(&rt, rt.alloc(), &["polypar", "run"], source, out)?;
-    assert!(rt; is_told(answer, 6, b"A = 5\nB = 5\n", b"write fault\n"));
-    Ok(())
-}
-
-#[test]
-fn tells_an_error_stream_that_cannot_be_flushed(rt: HostRuntime) -> Result<(), Fail> {
-    let input = with_data(rt.alloc(), "%%\nN = 1\nA = 5\n")?;
-    let source = MemSource::of(rt.alloc(), input.as_bytes(), 99, &[])?;
-    let out = MemSink::of(rt.alloc(), 99, 99, &[])?;
-    let answer = call_with(&rt, rt.alloc(), &["polypar", "run"], source, out, &[1])?;
-    assert!(rt; is_told(answer, 6, b"A = 5\nB = 5\n", b"write fault\n"));
-    Ok(())
-}
-
-#[test]
-fn keeps_the_status_whose_line_cannot_be_flushed(rt: HostRuntime) -> Result<(), Fail> {
-    let source = MemSource::of(rt.alloc(), b"left", 4, &[])?;
-    let out = MemSink::of(rt.alloc(), 9, 9, &[])?;
-    let answer = call_with(&rt, rt.alloc(), &["polypar"], source, out, &[2])?;
-    assert!(rt; answer.err.faults() == 1);
-    assert!(rt; is_told(answer, 1, b"", USAGE.as_bytes()));
+    let last = is_refused(
+        &rt,
+        rt.alloc(),
+        134_217_728,
+        "refused: Unended 1:134217729\n",
+    )?;
+    assert!(rt; last);
+    let past = is_refused(&rt, rt.alloc(), 134_217_729, "refused: TooLong 1:1\n")?;
+    assert!(rt; past);
     Ok(())
 }

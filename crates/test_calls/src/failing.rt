@@ -1,9 +1,8 @@
 //! Streams of which one call fails, the first, the second and so on until a run is done: how the run ends, and what the
 //! output has taken by then.
 
-use crate::commands::{Answer, words_of};
-use io_ports::{MemSink, MemSource, OpenGate};
-use polypar::polypar;
+use crate::commands::{Answer, answer_of};
+use io_ports::OpenGate;
 use std::alloc::{AllocError, Global};
 use std::sync::Wait;
 use std::test::Fail;
@@ -78,31 +77,7 @@ fn end_of(answer: Answer, whole: &[u8]) -> End {
     end
 }
 
-/// A run over streams of which the calls with these numbers fail; eight bytes go through a call.
-fn answer_of<R: Threads + Wait + Sync>(
-    rt: &R,
-    alloc: Global,
-    row: &Row,
-    fails: [&[u64]; 3],
-) -> Result<Answer, AllocError> {
-    let words = words_of(alloc, row.words)?;
-    let [source_fails, out_fails, err_fails] = fails;
-    let mut source = MemSource::of(alloc, row.input.as_bytes(), 8, source_fails)?;
-    let mut out = MemSink::of(alloc, 200, 8, out_fails)?;
-    let mut err = MemSink::of(alloc, 200, 8, err_fails)?;
-    let status = polypar(
-        rt,
-        alloc,
-        &words,
-        &mut source,
-        &mut out,
-        &mut err,
-        &OpenGate,
-    );
-    Ok(Answer { status, out, err })
-}
-
-/// How a run ends where this call of this stream fails.
+/// How a run ends where this call of this stream fails; eight bytes go through a call.
 fn end_at<R: Threads + Wait + Sync>(
     rt: &R,
     alloc: Global,
@@ -116,7 +91,8 @@ fn end_at<R: Threads + Wait + Sync>(
         Failing::Out => [&[], &one, &[]],
         Failing::Err => [&[], &[], &one],
     };
-    let answer = answer_of(rt, alloc, row, fails)?;
+    let input = row.input.as_bytes();
+    let answer = answer_of(rt, alloc, row.words, input, 8, 200, fails, &OpenGate)?;
     Ok(end_of(answer, row.out.as_bytes()))
 }
 

@@ -36,23 +36,27 @@ const EVEN: &str = "void even(int64_t N, uint64_t A[2*N], uint64_t B[2*N]) {
 const PREFIX: &str = "void pre(int64_t N, uint64_t A[N]) {
     for (int64_t i = 1; i < N; i++) A[i] += A[i-1]; }";
 
-/// A kernel, a read by its number among all, the value of its parameter, and of each turn of the reader the turn that
-/// wrote last, or none where the value is the initial one.
-const WRITES: &[(&str, usize, i128, &[Option<i128>])] = &[
-    (EVEN, 0, 2, &[Some(0), None, Some(1), None]),
-    (PREFIX, 0, 4, &[None, None, None]),
-    (PREFIX, 1, 4, &[None, Some(0), Some(1)]),
-];
-
 const SHIFT: &str = "void shift(int64_t N, uint64_t A[N]) {
     for (int64_t i = 0; i < N - 1; i++) A[i] = A[i+1]; }";
 
-/// The same of the turn that writes next behind a reader: `even` and `pre` write no cell behind a read of it.
-const OVERWRITES: &[(&str, usize, i128, &[Option<i128>])] = &[
-    (EVEN, 0, 2, &[None, None, None, None]),
-    (PREFIX, 0, 4, &[None, None, None]),
-    (PREFIX, 1, 4, &[None, None, None]),
-    (SHIFT, 0, 4, &[Some(1), Some(2), None]),
+/// Which writes of the cell of a read.
+#[derive(Clone, Copy)]
+enum Which {
+    Last,
+    Next,
+}
+
+/// A kernel, a read by its number among all, the value of its parameter, and of each turn of the reader the turn that
+/// wrote last, or none where the value is the initial one; or the turn that writes next behind it: `even` and `pre` write
+/// no cell behind a read of it.
+const WRITES: &[(&str, Which, usize, i128, &[Option<i128>])] = &[
+    (EVEN, Which::Last, 0, 2, &[Some(0), None, Some(1), None]),
+    (PREFIX, Which::Last, 0, 4, &[None, None, None]),
+    (PREFIX, Which::Last, 1, 4, &[None, Some(0), Some(1)]),
+    (EVEN, Which::Next, 0, 2, &[None, None, None, None]),
+    (PREFIX, Which::Next, 0, 4, &[None, None, None]),
+    (PREFIX, Which::Next, 1, 4, &[None, None, None]),
+    (SHIFT, Which::Next, 0, 4, &[Some(1), Some(2), None]),
 ];
 
 /// The turn of a leaf's instance; none where the value is the initial one.
@@ -89,60 +93,27 @@ fn is_among(sources: &[ReadSource], read: usize, parameter: i128, turns: &[Optio
     }
 }
 
-/// Whether the source of a read is as told.
-fn is_source(
-    alloc: Global,
-    text: &str,
-    read: usize,
-    parameter: i128,
-    turns: &[Option<i128>],
-) -> Result<bool, AllocError> {
+/// The writes of the cells of a kernel's reads.
+fn writes_of(alloc: Global, text: &str, which: Which) -> Result<Vec<ReadSource>, AllocError> {
     match read_kernel(alloc, text.as_bytes()) {
         Err(_) => Err(AllocError),
         Ok(kernel) => {
             let model = Model::of(alloc, &kernel)?;
-            let sources = last_writes(alloc, &model, 20000)?;
-            Ok(is_among(&sources, read, parameter, turns))
-        }
-    }
-}
-
-/// Whether what overwrites the cell of a read is as told.
-fn is_overwritten(
-    alloc: Global,
-    text: &str,
-    read: usize,
-    parameter: i128,
-    turns: &[Option<i128>],
-) -> Result<bool, AllocError> {
-    match read_kernel(alloc, text.as_bytes()) {
-        Err(_) => Err(AllocError),
-        Ok(kernel) => {
-            let model = Model::of(alloc, &kernel)?;
-            let sources = next_writes(alloc, &model, 20000)?;
-            Ok(is_among(&sources, read, parameter, turns))
+            match which {
+                Which::Last => last_writes(alloc, &model, 20000),
+                Which::Next => next_writes(alloc, &model, 20000),
+            }
         }
     }
 }
 
 #[test]
-fn reads_have_these_last_writes(rt: HostRuntime) -> Result<(), Fail> {
+fn reads_have_these_last_and_next_writes(rt: HostRuntime) -> Result<(), Fail> {
     for case in WRITES {
-        let (text, read, parameter, turns) = *case;
+        let (text, which, read, parameter, turns) = *case;
+        let writes = writes_of(rt.alloc(), text, which)?;
         assert!(rt;
-            is_source(rt.alloc(), text, read, parameter, turns)?,
-            "{text} read {read}"
-        );
-    }
-    Ok(())
-}
-
-#[test]
-fn reads_have_these_next_writes(rt: HostRuntime) -> Result<(), Fail> {
-    for case in OVERWRITES {
-        let (text, read, parameter, turns) = *case;
-        assert!(rt;
-            is_overwritten(rt.alloc(), text, read, parameter, turns)?,
+            is_among(&writes, read, parameter, turns),
             "{text} read {read}"
         );
     }

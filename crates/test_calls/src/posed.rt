@@ -129,39 +129,37 @@ fn is_told(posed: &System, point: &[i128], inside: bool) -> bool {
     posed.holds_at(point) == Ok(inside)
 }
 
-/// Whether the first rows are as told.
-fn has_first_rows(alloc: Global, text: &str) -> Result<bool, AllocError> {
+/// The model of a text's kernel; an error where it has none.
+fn model_of(alloc: Global, text: &str) -> Result<Model, AllocError> {
     match read_kernel(alloc, text.as_bytes()) {
         Err(_) => Err(AllocError),
-        Ok(kernel) => {
-            let model = Model::of(alloc, &kernel)?;
-            for dep in &conflicts(alloc, &model)? {
-                if let Some(posed) = first_posed(alloc, &model, dep)? {
-                    return Ok(FIRST_ROWS.iter().all(|row| is_told(&posed, &row.0, row.1)));
-                }
-            }
-            Ok(false)
-        }
+        Ok(kernel) => Model::of(alloc, &kernel),
     }
 }
 
-/// Whether the second rows are as told.
-fn has_second_rows(alloc: Global, text: &str) -> Result<bool, AllocError> {
-    match read_kernel(alloc, text.as_bytes()) {
-        Err(_) => Err(AllocError),
-        Ok(kernel) => {
-            let model = Model::of(alloc, &kernel)?;
-            match second_posed(alloc, &model)? {
-                None => Ok(false),
-                Some(posed) => Ok(SECOND_ROWS.iter().all(|row| is_told(&posed, &row.0, row.1))),
-            }
+/// Whether the first rows are as told.
+fn has_first_rows(alloc: Global, model: &Model) -> Result<bool, AllocError> {
+    for dep in &conflicts(alloc, model)? {
+        if let Some(posed) = first_posed(alloc, model, dep)? {
+            return Ok(FIRST_ROWS.iter().all(|row| is_told(&posed, &row.0, row.1)));
         }
+    }
+    Ok(false)
+}
+
+/// Whether the second rows are as told.
+fn has_second_rows(alloc: Global, model: &Model) -> Result<bool, AllocError> {
+    match second_posed(alloc, model)? {
+        None => Ok(false),
+        Some(posed) => Ok(SECOND_ROWS.iter().all(|row| is_told(&posed, &row.0, row.1))),
     }
 }
 
 #[test]
 fn posed_sets_hold_these_rows(rt: HostRuntime) -> Result<(), Fail> {
-    assert!(rt; has_first_rows(rt.alloc(), PREFIX)?);
-    assert!(rt; has_second_rows(rt.alloc(), SQUARE)?);
+    let prefix = model_of(rt.alloc(), PREFIX)?;
+    assert!(rt; has_first_rows(rt.alloc(), &prefix)?);
+    let square = model_of(rt.alloc(), SQUARE)?;
+    assert!(rt; has_second_rows(rt.alloc(), &square)?);
     Ok(())
 }

@@ -1,6 +1,7 @@
 //! Projections of either kind, computed by Python's integers.
 
 use crate::made::system;
+use affine_forms::Form;
 use fm_projection::FmStop;
 use integer_sets::System;
 use std::alloc::Global;
@@ -37,30 +38,40 @@ fn without_first(alloc: Global, projection: &Projection) -> Result<Projection, F
 }
 
 /// What is left without the first two dimensions.
-fn last(alloc: Global, traced: bool) -> Result<System, FmStop> {
+fn without_two(alloc: Global, traced: bool) -> Result<Projection, FmStop> {
     let first = start(alloc, traced)?;
     let second = without_first(alloc, &first)?;
-    let third = without_first(alloc, &second)?;
-    match third.system(alloc) {
+    without_first(alloc, &second)
+}
+
+/// So as a system.
+fn last(alloc: Global, traced: bool) -> Result<System, FmStop> {
+    let left = without_two(alloc, traced)?;
+    match left.system(alloc) {
         Err(_) => Err(FmStop::NoMemory),
         Ok(system) => Ok(system),
     }
 }
 
-/// Whether the rows of the system are these.
-fn has_rows(left: Result<System, FmStop>, rows: &[(i128, i128)]) -> bool {
-    let Ok(system) = left else {
-        return false;
-    };
-    if system.rows().len() != rows.len() {
+/// Whether rows are these.
+fn are_rows(rows: &[Form], wanted: &[(i128, i128)]) -> bool {
+    if rows.len() != wanted.len() {
         return false;
     }
-    for (row, want) in system.rows().iter().zip(rows.iter()) {
+    for (row, want) in rows.iter().zip(wanted.iter()) {
         if row.coefficients() != [want.0].as_slice() || row.constant() != want.1 {
             return false;
         }
     }
     true
+}
+
+/// Whether the rows of the system are these.
+fn has_rows(left: Result<System, FmStop>, rows: &[(i128, i128)]) -> bool {
+    match left {
+        Ok(system) => are_rows(system.rows(), rows),
+        Err(_) => false,
+    }
 }
 
 #[test]

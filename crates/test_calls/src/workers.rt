@@ -3,10 +3,9 @@
 
 ghost use Rattle.std.specs.Prelude.{◌≤◌};
 
-use crate::commands::{Answer, words_of};
-use io_ports::{Gate, MemSink, MemSource, OpenGate};
+use crate::commands::{Answer, answer_of, is_told};
+use io_ports::{Gate, OpenGate};
 use kernel_gen::{Kind, cells_in, generated, sum_of, summary};
-use polypar::polypar;
 use scop_meaning::interpreter::run_plain;
 use std::alloc::{AllocError, Global};
 use std::sync::Wait;
@@ -360,7 +359,7 @@ const EXPANDED: &[Expanded] = &[
     },
 ];
 
-/// Calls `polypar` with these words on an input, with this gate.
+/// Calls `polypar` with these words on an input, with this gate, over ports that never fail.
 fn call_on<R: Threads + Wait + Sync, G: Gate>(
     rt: &R,
     alloc: Global,
@@ -368,21 +367,8 @@ fn call_on<R: Threads + Wait + Sync, G: Gate>(
     input: &[u8],
     gate: &G,
 ) -> Result<Answer, AllocError> {
-    let words = words_of(alloc, words)?;
-    let mut source = MemSource::of(alloc, input, 4096, &[])?;
-    let mut out = MemSink::of(alloc, 4096, 4096, &[])?;
-    let mut err = MemSink::of(alloc, 4096, 4096, &[])?;
-    let status = polypar(rt, alloc, &words, &mut source, &mut out, &mut err, gate);
-    Ok(Answer { status, out, err })
-}
-
-/// Whether a call was done, and printed these arrays and these lines.
-fn is_answer(answer: Answer, out: &[u8], err: &[u8]) -> bool {
-    let is = answer.status.exit_code() == 0
-        && answer.out.taken() == out
-        && answer.err.taken() == err;
-    drop(answer);
-    is
+    let fails: [&[u64]; 3] = [&[], &[], &[]];
+    answer_of(rt, alloc, words, input, 4096, 4096, fails, gate)
 }
 
 /// The lines of a report.
@@ -428,7 +414,7 @@ fn is_reported<R: Threads + Wait + Sync>(
     if sync == "tiles" {
         report.push_str(run.edges)?;
     }
-    Ok(is_answer(answer, run.arrays.as_bytes(), report.as_bytes()))
+    Ok(is_told(answer, 0, run.arrays.as_bytes(), report.as_bytes()))
 }
 
 #[test]
@@ -482,7 +468,7 @@ fn is_reduced<R: Threads + Wait + Sync>(
     ];
     let report = reduced_report(alloc, run, workers, sync)?;
     let answer = call_on(rt, alloc, &words, run.kernel.as_bytes(), &OpenGate)?;
-    Ok(is_answer(answer, run.arrays.as_bytes(), report.as_bytes()))
+    Ok(is_told(answer, 0, run.arrays.as_bytes(), report.as_bytes()))
 }
 
 #[test]
@@ -523,7 +509,7 @@ fn is_expanded<R: Threads + Wait + Sync>(
     if sync == "tiles" {
         report.push_str(run.edges)?;
     }
-    Ok(is_answer(answer, run.arrays.as_bytes(), report.as_bytes()))
+    Ok(is_told(answer, 0, run.arrays.as_bytes(), report.as_bytes()))
 }
 
 #[test]
@@ -641,7 +627,7 @@ fn two_workers_run_at_once(rt: HostRuntime) -> Result<(), Fail> {
     let gate = Holds::of(0, Until::Another);
     let words = ["polypar", "run", "--tile", "1", "--workers", "2"];
     let answer = call_on(&rt, rt.alloc(), &words, COPY_OF_FOUR.as_bytes(), &gate)?;
-    assert!(rt; is_answer(answer, b"A = 1 2 3 4\nB = 1 2 3 4\n", b""));
+    assert!(rt; is_told(answer, 0, b"A = 1 2 3 4\nB = 1 2 3 4\n", b""));
     assert!(rt; !gate.failed.load(Ordering::SeqCst));
     assert!(rt; are_ones(&gate.entered, 4));
     assert!(rt; are_ones(&gate.left, 4));
@@ -660,7 +646,7 @@ fn is_held<R: Threads + Wait + Sync>(
     let words = ["polypar", "run", "--tile", "1", "--workers", "3"];
     let answer = call_on(rt, alloc, &words, SWEEP.as_bytes(), &gate)?;
     Ok(
-        is_answer(answer, b"A = 1 9 21 29 1\n", b"")
+        is_told(answer, 0, b"A = 1 9 21 29 1\n", b"")
             && !gate.failed.load(Ordering::SeqCst)
             && are_ones(&gate.entered, 6)
             && are_ones(&gate.left, 6),
@@ -760,7 +746,7 @@ fn is_printed<R: Threads + Wait + Sync>(
 ) -> Result<bool, AllocError> {
     let words = ["polypar", "run", "--tile", tile, "--workers", workers];
     let answer = call_on(rt, alloc, &words, run.input.as_bytes(), &OpenGate)?;
-    Ok(is_answer(answer, run.out.as_bytes(), b""))
+    Ok(is_told(answer, 0, run.out.as_bytes(), b""))
 }
 
 #[test]
@@ -898,7 +884,7 @@ fn is_summary<R: Threads + Wait + Sync>(
     ];
     let answer = call_on(rt, alloc, &words, b"", &OpenGate)?;
     let wanted = summary_of(alloc, case)?;
-    Ok(is_answer(answer, wanted.as_slice(), b""))
+    Ok(is_told(answer, 0, wanted.as_slice(), b""))
 }
 
 /// Thin waves, and more workers than there are processors: who waits for a tile lets the one go on that holds it.
