@@ -15,4 +15,5 @@ pub use laws::{
     numbers_of_taken_words_are_in_range, other_names_alone_are_not_taken,
     taken_words_name_a_command,
 };
+pub use stated::MOST_MOVES;
 pub use taken::command_of;

@@ -18,7 +18,7 @@ const MOST_WORKERS: u64 = 64;
 const MOST_TILE: u64 = 1024;
 
 /// The most moves of a question.
-pub(crate) const MOST_MOVES: u64 = 20_000;
+pub const MOST_MOVES: u64 = 20_000;
 
 /// The greatest size of a generated kernel.
 const MOST_SIZE: u64 = 512;

@@ -12,11 +12,9 @@ use crate::places::{Place, is_narrow, place_of};
 use crate::refusal::{DataRefusal, DataStop};
 use crate::sheet::{Given, Sheet};
 use crate::words::first_word;
+use scop_syntax::limits::MOST_PARAMETER_VALUE;
 use scop_syntax::tree::Kernel;
 use std::alloc::Global;
-
-/// The largest value of a parameter.
-const MOST: u64 = 65536;
 
 /// Whether a word is `seed`.
 fn is_seed(word: &[u8]) -> bool
@@ -37,7 +35,7 @@ fn value_said(line: u64, list: &[u8]) -> Result<u64, DataRefusal>
         return Err(DataRefusal::Line(line));
     }
     match number_of(first.word) {
-        Some(value) if value <= MOST => Ok(value),
+        Some(value) if value <= MOST_PARAMETER_VALUE => Ok(value),
         Some(_) => Err(DataRefusal::ParameterRange(line)),
         None => Err(DataRefusal::Number(line)),
     }

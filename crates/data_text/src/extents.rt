@@ -13,11 +13,12 @@ use crate::counts::total_cells;
 use data_lines::{DataRefusal, DataStop};
 use scop_syntax::affine_values::exact_at;
 use scop_syntax::arrays::Extents;
+use scop_syntax::limits::MOST_CELLS;
 use scop_syntax::tree::{Aff, Array, Kernel};
 use std::alloc::{AllocError, Global};
 
-/// The cells that all arrays together may have.
-const MOST_CELLS: u128 = 1 << 22;
+/// The most cells, beside a number of them that 64 bits may not hold.
+const MOST: u128 = MOST_CELLS as u128;
 
 /// The extents of a kernel's arrays for these parameters, if the language has them.
 pub(crate) fn layout_said(
@@ -41,7 +42,7 @@ pub(crate) fn layout_said(
         return Err(DataStop::NoMemory);
     };
     let total = total_cells(&extents);
-    if total > MOST_CELLS {
+    if total > MOST {
         return Err(DataStop::Refused(DataRefusal::Cells(total)));
     }
     Ok(extents)

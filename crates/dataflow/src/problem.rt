@@ -12,12 +12,11 @@ use affine_forms::Form;
 use iteration_domains::{Dep, StatementModel, push_variables};
 use pip_solver::Problem;
 use quast_joins::Way;
+use scop_syntax::limits::MOST_PARAMETER_VALUE;
 use std::alloc::{AllocError, Global};
 
 /// A number above all turns.
 pub const TOP: u64 = 70_368_744_177_664;
-
-const MOST_PARAMETER: u64 = 65536;
 
 // What stands for the variables of the conflict's system, for a last writer.
 fn pair_behind(
@@ -198,7 +197,14 @@ fn context_of(
     let mut context = Vec::new(alloc);
     push_flat(&mut context, domain.equalities(), &inner, outer)?;
     push_composed(&mut context, domain.rows(), &inner, outer)?;
-    push_below(&mut context, alloc, MOST_PARAMETER, outer, 0, parameters)?;
+    push_below(
+        &mut context,
+        alloc,
+        MOST_PARAMETER_VALUE,
+        outer,
+        0,
+        parameters,
+    )?;
     Ok(context)
 }
 

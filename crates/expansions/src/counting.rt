@@ -6,10 +6,8 @@ ghost use Rattle.loop_tree.specs.View.{trees_in};
 ghost use Rattle.loop_tree.specs.Walk.{visits};
 
 use loop_tree::{Spot, Tree};
+use scop_syntax::limits::MOST_CELLS;
 use std::alloc::{AllocError, Global};
-
-/// As many places as there may be.
-const MOST: usize = 4194304;
 
 /// Whether no more instances are to come than there may be.
 fn are_few(source: &Tree, params: &[i64], spot: &mut Spot) -> bool
@@ -20,7 +18,7 @@ fn are_few(source: &Tree, params: &[i64], spot: &mut Spot) -> bool
 {
     let mut count = 0;
     while let Some(_) = spot.next(source, params) {
-        if count == MOST {
+        if count == MOST_CELLS {
             return false;
         }
         count += 1;

@@ -6,13 +6,14 @@ ghost use Rattle.scop_syntax.specs.View.{instance_of};
 ghost use Rattle.scop_syntax.specs.Walk.{Instance as PlainInstance};
 ghost use Rattle.expansions.specs.steps.Listing.{AreListed, AreTurns, IsIndexOf, IsPlaceIn, entries_in};
 
-use scop_syntax::instance::{Instance, MAX_LOOPS};
+use scop_syntax::instance::Instance;
+use scop_syntax::limits::MOST_LOOPS;
 use std::alloc::{AllocError, Global};
 
 /// An instance of a statement: the turns of the loops round it, then zeros, and its place in the walk.
 #[derive(Clone, Copy)]
 pub struct Entry {
-    pub turns: [u32; MAX_LOOPS],
+    pub turns: [u32; MOST_LOOPS],
     pub place: u32,
 }
 
@@ -36,7 +37,7 @@ fn entry_of(turns: &[i64], place: u32) -> Option<Entry>
     ensures turns { IfSome result (λ e. AreTurns (length turns.now) turns.now e.turns) }
     ensures place { IfSome result (λ e. e.place ≡ place) }
 {
-    let mut kept = [0; MAX_LOOPS];
+    let mut kept = [0; MOST_LOOPS];
     for at in 0..turns.len() {
         match narrow(turns[at]) {
             None => return None,
@@ -47,7 +48,7 @@ fn entry_of(turns: &[i64], place: u32) -> Option<Entry>
 }
 
 /// Whether kept turns are these.
-fn are_kept(kept: &[u32; MAX_LOOPS], turns: &[i64]) -> bool
+fn are_kept(kept: &[u32; MOST_LOOPS], turns: &[i64]) -> bool
     requires { length turns.now ≤ 5 }
     ensures { result ≡ true → AreTurns (length turns.now) turns.now kept.now }
 {
@@ -65,7 +66,7 @@ fn are_kept(kept: &[u32; MAX_LOOPS], turns: &[i64]) -> bool
 }
 
 /// Whether kept turns come before these, in the order of numbers from the outermost loop on.
-fn come_before(kept: &[u32; MAX_LOOPS], turns: &[i64]) -> bool
+fn come_before(kept: &[u32; MOST_LOOPS], turns: &[i64]) -> bool
     requires { length turns.now ≤ 5 }
 {
     for at in 0..turns.len() {

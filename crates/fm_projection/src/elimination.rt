@@ -16,7 +16,7 @@ use integer_sets::System;
 use std::alloc::Global;
 
 /// The most pairs of rows that an elimination forms.
-const MOST_PAIRS: u128 = 4096;
+pub const MOST_PAIRS: u128 = 4096;
 
 /// The system without a variable, whose column stays with zeros: by the first equality that has it, or else by pairs
 /// of rows. Constraints without the variable come first, in order, and all are in lowest terms.

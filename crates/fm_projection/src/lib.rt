@@ -17,7 +17,7 @@ mod tightest;
 pub use alone::{last_alone, place_form};
 pub use columns::{narrow_form, without_column};
 pub use condensing::condensed;
-pub use elimination::eliminate;
+pub use elimination::{MOST_PAIRS, eliminate};
 pub use projecting::without;
 pub use projection_laws::{
     condensed_systems_have_the_same_points, eliminations_are_exact_one_after_another,

@@ -10,8 +10,8 @@ use Rattle.scop_syntax.specs.Tree.{Test as Comparison, at_least as is_up, equal 
 use Rattle.scop_syntax.specs.Tree.{loop as repeated, guard as guarded, Trees as Items, none as nothing}
 use Rattle.scop_syntax.specs.Tree.{more as followed}
 use Rattle.scop_syntax.specs.Walk.{holds as comparison_holds, all_hold as comparisons_hold}
-use Rattle.scop_syntax.proofs.Limits.{size-joined}
-use Rattle.scop_syntax.proofs.Limits.{turns_within as turns_small}
+use Rattle.scop_syntax.proofs.Sizes.{size-joined}
+use Rattle.scop_syntax.proofs.Sizes.{turns_within as turns_small}
 use Rattle.iteration_domains.specs.Rows.{variable, variables}
 use Rattle.iteration_domains.specs.Path.{Path, CanModel}
 use Rattle.iteration_domains.specs.Sizes.{form_size}

@@ -3,7 +3,7 @@ use Rattle.scop_syntax.proofs.Common.{◌≡◌, ◌^◌, ◌≤◌, ℤ, pos, L
 use Rattle.scop_syntax.proofs.Common.{◌<ℤ◌, All, Program, IsKernel, HasParameters, In, Scope, Placed, Runs, loops_in}
 use Rattle.scop_syntax.proofs.Common.{statements_of, visit_of, instance, walk_of, in_map, in_map_from}
 use Rattle.scop_syntax.specs.Walk.{Visit as Step}
-use Rattle.scop_syntax.proofs.Limits.{params_size, turns_fit}
+use Rattle.scop_syntax.proofs.Sizes.{params_size, turns_fit}
 use Rattle.iteration_domains.proofs.TreeStatements.{can_kernel}
 use Rattle.iteration_domains.specs.Path.{path_at}
 use Rattle.loop_tree.specs.Walk.{given, visits, walk_all}

@@ -23,7 +23,8 @@ use crate::stretch::Stretch;
 use crate::tree::{Leaf, Node};
 use crate::walking::instance_at;
 use arrayvec::ArrayVec;
-use scop_syntax::instance::{Instance, MAX_LOOPS};
+use scop_syntax::instance::Instance;
+use scop_syntax::limits::MOST_LOOPS;
 use scop_syntax::tree::Aff;
 
 /// The first of some numbers; 0 where there is none.
@@ -47,21 +48,21 @@ fn coefficient_within(form: &Aff, outer: &Outer) -> i64
 
 /// The numbers, and zeros behind them.
 #[inline]
-fn padded(numbers: &[i64]) -> [i64; MAX_LOOPS]
+fn padded(numbers: &[i64]) -> [i64; MOST_LOOPS]
     requires { length numbers.now ≤ 5 }
     ensures { take (length numbers.now) result ≡ numbers.now }
 {
-    let mut kept = [0; MAX_LOOPS];
+    let mut kept = [0; MOST_LOOPS];
     kept[..numbers.len()].copy_from_slice(numbers);
     kept
 }
 
 /// What the turns of a leaf have more at the next value of a loop within these.
-fn steps_within(forms: &[Aff], outer: &Outer) -> [i64; MAX_LOOPS]
+fn steps_within(forms: &[Aff], outer: &Outer) -> [i64; MOST_LOOPS]
     requires { length forms.now ≤ 5 }
     ensures { take (length forms.now) result ≡ steps_of forms.now (length (values_in outer.now)) }
 {
-    let mut steps: ArrayVec<i64, MAX_LOOPS> = ArrayVec::new();
+    let mut steps: ArrayVec<i64, MOST_LOOPS> = ArrayVec::new();
     for form in forms {
         steps.push(coefficient_within(form, outer));
     }

@@ -7,20 +7,21 @@ ghost use Rattle.whole_numbers.specs.Lists.{sums};
 ghost use Rattle.loop_tree.specs.Conditions.{IsHeld};
 ghost use Rattle.loop_tree.specs.Stretches.{left_of};
 
-use scop_syntax::instance::{Instance, MAX_LOOPS};
+use scop_syntax::instance::Instance;
+use scop_syntax::limits::MOST_LOOPS;
 
 /// The instance in front of a stretch, what each instance has more in its turns than the one before it, and how many
 /// are left.
 #[derive(Clone, Copy)]
 pub struct Stretch {
     pub before: Instance,
-    pub steps: [i64; MAX_LOOPS],
+    pub steps: [i64; MOST_LOOPS],
     pub left: u64,
 }
 
 /// The sum of the entries at a place, where a turn has room for it; another number elsewhere.
 #[inline]
-fn sum_at(xs: &[i64; MAX_LOOPS], ys: &[i64; MAX_LOOPS], place: usize) -> i64
+fn sum_at(xs: &[i64; MOST_LOOPS], ys: &[i64; MOST_LOOPS], place: usize) -> i64
     requires { place < 5 }
     ensures { FitsSigned w64 (get_or xs.now place (pos 0) +ℤ get_or ys.now place (pos 0))
         → result ≡ get_or xs.now place (pos 0) +ℤ get_or ys.now place (pos 0) }
@@ -31,7 +32,7 @@ fn sum_at(xs: &[i64; MAX_LOOPS], ys: &[i64; MAX_LOOPS], place: usize) -> i64
 /// The instance whose turns are more by these steps. The entries behind its turns are of no account, so each sum may
 /// wrap.
 #[inline]
-fn stepped(instance: &Instance, steps: &[i64; MAX_LOOPS]) -> Instance
+fn stepped(instance: &Instance, steps: &[i64; MOST_LOOPS]) -> Instance
     requires { All (FitsSigned w64) (sums (instance_of instance.now).turns (take instance.now.loops steps.now)) }
     ensures instance { instance_of result ≡ record {
       number = instance.now.statement;
@@ -72,7 +73,7 @@ impl Stretch {
     {
         Stretch {
             before: Instance::of(0, &[]),
-            steps: [0; MAX_LOOPS],
+            steps: [0; MOST_LOOPS],
             left: 0,
         }
     }

@@ -21,7 +21,8 @@ use crate::ranges::{all_hold, range_at};
 use crate::tree::{Leaf, Loop, Node, Tree};
 use crate::visitor::{Visitor, can_skip, passes_by, skips_one};
 use arrayvec::ArrayVec;
-use scop_syntax::instance::{Instance, MAX_LOOPS};
+use scop_syntax::instance::Instance;
+use scop_syntax::limits::MOST_LOOPS;
 use scop_syntax::tree::Aff;
 
 /// The value of a form, as a turn.
@@ -35,13 +36,13 @@ fn turn_at(form: &Aff, point: &Point, params: &[i64]) -> i64
 }
 
 /// The turns that forms give.
-fn turns_at(forms: &[Aff], point: &Point, params: &[i64]) -> ArrayVec<i64, MAX_LOOPS>
+fn turns_at(forms: &[Aff], point: &Point, params: &[i64]) -> ArrayVec<i64, MOST_LOOPS>
     requires few { length forms.now ≤ 5 }
     requires fits { FormsFit forms.now (values_at point.now ++ params.now) }
     requires held { All (FitsSigned w64) (values_of forms.now (values_at point.now ++ params.now)) }
     ensures { result.items ≡ values_of forms.now (values_at point.now ++ params.now) }
 {
-    let mut turns: ArrayVec<i64, MAX_LOOPS> = ArrayVec::new();
+    let mut turns: ArrayVec<i64, MOST_LOOPS> = ArrayVec::new();
     for form in forms {
         turns.push(turn_at(form, point, params));
     }

@@ -2,7 +2,7 @@
 use Rattle.scop_syntax.proofs.Common.{◌≡◌, ℕ, zero, ◌+◌, ◌<◌, List, [], ◌∷◌, ◌++◌, length, get_or, take, refl, sym}
 use Rattle.scop_syntax.proofs.Common.{◌∙◌, ap, subst, All, arith, ◌^◌, All-head}
 use Rattle.integer_sets.specs.Scanned.{Scanned}
-use Rattle.scop_syntax.proofs.Limits.{size_params}
+use Rattle.scop_syntax.proofs.Sizes.{size_params}
 use Rattle.loop_tree.specs.Tree.{Trees, none}
 use Rattle.loop_tree.specs.Fits.{AreSmallTrees}
 use Rattle.loop_tree.specs.Marks.{MarksAll}

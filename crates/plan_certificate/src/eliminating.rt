@@ -8,11 +8,12 @@ ghost use Rattle.plan_certificate.specs.steps.States.{Comes, Grows, going_on, pa
 
 use crate::places::{Sign, chosen, size_at, tightest};
 use crate::rows::{Move, Rows, held_times, with_terms};
+use fm_projection::MOST_PAIRS;
 use std::alloc::{AllocError, Global};
 use wide_math::gcd_of_sizes;
 
 /// At most so many pairs are made where a variable is eliminated.
-const MOST_PAIRS: usize = 4096;
+const MOST: usize = MOST_PAIRS as usize;
 
 /// The quotient; 0 where the divisor is 0.
 fn share(number: u128, divisor: u128) -> u128
@@ -128,7 +129,7 @@ fn are_many(above: usize, below: usize) -> bool
 {
     match above.checked_mul(below) {
         None => true,
-        Some(pairs) => pairs > MOST_PAIRS,
+        Some(pairs) => pairs > MOST,
     }
 }
 

@@ -9,7 +9,10 @@ use crate::differences::{at_least_one, at_most_minus_one, difference};
 use crate::numbered_rows::goal_variables;
 use affine_forms::Form;
 use iteration_domains::{Dep, term_form};
+use scop_syntax::limits::MOST_PARAMETER_VALUE;
 use std::alloc::{AllocError, Global};
+
+const MOST: i128 = MOST_PARAMETER_VALUE as i128;
 
 /// Where the row falls.
 pub fn falling(
@@ -63,7 +66,7 @@ pub fn bounded(alloc: Global, parameters: usize, dep: &Dep) -> Result<Dep, Alloc
     let variables = goal_variables(dep)?;
     let mut whole = dep.copy(alloc)?;
     for step in 0..parameters {
-        let row = term_form(alloc, variables, first + step, -1, 65536)?;
+        let row = term_form(alloc, variables, first + step, -1, MOST)?;
         whole = whole.with_row(alloc, row)?;
     }
     Ok(whole)

@@ -2,7 +2,7 @@
 use Rattle.scop_syntax.proofs.Common.{◌≡◌, ◌∙◌, ◌^◌, ◌<◌, ◌≤◌, ℤ, pos, List, [], length, ap, subst, sym, arith, ◌≤ℤ◌}
 use Rattle.scop_syntax.proofs.Common.{◌<ℤ◌, All, In, Program, Scope, Placed, Runs, loops_in, statements_of, visit_of}
 use Rattle.scop_syntax.proofs.Common.{Instance, Visit, instance, walk_of, in_map, in_map_from}
-use Rattle.scop_syntax.proofs.Limits.{turns_fit}
+use Rattle.scop_syntax.proofs.Sizes.{turns_fit}
 use Rattle.loop_tree.specs.Conditions.{CanWalk}
 use Rattle.loop_tree.specs.Fits.{FitsAll}
 use Rattle.loop_tree.specs.Marks.{FlatAll}

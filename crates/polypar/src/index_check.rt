@@ -10,6 +10,7 @@ ghost use Rattle.scop_syntax.specs.View.{program_of};
 ghost use Rattle.scop_syntax.specs.Walk.{walk_of};
 ghost use Rattle.scop_meaning.specs.Outside.{outside_of};
 
+use command_line::MOST_MOVES;
 use iteration_domains::domain_laws::outside_points_are_failures;
 use iteration_domains::{Model, System};
 use pip_solver::{Stop, is_empty};
@@ -19,14 +20,11 @@ use scop_syntax::failure_laws::failures_are_the_first;
 use scop_syntax::tree::Kernel;
 use std::alloc::{AllocError, Global};
 
-/// The moves that the solver may make for one question.
-const MOVES: u64 = 20000;
-
 /// Whether the solver shows that a system has no point; a question that stops tells nothing.
 fn has_none(alloc: Global, system: &System) -> Result<bool, AllocError>
     ensures { IfOk result (λ none. none ≡ true → (x p : List ℤ) → IsBoundedPoint system.now x p → ⊥) }
 {
-    match is_empty(alloc, system, MOVES) {
+    match is_empty(alloc, system, MOST_MOVES) {
         Ok(none) => Ok(none),
         Err(Stop::Wide { .. }) => Ok(false),
         Err(Stop::Spent { .. }) => Ok(false),

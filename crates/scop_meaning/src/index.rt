@@ -16,7 +16,7 @@ ghost use Rattle.scop_syntax.specs.Walk.{Visit, statements_in, statements_in_all
 ghost use Rattle.scop_syntax.specs.Walk.{walk, walk_all, walk_of};
 ghost use Rattle.scop_meaning.specs.Conditions.{CanCheck, CanTurn};
 ghost use Rattle.scop_meaning.specs.Outside.{FindsFirst, IsAt, first_of, outside_of};
-ghost use Rattle.scop_meaning.specs.declared.loops.TheConstants.{ROOM};
+ghost use Rattle.scop_syntax.specs.declared.limits.TheConstants.{MOST_ENTRIES};
 
 use crate::guards::all_hold;
 use crate::loops::{Point, enter_turn, point_at, turns_of};
@@ -151,7 +151,7 @@ fn outside_items(
     extents: &Extents,
     point: &mut Point,
 ) -> Option<Outside>
-    requires { CanCheck ROOM extents.now (items_of items.now) number point.old.items }
+    requires { CanCheck MOST_ENTRIES extents.now (items_of items.now) number point.old.items }
     ensures found { result ≡ first_of (failures extents.now (walk_all (items_of items.now) number point.old.items)) }
     ensures point { point.new.items ≡ point.old.items }
 {
@@ -169,7 +169,7 @@ fn outside_items(
 /// The first failure of `item`.
 #[cycle(checking)]
 fn outside_item(item: &Item, number: usize, extents: &Extents, point: &mut Point) -> Option<Outside>
-    requires { CanCheck ROOM extents.now (more (tree_of item.now) none) number point.old.items }
+    requires { CanCheck MOST_ENTRIES extents.now (more (tree_of item.now) none) number point.old.items }
     ensures found { result ≡ first_of (failures extents.now (walk (tree_of item.now) number point.old.items)) }
     ensures point { point.new.items ≡ point.old.items }
 {
@@ -197,7 +197,8 @@ fn outside_loop(
     extents: &Extents,
     point: &mut Point,
 ) -> Option<Outside>
-    requires { CanCheck ROOM extents.now (more (loop head.now (items_of body.now)) none) number point.old.items }
+    requires { CanCheck MOST_ENTRIES extents.now (more (loop head.now (items_of body.now)) none) number
+        point.old.items }
     ensures found { result ≡ first_of (failures extents.now
         (walk (loop head.now (items_of body.now)) number point.old.items)) }
     ensures point { point.new.items ≡ point.old.items }
@@ -224,8 +225,8 @@ fn outside_turn(
     extents: &Extents,
     point: &mut Point,
 ) -> Option<Outside>
-    requires turn { CanTurn ROOM head.now first turn point.old.items }
-    requires body { CanCheck ROOM extents.now (items_of body.now) number
+    requires turn { CanTurn MOST_ENTRIES head.now first turn point.old.items }
+    requires body { CanCheck MOST_ENTRIES extents.now (items_of body.now) number
         (turn_point head.now point.old.items (pos turn)) }
     ensures found { result ≡ first_of (failures extents.now
         (walk_all (items_of body.now) number (turn_point head.now point.old.items (pos turn)))) }

@@ -12,7 +12,7 @@ ghost use Rattle.scop_syntax.specs.Values.{stored_by};
 ghost use Rattle.scop_syntax.specs.View.{instance_of, items_of, program_of, statement_of, tree_of};
 ghost use Rattle.scop_syntax.specs.Walk.{Visit, instance as numbers_of, walk_of};
 ghost use Rattle.scop_meaning.specs.Instances.{CanFind, IsVisitOf, act_at, act_at_all};
-ghost use Rattle.scop_meaning.specs.declared.loops.TheConstants.{ROOM};
+ghost use Rattle.scop_syntax.specs.declared.limits.TheConstants.{MOST_ENTRIES};
 
 use crate::accesses::number_of;
 use crate::expressions::stored_on;
@@ -29,7 +29,7 @@ use scop_syntax::walk_laws::{instances_are_those_of_statements, statements_are_n
 /// the stack.
 #[cycle(finding)]
 fn find_among<'a>(items: &'a [Item], number: usize, turns: &[i64], point: &mut Point) -> &'a Stmt
-    requires { CanFind ROOM (items_of items.now) number point.old.items turns.now }
+    requires { CanFind MOST_ENTRIES (items_of items.now) number point.old.items turns.now }
     ensures { act_at_all (items_of items.now) number point.old.items turns.now
         ≡ Some (record { body = statement_of result.now; point = point.new.items }) }
 {
@@ -45,7 +45,7 @@ fn find_among<'a>(items: &'a [Item], number: usize, turns: &[i64], point: &mut P
 /// The statement of `item` with this number.
 #[cycle(finding)]
 fn find_in<'a>(item: &'a Item, number: usize, turns: &[i64], point: &mut Point) -> &'a Stmt
-    requires { CanFind ROOM (more (tree_of item.now) none) number point.old.items turns.now }
+    requires { CanFind MOST_ENTRIES (more (tree_of item.now) none) number point.old.items turns.now }
     ensures { act_at (tree_of item.now) number point.old.items turns.now
         ≡ Some (record { body = statement_of result.now; point = point.new.items }) }
 {

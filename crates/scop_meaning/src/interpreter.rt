@@ -11,7 +11,7 @@ ghost use Rattle.scop_syntax.specs.View.{items_of, program_of, tree_of};
 ghost use Rattle.scop_syntax.specs.Walk.{turn_point};
 ghost use Rattle.scop_meaning.specs.Conditions.{CanRun, CanTurn, IsReady, ran};
 ghost use Rattle.scop_meaning.specs.LastWrites.{left_at_the_end};
-ghost use Rattle.scop_meaning.specs.declared.loops.TheConstants.{ROOM};
+ghost use Rattle.scop_syntax.specs.declared.limits.TheConstants.{MOST_ENTRIES};
 
 use crate::guards::all_hold;
 use crate::last_writes::executions_go_by_last_writers;
@@ -26,7 +26,7 @@ use scop_syntax::tree::{Item, Kernel, Loop};
 /// Runs `items` one after another at `point`.
 #[cycle(running)]
 fn run_items(items: &[Item], layout: &Layout, point: &mut Point, arrays: &mut Arrays)
-    requires { CanRun ROOM layout.now (items_of items.now) point.old.items arrays.old }
+    requires { CanRun MOST_ENTRIES layout.now (items_of items.now) point.old.items arrays.old }
     ensures point { point.new.items ≡ point.old.items }
     ensures arrays { arrays.new ≡ ran layout.now arrays.old (acts_all (items_of items.now) point.old.items) }
     ensures ready { IsReady layout.now arrays.new }
@@ -39,7 +39,7 @@ fn run_items(items: &[Item], layout: &Layout, point: &mut Point, arrays: &mut Ar
 /// Runs `item` at `point`.
 #[cycle(running)]
 fn run_item(item: &Item, layout: &Layout, point: &mut Point, arrays: &mut Arrays)
-    requires { CanRun ROOM layout.now (more (tree_of item.now) none) point.old.items arrays.old }
+    requires { CanRun MOST_ENTRIES layout.now (more (tree_of item.now) none) point.old.items arrays.old }
     ensures point { point.new.items ≡ point.old.items }
     ensures arrays { arrays.new ≡ ran layout.now arrays.old (acts (tree_of item.now) point.old.items) }
     ensures ready { IsReady layout.now arrays.new }
@@ -58,7 +58,8 @@ fn run_item(item: &Item, layout: &Layout, point: &mut Point, arrays: &mut Arrays
 /// Runs a loop: its body, turn after turn.
 #[cycle(running)]
 fn run_loop(head: &Loop, body: &[Item], layout: &Layout, point: &mut Point, arrays: &mut Arrays)
-    requires { CanRun ROOM layout.now (more (loop head.now (items_of body.now)) none) point.old.items arrays.old }
+    requires { CanRun MOST_ENTRIES layout.now (more (loop head.now (items_of body.now)) none) point.old.items
+        arrays.old }
     ensures point { point.new.items ≡ point.old.items }
     ensures arrays { arrays.new ≡ ran layout.now arrays.old (acts (loop head.now (items_of body.now)) point.old.items) }
     ensures ready { IsReady layout.now arrays.new }
@@ -81,8 +82,8 @@ fn run_turn(
     point: &mut Point,
     arrays: &mut Arrays,
 )
-    requires turn { CanTurn ROOM head.now first turn point.old.items }
-    requires body { CanRun ROOM layout.now (items_of body.now) (turn_point head.now point.old.items (pos turn))
+    requires turn { CanTurn MOST_ENTRIES head.now first turn point.old.items }
+    requires body { CanRun MOST_ENTRIES layout.now (items_of body.now) (turn_point head.now point.old.items (pos turn))
         arrays.old }
     ensures point { point.new.items ≡ point.old.items }
     ensures arrays { arrays.new ≡ ran layout.now arrays.old

@@ -9,22 +9,17 @@ ghost use Rattle.scop_syntax.specs.View.{program_of};
 use arrayvec::ArrayVec;
 use scop_syntax::affine_values::wrapped_at;
 use scop_syntax::limit_laws::cells_lie_within_22_bits;
+use scop_syntax::limits::{MOST_ARRAYS, MOST_EXTENTS};
 use scop_syntax::tree::{Aff, Kernel};
 use std::marker::Model;
 
-/// The dimensions that an array may have.
-const MAX_RANK: usize = 4;
-
-/// The arrays that a kernel may have.
-const MAX_ARRAYS: usize = 16;
-
 /// The extents of one array, outermost first.
-type Sizes = ArrayVec<u64, MAX_RANK>;
+type Sizes = ArrayVec<u64, MOST_EXTENTS>;
 
 /// The extents of each array in the order of declaration. Contracts see a list of lists of numbers.
 #[derive(Drop)]
 pub struct Layout {
-    arrays: ArrayVec<Sizes, MAX_ARRAYS>,
+    arrays: ArrayVec<Sizes, MOST_ARRAYS>,
 }
 
 impl Model for Layout {

@@ -6,21 +6,19 @@ ghost use Rattle.scop_syntax.specs.Fits.{TurnFits};
 ghost use Rattle.scop_syntax.specs.Kernel.{IsHead};
 ghost use Rattle.scop_syntax.specs.Walk.{RunsFor, condition_at, turn_point};
 ghost use Rattle.scop_meaning.specs.Conditions.{CanTurn};
-ghost use Rattle.scop_meaning.specs.declared.loops.TheConstants.{ROOM};
+ghost use Rattle.scop_syntax.specs.declared.limits.TheConstants.{MOST_ENTRIES};
 
 use arrayvec::ArrayVec;
 use scop_syntax::affine_values::{exact_at, value_at, with_product};
+use scop_syntax::limits::MOST_ENTRIES;
 use scop_syntax::tree::Loop;
 
-/// How many parameters and nested loops a kernel may have together.
-pub const ROOM: usize = 9;
-
 /// The parameters, then the iterators of the loops that the run stands in, outermost first.
-pub type Point = ArrayVec<i64, ROOM>;
+pub type Point = ArrayVec<i64, MOST_ENTRIES>;
 
 /// The parameters alone.
 pub fn point_at(params: &[i64]) -> Point
-    requires { length params.now ≤ ROOM }
+    requires { length params.now ≤ MOST_ENTRIES }
     ensures { result.items ≡ params.now }
 {
     let mut point: Point = ArrayVec::new();
@@ -32,7 +30,7 @@ pub fn point_at(params: &[i64]) -> Point
 
 /// Puts the iterator of turn `turn` on the stack, where the loop's first is `first`.
 pub fn enter_turn(head: &Loop, first: i64, turn: u64, point: &mut Point)
-    requires { CanTurn ROOM head.now first turn point.old.items }
+    requires { CanTurn MOST_ENTRIES head.now first turn point.old.items }
     ensures { point.new.items ≡ turn_point head.now point.old.items (pos turn) }
 {
     point.push(with_product(first, head.stride, turn as i64));
@@ -41,7 +39,7 @@ pub fn enter_turn(head: &Loop, first: i64, turn: u64, point: &mut Point)
 /// Puts the iterator of turn `turn` on the stack, modulo 2^64: it is exact where it fits, whatever the parts of its sum
 /// are.
 pub fn enter_at(head: &Loop, turn: i64, point: &mut Point)
-    requires { length point.old.items < ROOM }
+    requires { length point.old.items < MOST_ENTRIES }
     ensures wrapped { point.new.items ≡ point.old.items
         ++ int_wrap w64 (value_of head.now.first point.old.items +ℤ (head.now.stride *ℤ turn)) ∷ [] }
     ensures fitting { FitsSigned w64 (value_of head.now.first point.old.items +ℤ (head.now.stride *ℤ turn))
@@ -53,7 +51,7 @@ pub fn enter_at(head: &Loop, turn: i64, point: &mut Point)
 
 /// How many turns the loop has, whose first iterator is `first`: its condition falls by the stride.
 pub fn turns_of(head: &Loop, first: i64, point: &mut Point) -> u64
-    requires room { length point.old.items < ROOM }
+    requires room { length point.old.items < MOST_ENTRIES }
     requires first { first ≡ value_of head.now.first point.old.items }
     requires head { IsHead (length point.old.items) head.now }
     requires fits { TurnFits head.now point.old.items 0 }

@@ -11,10 +11,8 @@ use crate::layout::Layout;
 use arrayvec::ArrayVec;
 use scop_syntax::accesses::{access_at, read_count};
 use scop_syntax::arrays::Arrays;
+use scop_syntax::limits::MOST_READS;
 use scop_syntax::tree::{Access, Stmt};
-
-/// How many reads a statement may have.
-const MAX_READS: usize = 16;
 
 /// Where the cell of `access` at `point` lies in its array.
 fn offset_in(access: &Access, layout: &Layout, point: &[i64], arrays: &Arrays) -> usize
@@ -53,7 +51,7 @@ fn values_read(
     layout: &Layout,
     point: &[i64],
     arrays: &Arrays,
-) -> ArrayVec<u64, MAX_READS>
+) -> ArrayVec<u64, MOST_READS>
     requires cells { AreCells layout.now point.now (accesses (statement_of statement.now)) }
     requires few { length (reads_by (statement_of statement.now)) ≤ 16 }
     requires ready { IsReady layout.now arrays.now }

@@ -5,7 +5,7 @@ use Rattle.scop_syntax.proofs.Common.{unsigned_abs-mul, and_parts, sums, multipl
 use Rattle.scop_syntax.proofs.Common.{multiple_of_form, length-multiples, length-zeros, abs_sum, AreAtMost, IsForm}
 use Rattle.scop_syntax.proofs.Common.{IsAffine, at_most_more}
 use Rattle.std.proofs.Common.{length-set}
-use Rattle.scop_syntax.proofs.Limits.{at_most_zeros}
+use Rattle.scop_syntax.proofs.Sizes.{at_most_zeros}
 use Rattle.scop_roles.specs.Forms.{is_small, is_within}
 
 pub at_most-set : (k : ℕ) (xs : List ℤ) (i : ℕ) (x : ℤ) → AreAtMost k xs → unsigned_abs x ≤ k → AreAtMost k (set xs i x)

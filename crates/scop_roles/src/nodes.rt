@@ -14,11 +14,12 @@ use crate::formula::{Meaning, Role};
 use crate::judgement::{Faults, Judgement};
 use crate::pairs::both;
 use crate::roles::{
-    MOST_CONSTANT, called, cast_role, is_between, is_long_constant, is_narrow_array,
-    is_narrow_width, is_number, is_plain, keeps_type, named, operand_role, own_call, own_cast,
-    own_constant, own_index, own_name, own_unary, rank,
+    called, cast_role, is_between, is_long_constant, is_narrow_array, is_narrow_width, is_number,
+    is_plain, keeps_type, named, operand_role, own_call, own_cast, own_constant, own_index,
+    own_name, own_unary, rank,
 };
 use scop_expressions::token::{Sign, Suffix, Width};
+use scop_syntax::limits::MOST_CONSTANT;
 use scop_syntax::tree::Aff;
 use std::alloc::{AllocError, Global};
 

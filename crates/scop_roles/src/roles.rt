@@ -16,12 +16,7 @@ ghost use Rattle.scop_roles.specs.declared.formula.Meaning.{Meaning};
 use crate::fault::{Kind, only_where};
 use crate::formula::{Meaning, Role};
 use scop_expressions::token::{Base, Op, Sign, Suffix, Width};
-
-/// The largest constant of an affine form, in absolute value.
-pub const MOST_CONSTANT: u64 = 1 << 20;
-
-/// The largest coefficient, in absolute value.
-pub const MOST_COEFFICIENT: u64 = 16;
+use scop_syntax::limits::MOST_CONSTANT;
 
 // + - *
 pub(crate) fn is_sum_or_product(op: Op) -> bool

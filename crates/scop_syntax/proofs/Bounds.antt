@@ -18,7 +18,7 @@ use Rattle.scop_syntax.specs.Limits.{HasParameters, WithinLimits}
 use Rattle.scop_syntax.specs.Statements.{Scope, round, under, Placed, Runs, loops_in, point_of, statements_of}
 use Rattle.scop_syntax.specs.Walk.{turn_point}
 use Rattle.scop_syntax.proofs.Members.{in_append}
-use Rattle.scop_syntax.proofs.Limits.{size, grown_more, five, point_within, value_within, turns_within, params_size}
+use Rattle.scop_syntax.proofs.Sizes.{size, grown_more, five, point_within, value_within, turns_within, params_size}
 use Rattle.scop_syntax.proofs.Fits.{fits_all}
 use Rattle.scop_syntax.proofs.Statements.{found_at}
 use Rattle.scop_syntax.proofs.Kernels.{kernel_placed}

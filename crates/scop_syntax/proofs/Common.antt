@@ -2,13 +2,13 @@
 pub use Rattle.scop_syntax.proofs.FallingLoop.{falling}
 pub use Rattle.scop_syntax.proofs.Falls.{condition_falls, dot_last}
 pub use Rattle.scop_syntax.proofs.Heads.{as_many_heads}
-pub use Rattle.scop_syntax.proofs.Limits.{at_most_at, at_most_more, size, value_size}
 pub use Rattle.scop_syntax.proofs.Loops.{loop_turns}
 pub use Rattle.scop_syntax.proofs.Members.{all_in, both, holds_le_z, in_append, in_at, in_back, in_from_place, in_front}
 pub use Rattle.scop_syntax.proofs.Members.{in_if, in_if_from, in_map, in_map_from, le_z_holds, member_at, nat_cases}
 pub use Rattle.scop_syntax.proofs.Members.{place_of, sorted_append, sorted_map, sorted_places, there_is}
 pub use Rattle.scop_syntax.proofs.Memory.{offset_below}
 pub use Rattle.scop_syntax.proofs.NarrowValues.{applied_kept}
+pub use Rattle.scop_syntax.proofs.Sizes.{at_most_at, at_most_more, size, value_size}
 pub use Rattle.scop_syntax.proofs.SortedLists.{StandOnce, walked_distinct}
 pub use Rattle.scop_syntax.proofs.Statements.{length-placed, one_instance}
 pub use Rattle.scop_syntax.proofs.Views.{expression_binary}

@@ -11,8 +11,8 @@ use Rattle.scop_syntax.specs.Kernel.{test_form, IsForm, IsAffine, IsComparison, 
 use Rattle.scop_syntax.specs.Kernel.{IsStatement, IsTree, AreTrees}
 use Rattle.scop_syntax.specs.Fits.{IsReached, TurnFits, TestsFit, ExpressionFits, RightFits, StatementFits, Fits}
 use Rattle.scop_syntax.specs.Fits.{FitsAll}
-use Rattle.scop_syntax.proofs.Limits.{size, grown, value_size, size-append, iterator_size, reached_size, grown_more}
-use Rattle.scop_syntax.proofs.Limits.{grown_up}
+use Rattle.scop_syntax.proofs.Sizes.{size, grown, value_size, size-append, iterator_size, reached_size, grown_more}
+use Rattle.scop_syntax.proofs.Sizes.{grown_up}
 
 value_fits : (n k m : ℕ) (f : Affine) (point : List ℤ) → IsForm n k m f → k ≤ 32 → m ≤ 2 ^ 22 → size point ≤ 2 ^ 50
     → FitsSigned w64 (value_of f point)

@@ -11,7 +11,7 @@ pub mod Memory
 pub mod Writers
 pub mod Acts
 pub mod Failures
-pub mod Limits
+pub mod Sizes
 pub mod Fits
 pub mod Kernels
 pub mod Numbers

@@ -1,8 +1,7 @@
 //! A statement instance as code holds it: the statement's number and the turn of each loop round it.
 ghost use Rattle.std.specs.Prelude.{◌≡◌, ◌≤◌, length};
 
-/// Loops that may stand round a statement.
-pub const MAX_LOOPS: usize = 5;
+use crate::limits::MOST_LOOPS;
 
 /// The statement's number in textual order from 0, how many loops stand round it, and the turn of
 /// each from 0, outermost first; the entries behind are zero.
@@ -10,7 +9,7 @@ pub const MAX_LOOPS: usize = 5;
 pub struct Instance {
     pub statement: usize,
     pub loops: usize,
-    pub turns: [i64; MAX_LOOPS],
+    pub turns: [i64; MOST_LOOPS],
     ghost few: { loops ≤ 5 },
 }
 
@@ -22,7 +21,7 @@ impl Instance {
         requires { length turns.now ≤ 5 }
         ensures { instance_of result ≡ record { number = statement; turns = turns.now } }
     {
-        let mut kept = [0; MAX_LOOPS];
+        let mut kept = [0; MOST_LOOPS];
         kept[..turns.len()].copy_from_slice(turns);
         Instance {
             statement,

@@ -13,6 +13,7 @@ pub mod execution_laws;
 pub mod failure_laws;
 pub mod instance;
 pub mod limit_laws;
+pub mod limits;
 pub mod marking;
 pub mod marks;
 pub mod order_laws;

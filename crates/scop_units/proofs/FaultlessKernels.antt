@@ -7,7 +7,7 @@ use Rattle.scop_syntax.proofs.Common.{ranks_of, narrow_arrays, IsKernel, In, Sor
 use Rattle.scop_expressions.specs.Tree.{Tree, size}
 use Rattle.scop_grammar.specs.Kernel.{Parameter, number, array, Kernel, parameter_elements}
 use Rattle.scop_syntax.specs.Tree as scop
-use Rattle.scop_syntax.proofs.Limits.{at_most_zeros}
+use Rattle.scop_syntax.proofs.Sizes.{at_most_zeros}
 use Rattle.scop_roles.specs.declared.fault.Kind.TheVariants as kind
 use Rattle.scop_roles.specs.declared.formula.Role.TheVariants as role
 use Rattle.scop_roles.specs.Formula.{Formula}

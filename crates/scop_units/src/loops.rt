@@ -18,11 +18,9 @@ use scop_roles::fault::{Fault, Kind, first_of};
 use scop_roles::formula::{Argument, Formula, Meaning, Role};
 use scop_roles::judgement::{fault, form};
 use scop_roles::values::push_tests;
+use scop_syntax::limits::{MOST_LOOPS, MOST_STRIDE};
 use scop_syntax::tree::{Aff, Loop, Test};
 use std::alloc::{AllocError, Global};
-
-/// The most loops round a statement.
-const MOST_LOOPS: usize = 5;
 
 /// `++` or `--`, or an assignment with its right side.
 #[derive(Drop)]
@@ -163,7 +161,7 @@ fn stride_of(up: bool, formula: &Formula) -> Option<i64>
 {
     match formula {
         Formula::Constant(Suffix::Absent(_), value, _) => {
-            if 1 <= *value && *value <= 16 {
+            if 1 <= *value && *value <= MOST_STRIDE {
                 Some(by_count(up, *value))
             } else {
                 None

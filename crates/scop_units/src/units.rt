@@ -24,20 +24,11 @@ use scop_roles::roles::{is_narrow_array, is_narrow_width, last_count};
 use scop_roles::values::{
     access, expression, is_count, is_long, is_signed, narrowed_where, push_read_places,
 };
+use scop_syntax::limits::{
+    MOST_ARRAYS, MOST_COMPARISONS, MOST_EXTENTS, MOST_PARAMETERS, MOST_READS, MOST_STATEMENTS,
+};
 use scop_syntax::tree::{Array, Narrowing, Operator, Right, Stmt};
 use std::alloc::{AllocError, Global};
-
-const MOST_PARAMETERS: usize = 4;
-
-const MOST_ARRAYS: usize = 16;
-
-const MOST_EXTENTS: usize = 4;
-
-const MOST_COMPARISONS: usize = 16;
-
-const MOST_STATEMENTS: usize = 32;
-
-const MOST_READS: usize = 16;
 
 pub(crate) fn told(place: usize, kind: Option<Kind>) -> Option<Fault>
     ensures { result ≡ first (told place kind) }

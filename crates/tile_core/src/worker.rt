@@ -21,14 +21,12 @@ use crate::plan_laws::plans_are_good;
 use arrayvec::ArrayVec;
 use loop_tree::{Spot, Stretch};
 use scop_syntax::instance::Instance;
+use scop_syntax::limits::MOST_READS;
 use std::alloc::{AllocError, Global};
 use tile_list::laws::tiles_stand_one_behind_another;
 use tile_list::rounds_left;
 use tile_table::desk::Desk;
 use tile_table::table::Table;
-
-/// Reads that a statement may have.
-pub const MAX_READS: usize = 16;
 
 /// It holds no tile; or it saw the claims run out; or it holds a tile that is not opened; or it works in an opened
 /// tile, of which so many instances are done.
@@ -41,7 +39,7 @@ pub enum Stage {
 }
 
 /// The values read so far for an instance, in the order of its reads.
-pub type Reads = ArrayVec<u64, MAX_READS>;
+pub type Reads = ArrayVec<u64, MOST_READS>;
 
 /// At work in a tile with an instance left, `next` is that instance and `spot` the place behind it. The desk has room for
 /// the instances of each statement; so has each of `desks`, one for each strand of a braid.

@@ -15,7 +15,7 @@ ghost use Rattle.tile_edges.specs.Edges.{AreEdgesOf, AreTooMany};
 ghost use Rattle.tile_edges.specs.declared.waiting.EdgesStop.TheVariants.{TooMany as too_many};
 
 use crate::rows::rows_of;
-use crate::walking::{MOST, pairs_of};
+use crate::walking::{MOST_EDGES, pairs_of};
 use loop_tree::{Tiling, Tree};
 use scop_syntax::execution_laws::cells_have_numbers_of_their_own;
 use scop_syntax::tree::Kernel;
@@ -104,7 +104,7 @@ pub fn edges(
     match edges_or_more(alloc, kernel, params, table, tree, tiling, list, flow) {
         Err(_) => Err(EdgesStop::NoMemory),
         Ok(edges) => {
-            if edges.targets.len() > MOST {
+            if edges.targets.len() > MOST_EDGES {
                 return Err(EdgesStop::TooMany);
             }
             Ok(edges)

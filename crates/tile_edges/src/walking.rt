@@ -32,8 +32,8 @@ use tile_list::TileList;
 use tile_table::desk::Desk;
 use tile_table::table::{Row, Table};
 
-/// As many pairs as there may be.
-pub const MOST: usize = 4194304;
+/// Pairs of tiles that are kept.
+pub const MOST_EDGES: usize = 4194304;
 
 /// Where the search for tiles stands, what is kept of cells, the pairs so far, a desk for what lies ahead, and room for a
 /// place's cells.
@@ -302,7 +302,7 @@ fn pass_rest(
         pass_ahead(
             alloc, kernel, source, params, table, tiling, list, flow, &instance, spot, pass,
         )?;
-        if pass.pairs.count > MOST {
+        if pass.pairs.count > MOST_EDGES {
             return Ok(());
         }
     }

@@ -18,7 +18,8 @@ ghost use Rattle.tile_list.specs.steps.Stretching.{AllHaveKey, AllRowsFit};
 
 use loop_tree::{Stretch, TileItems, TileRow, Tiling};
 use scop_syntax::affine_values::{exact_at, with_product};
-use scop_syntax::instance::{Instance, MAX_LOOPS};
+use scop_syntax::instance::Instance;
+use scop_syntax::limits::MOST_LOOPS;
 use std::alloc::{AllocError, Global};
 
 /// An instance's wave and its tile: the leading scalars of its statement, the sum of the coordinates of the rows that
@@ -167,7 +168,7 @@ pub fn band_at(statements: &[TileItems], statement: usize) -> &[TileRow]
 
 /// What a turn is so many steps on, where there is room for it; another number elsewhere.
 #[inline]
-fn turn_after(turns: &[i64; MAX_LOOPS], steps: &[i64; MAX_LOOPS], count: u64, place: usize) -> i64
+fn turn_after(turns: &[i64; MOST_LOOPS], steps: &[i64; MOST_LOOPS], count: u64, place: usize) -> i64
     requires { place < 5 }
     ensures { FitsSigned w64 (get_or turns.now place (pos 0) +ℤ get_or (multiples (pos count) steps.now) place (pos 0))
         → result ≡ get_or turns.now place (pos 0) +ℤ get_or (multiples (pos count) steps.now) place (pos 0) }
@@ -177,7 +178,7 @@ fn turn_after(turns: &[i64; MAX_LOOPS], steps: &[i64; MAX_LOOPS], count: u64, pl
 
 /// The instance so many steps behind another one.
 #[inline]
-pub fn after(before: &Instance, steps: &[i64; MAX_LOOPS], count: u64) -> Instance
+pub fn after(before: &Instance, steps: &[i64; MOST_LOOPS], count: u64) -> Instance
     requires { All (FitsSigned w64) (steps_on before.now.statement (instance_of before.now).turns
         (take before.now.loops steps.now) count).turns }
     ensures instance { instance_of result ≡ steps_on before.now.statement (instance_of before.now).turns

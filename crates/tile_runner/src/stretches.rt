@@ -17,7 +17,7 @@ ghost use Rattle.tile_runner.specs.Laid.{AreOnDesk};
 use crate::joins::{do_joins, lay_join};
 use array_words::{add_at, load_at, store_at};
 use atomic_table::Seat;
-use scop_syntax::instance::MAX_LOOPS;
+use scop_syntax::limits::MOST_LOOPS;
 use tile_core::plan::Plan;
 use tile_core::plan_laws::{rows_tell_instances, walks_are_dealt};
 use tile_core::view::View;
@@ -27,7 +27,7 @@ use tile_table::desk::Desk;
 use tile_table::table::Row;
 
 /// The first steps.
-pub(crate) fn first_steps(steps: &[i64; MAX_LOOPS], loops: usize) -> &[i64]
+pub(crate) fn first_steps(steps: &[i64; MOST_LOOPS], loops: usize) -> &[i64]
     requires { loops ≤ 5 }
     ensures { result.now ≡ take loops steps.now }
 {

@@ -6,7 +6,7 @@ use Rattle.scop_syntax.proofs.Common.{multiple_of_form, plus_combination, compos
 use Rattle.scop_syntax.proofs.Common.{abs_sum, Head, IsForm, size}
 use Rattle.fractions.specs.Fractions.{value_over}
 use Rattle.fractions.proofs.PointValues.{value_over-sum, value_over-multiple}
-use Rattle.scop_syntax.proofs.Limits.{dot_size}
+use Rattle.scop_syntax.proofs.Sizes.{dot_size}
 use Rattle.iteration_domains.specs.Rows.{variable, variables, iterator, within_loop}
 use Rattle.iteration_domains.proofs.RowLaws.{GoesOn}
 

@@ -8,8 +8,8 @@ use Rattle.scop_syntax.proofs.Common.{IsKernel, AreScopes, Scope, round, under, 
 use Rattle.fractions.specs.Fractions.{value_over, HoldsOver}
 use Rattle.fm_projection.specs.Alone.{AreInRangeOver}
 use Rattle.scop_syntax.proofs.Kernels.{kernel_placed}
-use Rattle.scop_syntax.proofs.Limits.{grown, size-append, grown_up}
-use Rattle.scop_syntax.proofs.Limits.{five}
+use Rattle.scop_syntax.proofs.Sizes.{grown, size-append, grown_up}
+use Rattle.scop_syntax.proofs.Sizes.{five}
 use Rattle.iteration_domains.specs.Rows.{variable, composed_test, iterator, within_loop, rows_from, rows_of}
 use Rattle.iteration_domains.specs.Rows.{variables_of_statement, parameter_forms}
 use Rattle.iteration_domains.specs.Constraints.{rows_in}

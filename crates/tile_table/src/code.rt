@@ -2,12 +2,12 @@
 //! the statement, and steps that each make one value more (A. V. Aho, M. S. Lam, R. Sethi and J. D. Ullman,
 //! "Compilers", 2007, 6.2). Promises that the result is what the right side stores, or adds to its place, at all turns.
 ghost use Rattle.std.specs.Prelude.{◌≡◌, ◌+◌, ◌≤◌, ◌∷◌, ℕ, suc, ℤ, [], IfOk, List, drop, length, map, take};
-ghost use Rattle.scop_meaning.specs.declared.loops.TheConstants.{ROOM};
+ghost use Rattle.scop_syntax.specs.declared.limits.TheConstants.{MOST_ENTRIES};
 ghost use Rattle.scop_syntax.specs.Cells.{reads, reads_of, reads_with};
 ghost use Rattle.scop_syntax.specs.Tree.{Access, affine, combined as exact_combined};
 ghost use Rattle.scop_syntax.specs.Reductions.{addend};
 ghost use Rattle.scop_syntax.specs.View.{expression_of, operator_of, right_of, statement_of};
-ghost use Rattle.scop_syntax.specs.declared.instance.TheConstants.{MAX_LOOPS};
+ghost use Rattle.scop_syntax.specs.declared.limits.TheConstants.{MOST_LOOPS};
 ghost use Rattle.tile_table.specs.Codes.{Gives, IsStep, IsWellMade, changed as exact_changed, loaded};
 ghost use Rattle.tile_table.specs.Codes.{made as exact_made, result_by};
 ghost use Rattle.tile_table.specs.declared.code.Step.TheVariants.{Affine as exact_affine};
@@ -20,7 +20,7 @@ use crate::loads::load_count;
 use scop_meaning::operators::{
     combined, complemented, narrowed, negated, shifted_left, shifted_right,
 };
-use scop_syntax::instance::MAX_LOOPS;
+use scop_syntax::limits::MOST_LOOPS;
 use scop_syntax::tree::{Aff, Expr, Loop, Operator, Right, Stmt};
 use std::alloc::{AllocError, Global};
 
@@ -133,8 +133,8 @@ fn put_form(
     params: &[i64],
     code: &mut Code,
 ) -> Result<usize, AllocError>
-    requires loops { length heads.now ≤ MAX_LOOPS }
-    requires room { length params.now + length heads.now ≤ ROOM }
+    requires loops { length heads.now ≤ MOST_LOOPS }
+    requires room { length params.now + length heads.now ≤ MOST_ENTRIES }
     requires begun { IsBegun code.old }
     ensures { (at : ℕ) → IfOk result
         (MakesValue params.now (map (λ h. h.now) heads.now) (affine form.now) at code.old code.new) }
@@ -154,8 +154,8 @@ fn put_changed(
     at: &mut usize,
     code: &mut Code,
 ) -> Result<usize, AllocError>
-    requires loops { length heads.now ≤ MAX_LOOPS }
-    requires room { length params.now + length heads.now ≤ ROOM }
+    requires loops { length heads.now ≤ MOST_LOOPS }
+    requires room { length params.now + length heads.now ≤ MOST_ENTRIES }
     requires begun { IsBegun code.old }
     requires reads { at.old + length (reads_of (expression_of operand.now)) ≤ code.old.reads }
     ensures at { IfOk result (λ slot. at.new ≡ at.old + length (reads_of (expression_of operand.now))) }
@@ -176,8 +176,8 @@ fn put_value(
     at: &mut usize,
     code: &mut Code,
 ) -> Result<usize, AllocError>
-    requires loops { length heads.now ≤ MAX_LOOPS }
-    requires room { length params.now + length heads.now ≤ ROOM }
+    requires loops { length heads.now ≤ MOST_LOOPS }
+    requires room { length params.now + length heads.now ≤ MOST_ENTRIES }
     requires begun { IsBegun code.old }
     requires reads { at.old + length (reads_of (expression_of expression.now)) ≤ code.old.reads }
     ensures at { IfOk result (λ slot. at.new ≡ at.old + length (reads_of (expression_of expression.now))) }
@@ -235,8 +235,8 @@ fn put_combined(
     params: &[i64],
     code: &mut Code,
 ) -> Result<usize, AllocError>
-    requires loops { length heads.now ≤ MAX_LOOPS }
-    requires room { length params.now + length heads.now ≤ ROOM }
+    requires loops { length heads.now ≤ MOST_LOOPS }
+    requires room { length params.now + length heads.now ≤ MOST_ENTRIES }
     requires begun { IsBegun code.old }
     requires reads { code.old.reads ≡ suc (length (reads_of (expression_of value.now))) }
     ensures { IfOk result (MakesStored params.now (map (λ h. h.now) heads.now)
@@ -254,8 +254,8 @@ fn put_right(
     params: &[i64],
     code: &mut Code,
 ) -> Result<usize, AllocError>
-    requires loops { length heads.now ≤ MAX_LOOPS }
-    requires room { length params.now + length heads.now ≤ ROOM }
+    requires loops { length heads.now ≤ MOST_LOOPS }
+    requires room { length params.now + length heads.now ≤ MOST_ENTRIES }
     requires begun { IsBegun code.old }
     requires reads { (place : Access) → code.old.reads ≡ length (reads_with place (right_of right.now)) }
     ensures { IfOk result
@@ -303,8 +303,8 @@ fn put_added(
     params: &[i64],
     code: &mut Code,
 ) -> Result<usize, AllocError>
-    requires loops { length heads.now ≤ MAX_LOOPS }
-    requires room { length params.now + length heads.now ≤ ROOM }
+    requires loops { length heads.now ≤ MOST_LOOPS }
+    requires room { length params.now + length heads.now ≤ MOST_ENTRIES }
     requires begun { IsBegun code.old }
     requires reads { (place : Access) → code.old.reads ≡ length (drop 1 (reads_with place (right_of right.now))) }
     ensures { IfOk result
@@ -332,8 +332,8 @@ fn put_given(
     params: &[i64],
     code: &mut Code,
 ) -> Result<usize, AllocError>
-    requires loops { length heads.now ≤ MAX_LOOPS }
-    requires room { length params.now + length heads.now ≤ ROOM }
+    requires loops { length heads.now ≤ MOST_LOOPS }
+    requires room { length params.now + length heads.now ≤ MOST_ENTRIES }
     requires begun { IsBegun code.old }
     requires reads { (place : Access) → code.old.reads
         ≡ length (loaded adds (record { place = place; right = right_of right.now })) }
@@ -359,8 +359,8 @@ pub(crate) fn compiled(
     params: &[i64],
 ) -> Result<Code, AllocError>
     requires reads { length (reads (statement_of statement.now)) ≤ 16 }
-    requires loops { length heads.now ≤ MAX_LOOPS }
-    requires room { length params.now + length heads.now ≤ ROOM }
+    requires loops { length heads.now ≤ MOST_LOOPS }
+    requires room { length params.now + length heads.now ≤ MOST_ENTRIES }
     ensures { IfOk result (Gives adds params.now (map (λ h. h.now) heads.now) (right_of statement.now.right)) }
 {
     let mut code = Code {

@@ -5,8 +5,8 @@ ghost use Rattle.std.specs.Prelude.{◌≡◌, ◌+◌, ◌<◌, ◌≤◌, ◌^
 ghost use Rattle.std.specs.Int.{int_wrap, w64};
 ghost use Rattle.whole_numbers.specs.Lists.{zeros};
 ghost use Rattle.scop_meaning.specs.Instances.{AreLayout};
-ghost use Rattle.scop_meaning.specs.declared.loops.TheConstants.{ROOM};
-ghost use Rattle.scop_syntax.specs.declared.instance.TheConstants.{MAX_LOOPS};
+ghost use Rattle.scop_syntax.specs.declared.limits.TheConstants.{MOST_ENTRIES};
+ghost use Rattle.scop_syntax.specs.declared.limits.TheConstants.{MOST_LOOPS};
 ghost use Rattle.tile_table.specs.Numbers.{number_behind as exact_number};
 ghost use Rattle.tile_table.specs.Points.{point_in as exact_point};
 ghost use Rattle.tile_table.specs.Tables.{Tells};
@@ -16,7 +16,7 @@ use crate::numbers::number_behind;
 use crate::points::point_in;
 use scop_meaning::accesses::cells_before;
 use scop_syntax::arrays::Extents;
-use scop_syntax::instance::MAX_LOOPS;
+use scop_syntax::limits::MOST_LOOPS;
 use scop_syntax::tree::{Access, Aff, Loop};
 use std::alloc::{AllocError, Global};
 use std::slice;
@@ -33,7 +33,7 @@ fn number_in(
     requires few { before ≤ 2 ^ 22 }
     requires extents { All (λ e. (1 ≤ e) × (e ≤ 2 ^ 22)) extents.now }
     requires turns { length heads.now ≤ length turns.now }
-    requires room { length params.now + length heads.now ≤ ROOM }
+    requires room { length params.now + length heads.now ≤ MOST_ENTRIES }
     ensures { result ≡ int_wrap w64 (exact_number before extents.now subscripts.now
         (exact_point (map (λ h. h.now) heads.now) params.now turns.now)) }
 {
@@ -53,15 +53,15 @@ fn stride_of(
 ) -> i64
     requires few { before ≤ 2 ^ 22 }
     requires extents { All (λ e. (1 ≤ e) × (e ≤ 2 ^ 22)) extents.now }
-    requires loops { length heads.now ≤ MAX_LOOPS }
-    requires room { length params.now + length heads.now ≤ ROOM }
+    requires loops { length heads.now ≤ MOST_LOOPS }
+    requires room { length params.now + length heads.now ≤ MOST_ENTRIES }
     requires base { base ≡ int_wrap w64 (exact_number before extents.now subscripts.now
-        (exact_point (map (λ h. h.now) heads.now) params.now (zeros MAX_LOOPS))) }
-    requires at { at < MAX_LOOPS }
-    ensures { result ≡ int_wrap w64 (get_or (number_form MAX_LOOPS before extents.now subscripts.now
+        (exact_point (map (λ h. h.now) heads.now) params.now (zeros MOST_LOOPS))) }
+    requires at { at < MOST_LOOPS }
+    ensures { result ≡ int_wrap w64 (get_or (number_form MOST_LOOPS before extents.now subscripts.now
         (map (λ h. h.now) heads.now) params.now).coefficients at (pos 0)) }
 {
-    let mut turns = [0; MAX_LOOPS];
+    let mut turns = [0; MOST_LOOPS];
     turns[at] = 1;
     number_in(before, extents, subscripts, heads, params, &turns).wrapping_sub(base)
 }
@@ -77,13 +77,13 @@ fn form_behind(
 ) -> Result<Aff, AllocError>
     requires few { before ≤ 2 ^ 22 }
     requires extents { All (λ e. (1 ≤ e) × (e ≤ 2 ^ 22)) extents.now }
-    requires loops { length heads.now ≤ MAX_LOOPS }
-    requires room { length params.now + length heads.now ≤ ROOM }
+    requires loops { length heads.now ≤ MOST_LOOPS }
+    requires room { length params.now + length heads.now ≤ MOST_ENTRIES }
     ensures { IfOk result (TellsNumber before extents.now subscripts.now (map (λ h. h.now) heads.now) params.now) }
 {
-    let constant = number_in(before, extents, subscripts, heads, params, &[0; MAX_LOOPS]);
-    let mut coefficients = Vec::with_capacity(alloc, MAX_LOOPS)?;
-    for at in 0..MAX_LOOPS {
+    let constant = number_in(before, extents, subscripts, heads, params, &[0; MOST_LOOPS]);
+    let mut coefficients = Vec::with_capacity(alloc, MOST_LOOPS)?;
+    for at in 0..MOST_LOOPS {
         coefficients.push(stride_of(before, extents, subscripts, heads, params, constant, at))?;
     }
     Ok(Aff {
@@ -105,8 +105,8 @@ pub(crate) fn form_of(
 ) -> Result<Aff, AllocError>
     requires layout { AreLayout extents.now }
     requires array { access.now.array < length extents.now }
-    requires loops { length heads.now ≤ MAX_LOOPS }
-    requires room { length params.now + length heads.now ≤ ROOM }
+    requires loops { length heads.now ≤ MOST_LOOPS }
+    requires room { length params.now + length heads.now ≤ MOST_ENTRIES }
     ensures { IfOk result (Tells extents.now params.now (map (λ h. h.now) heads.now) access.now) }
 {
     let before = cells_before(extents, access.array);
@@ -125,8 +125,8 @@ pub(crate) fn form_over(
     heads: &[&Loop],
     params: &[i64],
 ) -> Result<Aff, AllocError>
-    requires loops { length heads.now ≤ MAX_LOOPS }
-    requires room { length params.now + length heads.now ≤ ROOM }
+    requires loops { length heads.now ≤ MOST_LOOPS }
+    requires room { length params.now + length heads.now ≤ MOST_ENTRIES }
     ensures { IfOk result (IsFormOver params.now (map (λ h. h.now) heads.now) form.now) }
 {
     form_behind(alloc, 0, &[1], slice::from_ref(form), heads, params)

@@ -13,12 +13,9 @@ use crate::making::{add_pairs, add_singles};
 use crate::rows::{Row, Sign, coefficient, signed};
 use crate::traced::Traced;
 use affine_forms::{Form, push_copy};
-use fm_projection::{FmStop, without};
+use fm_projection::{FmStop, MOST_PAIRS, without};
 use integer_sets::System;
 use std::alloc::{AllocError, Global};
-
-/// The most pairs of rows of an elimination.
-const MOST_PAIRS: u128 = 4096;
 
 /// A copy of the first equality with a variable.
 fn first_equality(equalities: &[Form], variable: usize) -> Result<Option<Form>, AllocError>

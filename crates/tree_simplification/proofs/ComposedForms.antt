@@ -4,7 +4,7 @@ use Rattle.scop_syntax.proofs.Common.{length, map, ap, ap₂, subst, sym, ◌∙
 use Rattle.scop_syntax.proofs.Common.{All, ◌*ℤ◌, unsigned_abs, if◌then◌else◌, map-append, All-nil, All-cons, All-head}
 use Rattle.scop_syntax.proofs.Common.{All-tail, All-append, Affine, value_of, values_of, composed, floor, ceiling, le_z}
 use Rattle.scop_syntax.proofs.Common.{value_of-composed, AreAtMost, size}
-use Rattle.scop_syntax.proofs.Limits.{size-joined}
+use Rattle.scop_syntax.proofs.Sizes.{size-joined}
 use Rattle.iteration_domains.specs.Rows.{variables}
 use Rattle.iteration_domains.proofs.Surroundings.{length-composed, sized-variables}
 use Rattle.iteration_domains.proofs.RowLaws.{GoesOn, values-variables, goes_on_last}

@@ -5,7 +5,7 @@ use Rattle.tree_simplification.proofs.Common.{Instance, variables_of, AreInRange
 use Rattle.tree_simplification.proofs.Common.{Conflict, TreesAreOver, TreesAreUpTo, Bound, Bounds, Trees, only, besides}
 use Rattle.tree_simplification.proofs.Common.{shown, Context, Meets, OnSide, TrimsSide, outside, parts, IsInlined}
 use Rattle.tree_simplification.proofs.Common.{Among, TrimsAll, TrimsBounds}
-use Rattle.scop_syntax.proofs.Limits.{size_params}
+use Rattle.scop_syntax.proofs.Sizes.{size_params}
 use Rattle.loop_tree.proofs.Fits.{small_fits_all}
 use Rattle.loop_tree.proofs.LargerBounds.{trees_more}
 use Rattle.tree_simplification.specs.Simplified.{Simplifies}

@@ -23,5 +23,5 @@ returns-clause-limits c =
     record {
       arrays = subst AreLayouts (sym same)
           (are_layouts params program.arrays c.requires.params all c.requires.kernel.few_arrays);
-      cells = omega (arith, c.total_cells-total.ensures, c.if-total-gt-MOST_CELLS.false);
+      cells = omega (arith, c.total_cells-total.ensures, c.if-total-gt-MOST.false);
     }

@@ -12,8 +12,8 @@ loop-count-preserved c =
       few = omega (arith, few);
     }
 
-pub returns-then-count-eq-MOST-clause-many : goal.returns-then-count-eq-MOST-clause-many
-returns-then-count-eq-MOST-clause-many c e =
+pub returns-then-count-eq-MOST_CELLS-clause-many : goal.returns-then-count-eq-MOST_CELLS-clause-many
+returns-then-count-eq-MOST_CELLS-clause-many c e =
     let rest = ap length c.in-Some.ensures.rest in
     let counted = c.loop-count.invariant.counted in
     omega (arith, rest, counted)

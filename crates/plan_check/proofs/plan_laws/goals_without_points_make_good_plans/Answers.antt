@@ -1,5 +1,5 @@
 use Rattle.scop_syntax.proofs.Common.{[], ◌+◌, ◌<◌, ◌∙◌, ap₂, refl, sym, subst, length, instance}
-use Rattle.scop_syntax.proofs.Limits.{params_not_negative}
+use Rattle.scop_syntax.proofs.Sizes.{params_not_negative}
 use Rattle.iteration_domains.specs.Model.{model_of}
 use Rattle.iteration_domains.proofs.TreeStatements.{one_model}
 use Rattle.conflict_deps.specs.Conflicts.{conflicts_of}

@@ -1,5 +1,5 @@
 use Rattle.scop_syntax.proofs.Common.{◌+◌, items_of, tree_of, weight, weight_all}
-use Rattle.scop_meaning.specs.declared.loops.TheConstants.{ROOM}
+use Rattle.scop_syntax.specs.declared.limits.TheConstants.{MOST_ENTRIES}
 use Rattle.scop_meaning.proofs.Checks.{ItemsChecked, TurnsChecked}
 use Rattle.scop_meaning.proofs.index.+checking.Given as goal
 
@@ -17,7 +17,7 @@ decreases-outside_turn l = weight_all (items_of l.body.now) + 2
 
 abbrev pub invariant-outside_items-loop-item : goal.invariant-outside_items-loop-item
 invariant-outside_items-loop-item l =
-    ItemsChecked ROOM l.extents l.items l.item-index l.initial.number l.number l.fn.point.items l.point.items
+    ItemsChecked MOST_ENTRIES l.extents l.items l.item-index l.initial.number l.number l.fn.point.items l.point.items
 
 abbrev pub invariant-outside_loop-loop-turn : goal.invariant-outside_loop-loop-turn
 invariant-outside_loop-loop-turn l =

@@ -1,5 +1,5 @@
 use Rattle.scop_syntax.proofs.Common.{◌+◌, items_of, tree_of, weight, weight_all}
-use Rattle.scop_meaning.specs.declared.loops.TheConstants.{ROOM}
+use Rattle.scop_syntax.specs.declared.limits.TheConstants.{MOST_ENTRIES}
 use Rattle.scop_meaning.proofs.Runs.{ItemsSoFar, TurnsSoFar}
 use Rattle.scop_meaning.proofs.interpreter.+running.Given as goal
 
@@ -17,7 +17,7 @@ decreases-run_turn l = weight_all (items_of l.body.now) + 2
 
 abbrev pub invariant-run_items-loop-item : goal.invariant-run_items-loop-item
 invariant-run_items-loop-item l =
-    ItemsSoFar ROOM l.layout l.items l.item-index l.fn.point.items l.point.items l.fn.arrays l.arrays
+    ItemsSoFar MOST_ENTRIES l.layout l.items l.item-index l.fn.point.items l.point.items l.fn.arrays l.arrays
 
 abbrev pub invariant-run_loop-loop-turn : goal.invariant-run_loop-loop-turn
 invariant-run_loop-loop-turn l =

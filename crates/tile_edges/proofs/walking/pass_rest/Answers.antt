@@ -79,8 +79,8 @@ pass_ahead-requires-clause-passing c =
           c.in-Some.ensures.rest c.loop-instance.invariant.way c.in_ok-pass.ensures.taken;
     }
 
-pub returns-then-pass-gt-MOST : goal.returns-then-pass-gt-MOST
-returns-then-pass-gt-MOST c =
+pub returns-then-pass-gt-MOST_EDGES : goal.returns-then-pass-gt-MOST_EDGES
+returns-then-pass-gt-MOST_EDGES c =
     let many : 4194304 < c.pass_ahead.new.pass.pairs.count = search rules in
     found_many c.args.flow (program_of c.args.kernel.now) c.args.params.now (tiling_of c.args.tiling.now)
     c.args.list.now c.args.table.now c.requires.can 4194304
