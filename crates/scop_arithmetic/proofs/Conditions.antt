@@ -6,7 +6,7 @@ use Rattle.scop_syntax.proofs.Common.{AllHold}
 use Rattle.scop_expressions.specs.Op.{Op}
 use Rattle.scop_expressions.specs.Op.TheVariants as op
 use Rattle.scop_syntax.specs.Statements as tests
-use Rattle.scop_roles.specs.declared.fault.Kind.TheVariants as kind
+use Rattle.scop_roles.specs.declared.kinds.Kind.TheVariants as kind
 use Rattle.scop_roles.specs.declared.formula.Role.TheVariants as role
 use Rattle.scop_roles.specs.Faults.{first, told, faults, place_faults, named, called, own, side_role, joins_condition}
 use Rattle.scop_roles.specs.Forms.{is_and, is_comparison, is_signed, form}

@@ -3,7 +3,7 @@ use Rattle.scop_syntax.proofs.Common.{◌≡◌, ℕ, ◌-◌, ◌≤◌, ℤ, �
 use Rattle.scop_syntax.proofs.Common.{All, arith, nat_le, nat_lt, All-nil, All-cons, Affine, value_of, dot-padded}
 use Rattle.scop_syntax.proofs.Common.{dot-past, values}
 use Rattle.scop_expressions.specs.Width.{Width}
-use Rattle.scop_roles.specs.declared.fault.Kind.TheVariants as kind
+use Rattle.scop_roles.specs.declared.kinds.Kind.TheVariants as kind
 use Rattle.scop_roles.specs.declared.formula.Role.TheVariants as role
 use Rattle.scop_roles.specs.Faults.{first, told, faults, only_where}
 use Rattle.scop_roles.specs.Forms.{form}

@@ -5,7 +5,7 @@ use Rattle.scop_syntax.proofs.Common.{append_assoc, append-nil, length-append, O
 use Rattle.std.proofs.Common.{bytes_eq}
 use Rattle.scop_grammar.specs.Kernel.{Parameter, number, array}
 use Rattle.scop_lexer.specs.Bytes.{Text}
-use Rattle.scop_roles.specs.declared.fault.Kind.TheVariants as kind
+use Rattle.scop_roles.specs.declared.kinds.Kind.TheVariants as kind
 use Rattle.scop_roles.specs.declared.formula.Meaning.{Meaning}
 use Rattle.scop_roles.specs.declared.formula.Meaning.TheVariants as meaning
 use Rattle.scop_roles.specs.Forms.{is_narrow_width}

@@ -6,7 +6,7 @@ use Rattle.scop_syntax.proofs.Common.{converted, assigned, Cell, cell_of, reads_
 use Rattle.scop_syntax.proofs.Common.{stored_by, applied_kept}
 use Rattle.scop_expressions.specs.Assign.{Assign}
 use Rattle.scop_expressions.specs.Assign.TheVariants as assigns
-use Rattle.scop_roles.specs.declared.fault.Kind.TheVariants as kind
+use Rattle.scop_roles.specs.declared.kinds.Kind.TheVariants as kind
 use Rattle.scop_roles.specs.declared.formula.Role.TheVariants as role
 use Rattle.scop_roles.specs.Faults.{first, told, faults, place_faults, is_count, last_count, only_where}
 use Rattle.scop_roles.specs.Forms.{is_signed, is_narrow}

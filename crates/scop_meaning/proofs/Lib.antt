@@ -9,4 +9,4 @@ mod FittingReads
 mod Kernels
 mod StatementSearch
 mod Numbering
-pub mod Outside
+pub mod OutsideAccesses

@@ -10,10 +10,10 @@ use Rattle.scop_expressions.specs.Token.{Token}
 use Rattle.scop_expressions.specs.Grammar.{told_at}
 use Rattle.scop_grammar.specs.Kernel.{IsFront}
 use Rattle.scop_grammar.specs.Promises.{IsUnfit, IsMisplaced, IsUnended, IsTooDeep}
-use Rattle.scop_roles.specs.declared.fault.Fault.{Fault}
+use Rattle.scop_roles.specs.declared.kinds.Fault.{Fault}
 use Rattle.scop_roles.specs.Faults.{first}
 use Rattle.scop_parser.specs.declared.refusal.Refusal.{Refusal}
-use Rattle.scop_roles.specs.declared.fault.Kind.{Kind as RefusalKind}
+use Rattle.scop_roles.specs.declared.kinds.Kind.{Kind as RefusalKind}
 use Rattle.scop_units.specs.Words.{start_of, words_of, grammar_tokens}
 use Rattle.scop_units.specs.Judging.{faults_of}
 use Rattle.scop_parser.specs.Spelling.{IsText, token_kind, IsGrammarFault, IsFirstFault, IsRefusedAs}

@@ -20,14 +20,14 @@ use Rattle.scop_grammar.specs.Machine.{whole as whole_answer, answer as machine_
 use Rattle.scop_grammar.specs.Claims.{IsAnswer}
 use Rattle.scop_grammar.proofs.MachineAnswers.{one_reading, read_answers}
 use Rattle.scop_grammar.proofs.WiderLimits.{stop-misplaced}
-use Rattle.scop_roles.specs.declared.fault.Fault.{Fault}
+use Rattle.scop_roles.specs.declared.kinds.Fault.{Fault}
 use Rattle.scop_roles.specs.Faults.{first, first_of, precedes}
 use Rattle.scop_units.specs.Words.{start_of, words_of, grammar_tokens}
 use Rattle.scop_units.specs.Judging.{faults_of}
 use Rattle.scop_units.specs.Programs.{program_spelled}
 use Rattle.scop_pass.specs.Machine.{first_state, run, program_at}
-use Rattle.scop_roles.specs.declared.fault.Kind.{Kind as RefusalKind}
-use Rattle.scop_roles.specs.declared.fault.Kind.TheVariants as refusal
+use Rattle.scop_roles.specs.declared.kinds.Kind.{Kind as RefusalKind}
+use Rattle.scop_roles.specs.declared.kinds.Kind.TheVariants as refusal
 use Rattle.scop_parser.specs.Spelling.{IsText, SpellsProgram, token_kind, IsGrammarFault, HasGrammarFault}
 use Rattle.scop_parser.specs.Spelling.{IsFirstFault}
 use Rattle.scop_pass.proofs.Kernels.{run-faults, run-program}

@@ -6,7 +6,7 @@ use Rattle.scop_syntax.proofs.Common.{Declaration}
 use Rattle.std.proofs.Common.{bytes_eq}
 use Rattle.scop_grammar.specs.Kernel.{Parameter, number, array, Kernel, parameter_elements}
 use Rattle.scop_lexer.specs.Bytes.{Text}
-use Rattle.scop_roles.specs.declared.fault.Kind.TheVariants as kind
+use Rattle.scop_roles.specs.declared.kinds.Kind.TheVariants as kind
 use Rattle.scop_roles.specs.declared.formula.Meaning.{Meaning}
 use Rattle.scop_roles.specs.declared.formula.Meaning.TheVariants as meaning
 use Rattle.scop_roles.specs.Faults.{only_where}

@@ -11,9 +11,9 @@ use Rattle.scop_lexer.specs.declared.token.FaultKind.TheVariants as lexical
 use Rattle.scop_grammar.specs.Kernel.{Kernel, Spells}
 use Rattle.scop_expressions.specs.Token.{Token as GrammarToken}
 use Rattle.scop_grammar.specs.Promises.{IsMisplaced, IsUnended, IsTooDeep}
-use Rattle.scop_roles.specs.declared.fault.Kind.{Kind as RefusalKind}
-use Rattle.scop_roles.specs.declared.fault.Kind.TheVariants as kind
-use Rattle.scop_roles.specs.declared.fault.Fault.{Fault}
+use Rattle.scop_roles.specs.declared.kinds.Kind.{Kind as RefusalKind}
+use Rattle.scop_roles.specs.declared.kinds.Kind.TheVariants as kind
+use Rattle.scop_roles.specs.declared.kinds.Fault.{Fault}
 use Rattle.scop_roles.specs.Faults.{first}
 use Rattle.scop_parser.specs.declared.refusal.Refusal.{Refusal}
 use Rattle.scop_units.specs.Words.{words_of, grammar_tokens, start_of}

@@ -6,7 +6,7 @@ ghost use Rattle.scop_syntax.specs.Kernel.{IsKernel};
 ghost use Rattle.scop_syntax.specs.Tree.{Program};
 ghost use Rattle.scop_units.specs.Names.{HasDistinctNames, header_names};
 ghost use Rattle.scop_parser.specs.declared.refusal.Refusal.{Refusal};
-ghost use Rattle.scop_roles.specs.declared.fault.Kind.{Kind as RefusalKind};
+ghost use Rattle.scop_roles.specs.declared.kinds.Kind.{Kind as RefusalKind};
 ghost use Rattle.scop_parser.specs.Names.{HasFreeNames};
 ghost use Rattle.scop_parser.specs.Spelling.{IsFirstFault, IsRefusedAs, SpellsProgram};
 

@@ -3,7 +3,7 @@ use Rattle.scop_syntax.proofs.Common.{◌≡◌, ℕ, ◌-◌, List, [], ◌∷�
 use Rattle.scop_syntax.proofs.Common.{sym, ap, ◌∙◌, arith, Test, Head, Tree, nat_le, nat_lt, slice_get}
 use Rattle.scop_units.specs.Bytes.{Text}
 use Rattle.scop_syntax.specs.Tree as scop
-use Rattle.scop_roles.specs.declared.fault.Fault.{Fault}
+use Rattle.scop_roles.specs.declared.kinds.Fault.{Fault}
 use Rattle.scop_pass.specs.Machine.{Frame, block, guarded, looped, idle, State, unwound, completed, complete, expects}
 use Rattle.scop_pass.specs.Machine.{step, without_loop}
 use Rattle.scop_pass.specs.Passing.{Comes, Steps, frames_of}
@@ -11,7 +11,7 @@ use Rattle.scop_units.specs.Words.{Words}
 use Rattle.scop_grammar.specs.Kernel.{Piece}
 use Rattle.scop_pass.specs.declared.frames.Frame.{Frame as CodeFrame}
 use Rattle.scop_pass.specs.declared.pass.Stop.{Stop}
-use Rattle.scop_roles.specs.declared.fault.Kind.TheVariants as kind
+use Rattle.scop_roles.specs.declared.kinds.Kind.TheVariants as kind
 use Rattle.scop_roles.specs.Formula.{place}
 use Rattle.scop_roles.specs.Faults.{first, told, only_where}
 use Rattle.scop_units.specs.Units.{Stored, statement_faults, stored_faults, read_limit, reads_of}

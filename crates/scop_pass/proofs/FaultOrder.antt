@@ -11,8 +11,8 @@ use Rattle.scop_expressions.specs.Width.{Width}
 use Rattle.scop_grammar.specs.declared.part.Mark.{Mark}
 use Rattle.scop_grammar.specs.declared.part.Mark.TheVariants as kept
 use Rattle.scop_grammar.specs.Kernel.{Element, sign, expression, Piece, mark_at, nodes_from, pieces, spelled}
-use Rattle.scop_roles.specs.declared.fault.Fault.{Fault}
-use Rattle.scop_roles.specs.declared.fault.Kind.TheVariants as kind
+use Rattle.scop_roles.specs.declared.kinds.Fault.{Fault}
+use Rattle.scop_roles.specs.declared.kinds.Kind.TheVariants as kind
 use Rattle.scop_roles.specs.declared.formula.Role.TheVariants as role
 use Rattle.scop_roles.specs.Faults.{faults, first, first_of, precedes, number, only_where}
 use Rattle.scop_roles.specs.Formula.{Formula, name, index, place}

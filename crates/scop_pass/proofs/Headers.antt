@@ -8,7 +8,7 @@ use Rattle.scop_grammar.specs.declared.part.Mark.{Mark}
 use Rattle.scop_grammar.specs.declared.part.Mark.TheVariants as kept
 use Rattle.scop_grammar.specs.Kernel.{Element, Piece, mark_at, pieces, Parameter, number, array, extents}
 use Rattle.scop_grammar.specs.Kernel.{parameter_elements, other_parameters, other_names, declarations}
-use Rattle.scop_roles.specs.declared.fault.Fault.{Fault}
+use Rattle.scop_roles.specs.declared.kinds.Fault.{Fault}
 use Rattle.scop_roles.specs.Formula.{Formula}
 use Rattle.scop_roles.specs.Forms.{is_narrow_width}
 use Rattle.scop_units.specs.Words.{Words}

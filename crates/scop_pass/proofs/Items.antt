@@ -8,7 +8,7 @@ use Rattle.scop_grammar.specs.Kernel.{Items, none, more, head_elements, place_el
 use Rattle.scop_grammar.specs.Kernel.{assign_sign, ends, semicolon, ItemFits, ItemsFit}
 use Rattle.scop_units.specs.Bytes.{Text}
 use Rattle.scop_syntax.specs.Tree as scop
-use Rattle.scop_roles.specs.declared.fault.Fault.{Fault}
+use Rattle.scop_roles.specs.declared.kinds.Fault.{Fault}
 use Rattle.scop_roles.specs.Formula.{Formula}
 use Rattle.scop_roles.specs.Values.{tests}
 use Rattle.scop_units.specs.Words.{Words}

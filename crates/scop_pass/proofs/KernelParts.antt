@@ -9,7 +9,7 @@ use Rattle.scop_grammar.specs.declared.part.Part.{Part}
 use Rattle.scop_grammar.specs.Kernel.{Element, sign, expression, spelled, Kernel, KernelFits, kernel_elements, Piece}
 use Rattle.scop_grammar.specs.Kernel.{pieces, mark_at, nodes_from}
 use Rattle.scop_grammar.specs.Turns.{piece_of, pieces_of}
-use Rattle.scop_roles.specs.declared.fault.Fault.{Fault}
+use Rattle.scop_roles.specs.declared.kinds.Fault.{Fault}
 use Rattle.scop_roles.specs.Faults.{first}
 use Rattle.scop_roles.specs.Resolving.{IsWritten}
 use Rattle.scop_pass.specs.declared.pass.Stop.{Stop}

@@ -11,7 +11,7 @@ use Rattle.scop_units.specs.Bytes.{Text}
 use Rattle.scop_syntax.specs.Tree.{Declaration, Test, Head, Tree, Program}
 use Rattle.scop_syntax.specs.Tree as scop
 use Rattle.scop_syntax.specs.View.{trees_of}
-use Rattle.scop_roles.specs.declared.fault.Fault.{Fault}
+use Rattle.scop_roles.specs.declared.kinds.Fault.{Fault}
 use Rattle.scop_roles.specs.declared.formula.Role.TheVariants as role
 use Rattle.scop_roles.specs.Formula.{Formula, name, index, Lookup}
 use Rattle.scop_roles.specs.Resolving.{formula_of_nodes}

@@ -6,7 +6,7 @@ use Rattle.scop_syntax.specs.View.{program_of, test_of, tree_of}
 use Rattle.scop_syntax.specs.declared.tree.Kernel.{Kernel as CodeKernel}
 use Rattle.scop_units.specs.Judging.{faults_of, width}
 use Rattle.scop_units.specs.Programs.{program_spelled}
-use Rattle.scop_roles.specs.declared.fault.Fault.{Fault}
+use Rattle.scop_roles.specs.declared.kinds.Fault.{Fault}
 use Rattle.scop_roles.specs.Faults.{first}
 use Rattle.scop_roles.specs.Formula.{formula_of}
 use Rattle.scop_pass.specs.declared.frames.Frame.{Frame as CodeFrame}

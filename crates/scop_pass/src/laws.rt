@@ -2,7 +2,7 @@
 ghost use Rattle.std.specs.Prelude.{◌≡◌, ◌++◌, ◌∷◌, ℕ, List, Some};
 ghost use Rattle.scop_grammar.specs.Kernel.{Kernel, KernelFits, Piece, kernel_elements, mark_at, pieces};
 ghost use Rattle.scop_grammar.specs.declared.part.Mark.{Mark};
-ghost use Rattle.scop_roles.specs.declared.fault.Fault.{Fault};
+ghost use Rattle.scop_roles.specs.declared.kinds.Fault.{Fault};
 ghost use Rattle.scop_roles.specs.Faults.{first};
 ghost use Rattle.scop_units.specs.Words.{Words};
 ghost use Rattle.scop_units.specs.Judging.{faults_of};

@@ -7,7 +7,7 @@ ghost use Rattle.scop_grammar.specs.Kernel.{Kernel as GrammarKernel, KernelFits,
 ghost use Rattle.scop_grammar.specs.Kernel.{nodes_from, pieces};
 ghost use Rattle.scop_grammar.specs.Turns.{piece_of, pieces_of};
 ghost use Rattle.scop_syntax.specs.View.{program_of, tree_of, trees_of};
-ghost use Rattle.scop_roles.specs.declared.fault.Fault.{Fault};
+ghost use Rattle.scop_roles.specs.declared.kinds.Fault.{Fault};
 ghost use Rattle.scop_roles.specs.Faults.{first};
 ghost use Rattle.scop_roles.specs.Formula.{formula_of};
 ghost use Rattle.scop_roles.specs.Resolving.{IsWritten, formula_of_nodes};
@@ -23,7 +23,7 @@ use crate::laws::{passes_may_stop_at_a_fault, passes_may_stop_at_an_array};
 use crate::pending::{Hand, Pending, inner_of};
 use scop_expressions::node::Node;
 use scop_grammar::part::{Mark, Part};
-use scop_roles::fault::Fault;
+use scop_roles::kinds::Fault;
 use scop_roles::formula::{Formula, resolve};
 use scop_syntax::tree::{Item, Kernel, Name};
 use scop_units::padding::all_over;

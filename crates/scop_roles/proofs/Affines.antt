@@ -15,7 +15,7 @@ use Rattle.scop_expressions.specs.Width.{Width}
 use Rattle.scop_expressions.specs.Width.TheVariants as width
 use Rattle.scop_syntax.specs.Tree.{Narrowing}
 use Rattle.scop_syntax.specs.Kernel.{IsNarrowed}
-use Rattle.scop_roles.specs.declared.fault.Kind.TheVariants as kind
+use Rattle.scop_roles.specs.declared.kinds.Kind.TheVariants as kind
 use Rattle.scop_roles.specs.declared.formula.Meaning.{Meaning}
 use Rattle.scop_roles.specs.declared.formula.Meaning.TheVariants as meaning
 use Rattle.scop_roles.specs.declared.formula.Role.TheVariants as role

@@ -1,8 +1,8 @@
 -- The first fault of lists in a row, and of a node from those of its parts.
 use Rattle.scop_syntax.proofs.Common.{◌≡◌, ℕ, Bool, true, false, ◌&&◌, ◌||◌, ◌==◌, nat_lt, List, [], ◌∷◌, ◌++◌, Option}
 use Rattle.scop_syntax.proofs.Common.{Some, None, ap, sym, ◌∙◌, refl, arith, if◌then◌else◌}
-use Rattle.scop_roles.specs.declared.fault.Fault.{Fault}
-use Rattle.scop_roles.specs.declared.fault.Kind.{Kind}
+use Rattle.scop_roles.specs.declared.kinds.Fault.{Fault}
+use Rattle.scop_roles.specs.declared.kinds.Kind.{Kind}
 use Rattle.scop_roles.specs.Faults.{number, precedes, first_of, first, told, judged}
 use Rattle.scop_roles.specs.Judgement.{part_or_own}
 

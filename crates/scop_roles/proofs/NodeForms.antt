@@ -3,9 +3,9 @@ use Rattle.scop_syntax.proofs.Common.{◌≡◌, ◌≢◌, ℕ, Bool, true, fal
 use Rattle.scop_syntax.proofs.Common.{subst, ◌∙◌, refl, length, arith, if◌then◌else◌, ◌⊎◌, not, Affine}
 use Rattle.scop_expressions.specs.Op.{Op}
 use Rattle.scop_expressions.specs.declared.token.Sign.TheVariants as sign
-use Rattle.scop_roles.specs.declared.fault.Fault.{Fault}
-use Rattle.scop_roles.specs.declared.fault.Kind.{Kind}
-use Rattle.scop_roles.specs.declared.fault.Kind.TheVariants as kind
+use Rattle.scop_roles.specs.declared.kinds.Fault.{Fault}
+use Rattle.scop_roles.specs.declared.kinds.Kind.{Kind}
+use Rattle.scop_roles.specs.declared.kinds.Kind.TheVariants as kind
 use Rattle.scop_roles.specs.declared.formula.Meaning.{Meaning}
 use Rattle.scop_roles.specs.declared.formula.Meaning.TheVariants as meaning
 use Rattle.scop_roles.specs.declared.formula.Role.TheVariants as role

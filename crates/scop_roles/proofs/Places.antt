@@ -3,8 +3,8 @@ use Rattle.scop_syntax.proofs.Common.{ℕ, ◌&&◌, ◌+◌, ◌<◌, ◌≤◌
 use Rattle.scop_syntax.proofs.Common.{All-nil, All-cons, All-head, All-tail, All-append}
 use Rattle.scop_expressions.specs.Tree.{Tree, constant, name, group, index, bare_call, call, unary, cast, binary}
 use Rattle.scop_expressions.specs.Tree.{size}
-use Rattle.scop_roles.specs.declared.fault.Fault.{Fault}
-use Rattle.scop_roles.specs.declared.fault.Kind.{Kind}
+use Rattle.scop_roles.specs.declared.kinds.Fault.{Fault}
+use Rattle.scop_roles.specs.declared.kinds.Kind.{Kind}
 use Rattle.scop_roles.specs.declared.formula.Role.{Role}
 use Rattle.scop_roles.specs.declared.formula.Role.TheVariants as role
 use Rattle.scop_roles.specs.Formula.{Lookup, formula, place}

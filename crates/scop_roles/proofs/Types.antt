@@ -13,7 +13,7 @@ use Rattle.scop_expressions.specs.Tree.{Tree, size}
 use Rattle.scop_expressions.specs.Tree as tree
 use Rattle.scop_syntax.specs.Tree as scop
 use Rattle.scop_syntax.specs.Widths.{bits, is_narrow as has_type, IsTypedAs}
-use Rattle.scop_roles.specs.declared.fault.Kind.TheVariants as kind
+use Rattle.scop_roles.specs.declared.kinds.Kind.TheVariants as kind
 use Rattle.scop_roles.specs.declared.formula.Meaning.{Meaning}
 use Rattle.scop_roles.specs.declared.formula.Meaning.TheVariants as meaning
 use Rattle.scop_roles.specs.declared.formula.Role.TheVariants as role

@@ -10,8 +10,8 @@ use Rattle.scop_expressions.specs.Base.{Base}
 use Rattle.scop_expressions.specs.Base.TheVariants as base
 use Rattle.scop_expressions.specs.Suffix.TheVariants as suffix
 use Rattle.scop_syntax.specs.Kernel.{IsNarrowed}
-use Rattle.scop_roles.specs.declared.fault.Kind.{Kind}
-use Rattle.scop_roles.specs.declared.fault.Kind.TheVariants as kind
+use Rattle.scop_roles.specs.declared.kinds.Kind.{Kind}
+use Rattle.scop_roles.specs.declared.kinds.Kind.TheVariants as kind
 use Rattle.scop_roles.specs.declared.formula.Role.TheVariants as role
 use Rattle.scop_roles.specs.Formula.{Formula, constant, name, index, bare_call, call, unary, cast, binary}
 use Rattle.scop_roles.specs.Forms.{is_sum_or_product, is_shift, is_joining, makes_narrow, is_signed, is_narrow, is_bare}

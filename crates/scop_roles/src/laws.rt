@@ -4,7 +4,7 @@ ghost use Rattle.scop_expressions.specs.Tree.{Tree, size};
 ghost use Rattle.scop_syntax.specs.Cells.{reads_of};
 ghost use Rattle.scop_syntax.specs.Kernel.{IsAccess, IsAffine, IsComparison, IsExpression, test_form};
 ghost use Rattle.scop_syntax.specs.Widths.{IsTyped};
-ghost use Rattle.scop_roles.specs.declared.fault.Fault.{Fault};
+ghost use Rattle.scop_roles.specs.declared.kinds.Fault.{Fault};
 ghost use Rattle.scop_roles.specs.declared.formula.Role.{Role};
 ghost use Rattle.scop_roles.specs.declared.formula.Role.TheVariants as role;
 ghost use Rattle.scop_roles.specs.Faults.{faults, first, first_of, own_rank, place_faults};

@@ -3,7 +3,7 @@
 //! Static-control parts: P. Feautrier, "Dataflow analysis of array and scalar references" (1991).
 #![tactic(auto)]
 
-pub mod fault;
+pub mod kinds;
 mod forms;
 pub mod formula;
 pub mod judgement;

@@ -8,7 +8,7 @@ ghost use Rattle.scop_roles.specs.Formula.{Formula as Tree, bare_call, call, cas
 ghost use Rattle.scop_roles.specs.Formula.{unary};
 ghost use Rattle.scop_roles.specs.Judgement.{HasForm, IsFormOf, IsJudgement, is_zero, one_less};
 
-use crate::fault::{Fault, first_of, part_or_own, told};
+use crate::kinds::{Fault, first_of, part_or_own, told};
 use crate::forms::{constant_form, multiple, variable_form};
 use crate::formula::{Meaning, Role};
 use crate::judgement::{Faults, Judgement};

@@ -10,10 +10,10 @@ ghost use Rattle.scop_roles.specs.Forms.{greatest, is_joining, is_long, is_narro
 ghost use Rattle.scop_roles.specs.Forms.{is_sum_or_product, keeps_type, makes_narrow};
 ghost use Rattle.scop_roles.specs.Judgement.{own_joined};
 ghost use Rattle.scop_expressions.specs.Width.{Width};
-ghost use Rattle.scop_roles.specs.declared.fault.Kind.TheVariants as kind;
+ghost use Rattle.scop_roles.specs.declared.kinds.Kind.TheVariants as kind;
 ghost use Rattle.scop_roles.specs.declared.formula.Meaning.{Meaning};
 
-use crate::fault::{Kind, only_where};
+use crate::kinds::{Kind, only_where};
 use crate::formula::{Meaning, Role};
 use scop_expressions::token::{Base, Op, Sign, Suffix, Width};
 use scop_syntax::limits::MOST_CONSTANT;

@@ -1,13 +1,13 @@
 //! What is known of an operator over two sides, from what is known of them: its form, and its first faults.
 ghost use Rattle.std.specs.Prelude.{◌&&◌, ◌||◌, ◌≡◌, ℕ, IfOk, None, Some, if◌then◌else◌, length, true};
 ghost use Rattle.scop_syntax.specs.Kernel.{IsAffine};
-ghost use Rattle.scop_roles.specs.declared.fault.Kind.TheVariants as kind;
+ghost use Rattle.scop_roles.specs.declared.kinds.Kind.TheVariants as kind;
 ghost use Rattle.scop_roles.specs.Faults.{faults, first};
 ghost use Rattle.scop_roles.specs.Forms.{combined_forms, is_product, is_sum_or_product, is_within, makes_narrow};
 ghost use Rattle.scop_roles.specs.Formula.{Formula as Tree, binary};
 ghost use Rattle.scop_roles.specs.Judgement.{HasForm, IsJoined, IsJudgement, IsOwnAffine};
 
-use crate::fault::{Fault, Kind, first_of, part_or_own};
+use crate::kinds::{Fault, Kind, first_of, part_or_own};
 use crate::forms::{is_within, multiple, sum};
 use crate::formula::Role;
 use crate::judgement::{Faults, Judgement};

@@ -8,7 +8,7 @@ use Rattle.scop_expressions.specs.Tree.{Tree, size}
 use Rattle.scop_grammar.specs.Kernel.{Parameter, number, array, Kernel, parameter_elements}
 use Rattle.scop_syntax.specs.Tree as scop
 use Rattle.scop_syntax.proofs.Sizes.{at_most_zeros}
-use Rattle.scop_roles.specs.declared.fault.Kind.TheVariants as kind
+use Rattle.scop_roles.specs.declared.kinds.Kind.TheVariants as kind
 use Rattle.scop_roles.specs.declared.formula.Role.TheVariants as role
 use Rattle.scop_roles.specs.Formula.{Formula}
 use Rattle.scop_roles.specs.Faults.{first, told, faults, only_where}

@@ -9,9 +9,9 @@ use Rattle.scop_expressions.specs.Tree.{Tree}
 use Rattle.scop_expressions.specs.Assign.{Assign}
 use Rattle.scop_expressions.specs.Assign.TheVariants as assigns
 use Rattle.scop_expressions.specs.Suffix.TheVariants as suffix
-use Rattle.scop_roles.specs.declared.fault.Fault.{Fault}
-use Rattle.scop_roles.specs.declared.fault.Kind.{Kind}
-use Rattle.scop_roles.specs.declared.fault.Kind.TheVariants as kind
+use Rattle.scop_roles.specs.declared.kinds.Fault.{Fault}
+use Rattle.scop_roles.specs.declared.kinds.Kind.{Kind}
+use Rattle.scop_roles.specs.declared.kinds.Kind.TheVariants as kind
 use Rattle.scop_roles.specs.declared.formula.Meaning.{Meaning}
 use Rattle.scop_roles.specs.declared.formula.Meaning.TheVariants as meaning
 use Rattle.scop_roles.specs.declared.formula.Role.TheVariants as role

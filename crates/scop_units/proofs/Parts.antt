@@ -4,9 +4,9 @@ use Rattle.scop_syntax.proofs.Common.{map, get_or, drop, refl, sym, ap, ◌∙�
 use Rattle.scop_syntax.proofs.Common.{Some, None, not, nat_le, nat_lt, slice_get, is_some, Affine}
 use Rattle.scop_expressions.specs.Assign.{Assign}
 use Rattle.scop_expressions.specs.Assign.TheVariants as assigns
-use Rattle.scop_roles.specs.declared.fault.Fault.{Fault}
-use Rattle.scop_roles.specs.declared.fault.Kind.{Kind}
-use Rattle.scop_roles.specs.declared.fault.Kind.TheVariants as kind
+use Rattle.scop_roles.specs.declared.kinds.Fault.{Fault}
+use Rattle.scop_roles.specs.declared.kinds.Kind.{Kind}
+use Rattle.scop_roles.specs.declared.kinds.Kind.TheVariants as kind
 use Rattle.scop_roles.specs.declared.formula.Role.TheVariants as role
 use Rattle.scop_roles.specs.Forms.{form}
 use Rattle.scop_roles.specs.Values.{count}

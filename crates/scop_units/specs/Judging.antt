@@ -7,7 +7,7 @@ use Rattle.scop_grammar.specs.Kernel.{Element, spelled, Step, counted, counts, a
 use Rattle.scop_grammar.specs.Kernel.{block, empty, assign, headed, Items, none, more, Parameter, number, array}
 use Rattle.scop_grammar.specs.Kernel.{Kernel, item_elements, head_elements, parameter_elements, other_parameters}
 use Rattle.scop_grammar.specs.Kernel.{declarations}
-use Rattle.scop_roles.specs.declared.fault.Fault.{Fault}
+use Rattle.scop_roles.specs.declared.kinds.Fault.{Fault}
 use Rattle.scop_roles.specs.declared.formula.Role.TheVariants as role
 use Rattle.scop_roles.specs.Formula.{Formula, Lookup, formula, name}
 use Rattle.scop_roles.specs.Faults.{faults}

@@ -11,8 +11,8 @@ use Rattle.scop_expressions.specs.Assign.TheVariants as assign
 use Rattle.scop_expressions.specs.Count.{Count}
 use Rattle.scop_expressions.specs.Count.TheVariants as count
 use Rattle.scop_expressions.specs.Op.TheVariants as op
-use Rattle.scop_roles.specs.declared.fault.Kind.TheVariants as kind
-use Rattle.scop_roles.specs.declared.fault.Fault.{Fault}
+use Rattle.scop_roles.specs.declared.kinds.Kind.TheVariants as kind
+use Rattle.scop_roles.specs.declared.kinds.Fault.{Fault}
 use Rattle.scop_roles.specs.declared.formula.Meaning.{Meaning}
 use Rattle.scop_roles.specs.declared.formula.Meaning.TheVariants as meaning
 use Rattle.scop_roles.specs.declared.formula.Role.TheVariants as role

@@ -14,7 +14,7 @@ ghost use Rattle.scop_units.specs.View.{change_of, head_of, scope_of};
 use crate::scope::{Scope, copied};
 use crate::units::{or_fault, told, told_where};
 use scop_expressions::token::{Assign, Count, Op, Suffix};
-use scop_roles::fault::{Fault, Kind, first_of};
+use scop_roles::kinds::{Fault, Kind, first_of};
 use scop_roles::formula::{Argument, Formula, Meaning, Role};
 use scop_roles::judgement::{fault, form};
 use scop_roles::values::push_tests;

@@ -17,7 +17,7 @@ ghost use Rattle.scop_units.specs.View.{scope_of, stored_of, words_in};
 use crate::scope::{Scope, copied, is_reserved};
 use crate::words::Words;
 use scop_expressions::token::{Assign, Width};
-use scop_roles::fault::{Fault, Kind, first_of};
+use scop_roles::kinds::{Fault, Kind, first_of};
 use scop_roles::formula::{Formula, Meaning, Role, has_subscripts, meaning_of, place};
 use scop_roles::judgement::{fault, form, place_fault};
 use scop_roles::roles::{is_narrow_array, is_narrow_width, last_count};

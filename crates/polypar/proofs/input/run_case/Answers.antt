@@ -1,7 +1,7 @@
 -- No subscript lies outside, so the case may be run.
 use Rattle.scop_syntax.proofs.Common.{◌≡◌, ℕ, List, None, subst, option_map, layout, first_outside, program_of, walk_of}
 use Rattle.scop_meaning.specs.Outside.{outside_of}
-use Rattle.scop_meaning.proofs.Outside.{none_found}
+use Rattle.scop_meaning.proofs.OutsideAccesses.{none_found}
 use Rattle.polypar.proofs.input.run_case.Goals as goal
 
 pub run_inside-requires-clause-inside : goal.run_inside-requires-clause-inside

@@ -1,5 +1,5 @@
 use Rattle.scop_syntax.proofs.Common.{◌++◌, ap, sym, ◌∙◌, refl}
-use Rattle.scop_roles.specs.declared.fault.Kind.TheVariants as kind
+use Rattle.scop_roles.specs.declared.kinds.Kind.TheVariants as kind
 use Rattle.scop_roles.specs.declared.formula.Role.TheVariants as role
 use Rattle.scop_roles.specs.Formula.{place}
 use Rattle.scop_roles.specs.Faults.{faults, place_faults}

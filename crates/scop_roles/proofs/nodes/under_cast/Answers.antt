@@ -1,5 +1,5 @@
 use Rattle.scop_syntax.proofs.Common.{refl}
-use Rattle.scop_roles.specs.declared.fault.Kind.TheVariants as kind
+use Rattle.scop_roles.specs.declared.kinds.Kind.TheVariants as kind
 use Rattle.scop_roles.specs.declared.formula.Role.TheVariants as role
 use Rattle.scop_roles.specs.Faults.{faults}
 use Rattle.scop_roles.proofs.NodeForms.{refused}

@@ -1,5 +1,5 @@
 use Rattle.scop_syntax.proofs.Common.{◌≡◌, ◌++◌, None, map, fold, ap, sym, subst, ◌∙◌, test_of}
-use Rattle.scop_roles.specs.declared.fault.Kind.TheVariants as kind
+use Rattle.scop_roles.specs.declared.kinds.Kind.TheVariants as kind
 use Rattle.scop_roles.specs.declared.formula.Role.TheVariants as role
 use Rattle.scop_roles.specs.Formula.{argument_of, formula_of, binary, with_argument}
 use Rattle.scop_roles.specs.Faults.{first, faults}
