@@ -15,7 +15,7 @@ use Rattle.c_printer.specs.Reading.{read_bound, bounds_at, read_test, read_more_
 use Rattle.c_printer.specs.Reading.{lower_at, read_loop, read_tests, node_at, read_node, with_node}
 use Rattle.c_printer.specs.Reading.{nodes_at}
 use Rattle.c_printer.specs.Reading.{read_nodes, read_turn, read_givens}
-use Rattle.c_printer.specs.View.{line, Line}
+use Rattle.c_printer.specs.steps.View.{line, Line}
 use Rattle.c_printer.specs.steps.Reading.{behind_between, chosen_bound, last_bound, with_bound, closed_bounds}
 use Rattle.c_printer.specs.steps.Reading.{upper_end, lower_end, read_line, loop_from, read_condition, closed_as}
 use Rattle.c_printer.specs.steps.Reading.{closed_body, guard_from, parallel_from, trees_before}

@@ -2,7 +2,6 @@ pub mod Forms
 pub mod Statements
 pub mod Nodes
 pub mod Reading
-pub mod View
 pub mod steps
 pub mod Printable
 pub mod Naming

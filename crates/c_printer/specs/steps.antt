@@ -1,2 +1,3 @@
 -- What only proofs and private contracts need.
 pub mod Reading
+pub mod View

@@ -4,7 +4,7 @@ ghost use Rattle.std.specs.Prelude.{◌≡◌, Some, None, map, IfOk};
 ghost use Rattle.loop_tree.specs.Tree.{only};
 ghost use Rattle.loop_tree.specs.View.{bounds_in};
 ghost use Rattle.c_printer.specs.Reading.{divided_bound, read_bound, read_bounds, read_divisor};
-ghost use Rattle.c_printer.specs.View.{bound_in, bound_part, divisor_in, form_part, sides_in};
+ghost use Rattle.c_printer.specs.steps.View.{bound_in, bound_part, divisor_in, form_part, sides_in};
 ghost use Rattle.c_printer.specs.steps.Reading.{all_bounds, chosen_bound, closed_bounds, last_bound};
 
 use crate::part::{Read, push, strip_repeated};

@@ -3,7 +3,7 @@
 ghost use Rattle.std.specs.Prelude.{◌≡◌, ◌≤ℤ◌, ◌-ℤ◌, ◌^◌, ℤ, pos, map, option_map, take, IfOk};
 ghost use Rattle.whole_numbers.specs.Affine.{form_of};
 ghost use Rattle.whole_numbers.specs.Floor.{floor};
-ghost use Rattle.c_printer.specs.View.{form_in};
+ghost use Rattle.c_printer.specs.steps.View.{form_in};
 ghost use Rattle.c_printer.specs.steps.Reading.{form_from, narrow, narrow_list, turn_from};
 ghost use Rattle.c_printer.specs.Reading.{narrowed, quotient, quotients, read_tree_form, read_turn};
 ghost use Rattle.c_printer.specs.Reading.{turned_back};

@@ -4,7 +4,7 @@ ghost use Rattle.std.specs.Prelude.{◌≡◌, Some, map, slice_get, IfOk};
 ghost use Rattle.scop_syntax.specs.View.{program_of};
 ghost use Rattle.scop_syntax.specs.StandingView.{standing_of};
 ghost use Rattle.c_printer.specs.Reading.{body_at, read_givens, read_instance};
-ghost use Rattle.c_printer.specs.View.{form_in, form_part, node_in, turns_in, turns_part};
+ghost use Rattle.c_printer.specs.steps.View.{form_in, form_part, node_in, turns_in, turns_part};
 ghost use Rattle.c_printer.specs.steps.Reading.{given_end, read_given, body_end, place_of};
 ghost use Rattle.scop_syntax.specs.Standings.{standings_of};
 

@@ -8,7 +8,7 @@ ghost use Rattle.c_printer.specs.Forms.{loop_name, names_in};
 ghost use Rattle.c_printer.specs.Nodes.{text_of};
 ghost use Rattle.c_printer.specs.Printable.{AreNodes, IsNamed};
 ghost use Rattle.c_printer.specs.Reading.{printed_as, read_node, read_nodes, read_text};
-ghost use Rattle.c_printer.specs.View.{body_in, body_part, line_in, node_in, sides_part};
+ghost use Rattle.c_printer.specs.steps.View.{body_in, body_part, line_in, node_in, sides_part};
 ghost use Rattle.c_printer.specs.steps.Reading.{closed_as, closed_body, guard_from, loop_from, lower_end};
 ghost use Rattle.c_printer.specs.steps.Reading.{parallel_from, read_condition, read_line, upper_end};
 

@@ -3,7 +3,7 @@
 ghost use Rattle.std.specs.Prelude.{◌≡◌, ◌∷◌, [], Some, map, IfOk};
 ghost use Rattle.c_printer.specs.Reading.{multiple_at, multiple_end, read_divisor, read_more_tests, read_test};
 ghost use Rattle.c_printer.specs.Reading.{read_tests, test_behind, with_test};
-ghost use Rattle.c_printer.specs.View.{condition_in, form_part, test_in, test_part, tests_in};
+ghost use Rattle.c_printer.specs.steps.View.{condition_in, form_part, test_in, test_part, tests_in};
 ghost use Rattle.c_printer.specs.steps.Reading.{read_condition};
 
 use crate::part::{Read, push};

@@ -1,6 +1,6 @@
-pub mod Leads
 pub mod Lines
 pub mod Table
+pub mod steps
 -- Passed on: what this crate's contracts are told in.
 pub use Rattle.lexmin_runs.specs.Nodes
 pub use Rattle.lexmin_runs.specs.Solutions

@@ -5,7 +5,7 @@ ghost use Rattle.std.specs.Prelude.{Ok};
 ghost use Rattle.tableau_rows.specs.Rows.{entry};
 ghost use Rattle.tableau_rows.specs.Moves.{is_positive, line_row, rows_in, HeadsPositive, precedes_run, column_run};
 ghost use Rattle.tableau_rows.specs.Moves.{better_run};
-ghost use Rattle.checked_tableau.specs.Leads.{Leads};
+ghost use Rattle.checked_tableau.specs.steps.Leads.{Leads};
 ghost use Rattle.tableau_rows.specs.Run.{first_row, has_below, has_fraction, some_positive};
 
 use crate::cuts::remainder_of;

@@ -4,10 +4,10 @@ pub use Rattle.conflict_deps.specs.Conflicts.{conflicts_without, dep_of, deps_be
 pub use Rattle.conflict_deps.specs.Conflicts.{equal_turns, later_turn, loops_of, map_test, may_conflict, one_form}
 pub use Rattle.conflict_deps.specs.Conflicts.{pair_size, parameter_rows, same_subscripts, side, sides_from, sides_of}
 pub use Rattle.conflict_deps.specs.Conflicts.{source_form, source_rows, spread, target_form, target_rows, tests_between}
-pub use Rattle.conflict_deps.specs.HeldPairs.{source_of, target_of, width_of}
+pub use Rattle.conflict_deps.specs.steps.HeldPairs.{source_of, target_of, width_of}
 pub use Rattle.conflict_deps.specs.Pairs.{IsEnd, IsPoint}
 pub use Rattle.conflict_deps.specs.Parts.{HasParts}
-pub use Rattle.conflict_deps.specs.View.{CanPair, GainsTests, ShowsTests, order_at, side_of}
+pub use Rattle.conflict_deps.specs.steps.View.{CanPair, GainsTests, ShowsTests, order_at, side_of}
 pub use Rattle.integer_sets.specs.Constraints.{Constraints}
 pub use Rattle.iteration_domains.proofs.Points.{equalities_in-append, hold_append, hold_back, hold_front}
 pub use Rattle.iteration_domains.proofs.Points.{rows_in-append}

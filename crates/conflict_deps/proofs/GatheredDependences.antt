@@ -11,7 +11,7 @@ use Rattle.iteration_domains.specs.Dependence.{Dependence, dependence}
 use Rattle.iteration_domains.specs.declared.dep.DepEnd.{DepEnd}
 use Rattle.conflict_deps.specs.Conflicts.{Side, side, sides_from, sides_of, loops_of, pair_size, tests_between, end_of}
 use Rattle.conflict_deps.specs.Conflicts.{dep_of}
-use Rattle.conflict_deps.specs.View.{CanPair, ShowsTests, GainsTests, order_at}
+use Rattle.conflict_deps.specs.steps.View.{CanPair, ShowsTests, GainsTests, order_at}
 use Rattle.conflict_deps.specs.declared.deps.PairRows.{PairRows}
 
 -- an access of a statement that the code holds

@@ -1,6 +1,5 @@
 pub mod Conflicts
 pub mod Pairs
-pub mod View
-pub mod HeldPairs
 pub mod Examples
 pub mod Parts
+pub mod steps

@@ -7,8 +7,8 @@ ghost use Rattle.conflict_deps.specs.Conflicts.{afters_of, cell_rows, conflicts_
 ghost use Rattle.conflict_deps.specs.Conflicts.{conflicts_without as exact_without, deps_on, loops_of};
 ghost use Rattle.conflict_deps.specs.Conflicts.{may_conflict, parameter_rows};
 ghost use Rattle.conflict_deps.specs.Conflicts.{sides_in, sides_of, source_rows, target_rows};
-ghost use Rattle.conflict_deps.specs.HeldPairs.{source_of, target_of, width_of};
-ghost use Rattle.conflict_deps.specs.View.{CanPair, GainsTests, ShowsTests, order_at, side_of};
+ghost use Rattle.conflict_deps.specs.steps.HeldPairs.{source_of, target_of, width_of};
+ghost use Rattle.conflict_deps.specs.steps.View.{CanPair, GainsTests, ShowsTests, order_at, side_of};
 
 use crate::forms::{
     push_equal_turns, push_later_turn, push_sources, push_subscripts, push_targets,

@@ -3,7 +3,7 @@
 ghost use Rattle.std.specs.Prelude.{◌≡◌, ◌≤◌};
 ghost use Rattle.iteration_domains.specs.Sizes.{HaveOneCount};
 ghost use Rattle.conflict_deps.specs.Conflicts.{loops_of};
-ghost use Rattle.conflict_deps.specs.View.{CanPair, side_of};
+ghost use Rattle.conflict_deps.specs.steps.View.{CanPair, side_of};
 
 use crate::deps::AccessOf;
 

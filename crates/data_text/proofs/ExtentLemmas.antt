@@ -1,7 +1,7 @@
 -- How large extents get.
 use Rattle.scop_syntax.proofs.Common.{suc, ◌*◌, ◌^◌, ◌≤◌, List, [], ◌∷◌, length, arith, ℤ, pos, negsuc, ◌≤ℤ◌, All}
 use Rattle.scop_syntax.proofs.Common.{FitsSigned, unsigned_abs, w64, ints, Affine, value_of, IsAffine, size, value_size}
-use Rattle.data_text.specs.Conditions.{AreParameters}
+use Rattle.data_text.specs.steps.Conditions.{AreParameters}
 
 abbrev IsSmall : ℤ → Type 0
 IsSmall p = (pos 0 ≤ℤ p) × (p ≤ℤ pos 65536)

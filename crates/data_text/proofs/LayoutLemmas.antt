@@ -8,7 +8,7 @@ use Rattle.data_lines.specs.Sheets.{AreSmall}
 use Rattle.data_lines.specs.declared.refusal.DataRefusal.{DataRefusal}
 use Rattle.data_lines.specs.declared.refusal.DataRefusal.TheVariants.{Extent}
 use Rattle.data_text.specs.Cases.{bad_dimension, bad_extent, or_else, param_of, params_of}
-use Rattle.data_text.specs.Conditions.{AreParameters, AreSizes, AreLayouts}
+use Rattle.data_text.specs.steps.Conditions.{AreParameters, AreSizes, AreLayouts}
 use Rattle.data_text.proofs.ExtentLemmas.{value_small}
 
 -- a list behind its first

@@ -7,7 +7,7 @@ ghost use Rattle.scop_syntax.specs.View.{program_of};
 ghost use Rattle.data_lines.specs.Sheets.{given_of, nothing};
 ghost use Rattle.data_text.specs.Cases.{StopsBy, cells_said, contents_said, first_miscount, miscounted, seed_cell};
 ghost use Rattle.data_text.specs.Cases.{seeded_cell};
-ghost use Rattle.data_text.specs.Conditions.{IsLayout};
+ghost use Rattle.data_text.specs.steps.Conditions.{IsLayout};
 
 use crate::counts::{count_of, first_miscount};
 use data_lines::{DataRefusal, DataStop, Given, is_narrow};

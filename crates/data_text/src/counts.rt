@@ -4,7 +4,7 @@ ghost use Rattle.std.specs.Prelude.{◌≡◌, ◌<◌, ◌≤◌, ◌^◌, [], 
 ghost use Rattle.scop_syntax.specs.Execution.{cell_count, total_cells};
 ghost use Rattle.data_lines.specs.Sheets.{given_of};
 ghost use Rattle.data_text.specs.Cases.{earlier, first_miscount, miscount_of};
-ghost use Rattle.data_text.specs.Conditions.{AreLayouts, AreSizes, IsLayout};
+ghost use Rattle.data_text.specs.steps.Conditions.{AreLayouts, AreSizes, IsLayout};
 
 use data_lines::Given;
 use scop_syntax::arrays::Extents;

@@ -7,7 +7,7 @@ ghost use Rattle.scop_syntax.specs.Cells.{values};
 ghost use Rattle.scop_syntax.specs.Execution.{layout, size_of};
 ghost use Rattle.scop_syntax.specs.Kernel.{IsAffine, IsDeclaration, IsKernel};
 ghost use Rattle.data_text.specs.Cases.{StopsBy, bad_dimension, bad_extent, bad_layout};
-ghost use Rattle.data_text.specs.Conditions.{AreParameters, IsLayout};
+ghost use Rattle.data_text.specs.steps.Conditions.{AreParameters, IsLayout};
 
 use crate::counts::total_cells;
 use data_lines::{DataRefusal, DataStop};

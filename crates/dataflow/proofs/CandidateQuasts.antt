@@ -12,7 +12,7 @@ use Rattle.pip_solver.specs.Solving.{solved, Stops}
 use Rattle.quast_trees.specs.Tree.{named}
 use Rattle.quast_joins.specs.declared.way.Way.{Way}
 use Rattle.dataflow.specs.Posed.{IsPosedOf}
-use Rattle.dataflow.specs.Steps.{Solves, IsToldAs}
+use Rattle.dataflow.specs.steps.Steps.{Solves, IsToldAs}
 use Rattle.dataflow.specs.WriterRuns.{posed_run, solve_run}
 use Rattle.dataflow.proofs.Fits.{fitting_is, named_within}
 use Rattle.dataflow.proofs.ResolvedWriters.{posed-speaks, context-speaks}

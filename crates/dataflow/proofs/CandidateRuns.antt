@@ -17,7 +17,7 @@ use Rattle.quast_joins.specs.Limits.{most_told}
 use Rattle.quast_joins.specs.declared.way.Way.{Way}
 use Rattle.dataflow.specs.ReadSources.{NameWriters}
 use Rattle.dataflow.specs.WriterRuns.{solve_run}
-use Rattle.dataflow.specs.Steps.{IsJoinable, GoesOn, GainsSources}
+use Rattle.dataflow.specs.steps.Steps.{IsJoinable, GoesOn, GainsSources}
 use Rattle.dataflow.specs.declared.source.ReadSource.{ReadSource}
 use Rattle.dataflow.specs.declared.reads.Halted.TheVariants as halt
 use Rattle.dataflow.specs.declared.source.ReadSource.TheVariants as source

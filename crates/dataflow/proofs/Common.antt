@@ -1,5 +1,6 @@
 -- The names that most proofs here cite, passed on from one place. Declares nothing.
-pub use Rattle.dataflow.specs.Candidates.{Finds, IsAmong, IsWanted, TurnsAtMost, Writes, joined}
+pub use Rattle.dataflow.specs.Candidates.{IsWanted, TurnsAtMost, joined}
+pub use Rattle.dataflow.specs.steps.Wanted.{Finds, IsAmong, Writes, AtMost, IsBest, better}
 pub use Rattle.dataflow.specs.CoverPoints.{HavePoint, IsCoverOf}
 pub use Rattle.dataflow.specs.Covering.{LiesBetween, conflicts_at, covers_at, covers_of, is_in_role, next_deps}
 pub use Rattle.dataflow.specs.Covering.{role_deps, roles_at, told_deps}
@@ -8,8 +9,9 @@ pub use Rattle.dataflow.specs.Flow.{AreLastSourcesOf, AreLastTrees, IsResolved, 
 pub use Rattle.dataflow.specs.Flow.{read_sides, read_sides_in, tree_in}
 pub use Rattle.dataflow.specs.LeafRows.{bind_begins, bind_ends, bound_form, path_rows, placed, placed_numbers}
 pub use Rattle.dataflow.specs.LeafRows.{turn_equalities, turn_equality, width}
-pub use Rattle.dataflow.specs.LeafSteps.{AreFree, CanLay, CanPlace, CanTellAll, CanTellWriter, CanWrite, HoldOpposites}
-pub use Rattle.dataflow.specs.LeafSteps.{HoldsOpposite, HoldsRows}
+pub use Rattle.dataflow.specs.steps.LeafSteps.{AreFree, CanLay, CanPlace, CanTellAll, CanTellWriter, CanWrite}
+pub use Rattle.dataflow.specs.steps.LeafSteps.{HoldOpposites}
+pub use Rattle.dataflow.specs.steps.LeafSteps.{HoldsOpposite, HoldsRows}
 pub use Rattle.dataflow.specs.Leaves.{cell_equalities, deps_of_leaf, deps_with, first_form, leaf_dep, leaf_deps}
 pub use Rattle.dataflow.specs.Leaves.{leaf_layout, pair_dep, pair_equalities, pair_rows, pair_system, second_form}
 pub use Rattle.dataflow.specs.Leaves.{writer_begins, writer_of, written_of, written_side}
@@ -22,9 +24,8 @@ pub use Rattle.dataflow.specs.ReadSources.{AreSources, IsSourceOf, reads_from, r
 pub use Rattle.dataflow.specs.Runs.{Halt, or_initial, sources_run, then_join}
 pub use Rattle.dataflow.specs.Sources.{IsCandidate, IsSolved, IsWritePoint, reader_end, reader_side, wanted_writer}
 pub use Rattle.dataflow.specs.Sources.{writer_end, writer_side}
-pub use Rattle.dataflow.specs.Steps.{HeldOver, IsHeldNode, IsHeldSource, nodes_fit}
-pub use Rattle.dataflow.specs.Told.{HoldsNumbers, IsInstance, IsQuastOver, IsToldOver, NamesInstances}
-pub use Rattle.dataflow.specs.Wanted.{AtMost, IsBest, better}
+pub use Rattle.dataflow.specs.steps.Steps.{HeldOver, IsHeldNode, nodes_fit}
+pub use Rattle.dataflow.specs.Told.{IsHeldSource, HoldsNumbers, IsInstance, IsQuastOver, IsToldOver, NamesInstances}
 pub use Rattle.dataflow.specs.WriterRuns.{Stopped, candidates_of, chosen_deps, fitting, forms_fit, is_candidate}
 pub use Rattle.dataflow.specs.WriterRuns.{leaves_fit, numbers_fit, read_variables, solve_between, sourced, turned_back}
 pub use Rattle.dataflow.specs.WriterRuns.{turned_tree, turns_in, writers_run}
@@ -38,7 +39,7 @@ pub use Rattle.conflict_deps.specs.Conflicts.{same_subscripts, side, sides_from,
 pub use Rattle.conflict_deps.specs.Conflicts.{target_form}
 pub use Rattle.conflict_deps.specs.Pairs.{IsEnd, TouchesAt}
 pub use Rattle.conflict_deps.specs.Parts.{HasParts}
-pub use Rattle.conflict_deps.specs.View.{side_of}
+pub use Rattle.conflict_deps.specs.steps.View.{side_of}
 pub use Rattle.fm_projection.proofs.CondensedSystems.{condensed_points}
 pub use Rattle.integer_sets.specs.Constraints.{Constraints, variables_in}
 pub use Rattle.integer_sets.specs.Points.{Satisfies}
@@ -73,7 +74,7 @@ pub use Rattle.quast_trees.specs.Source.{Source, source_of}
 pub use Rattle.quast_trees.specs.Tree.{LeavesHave, Speaks, Tree, bind, branch, count, leaf}
 pub use Rattle.quast_trees.specs.Turns.{BindsUp, CanTell, IsHeld}
 pub use Rattle.quast_trees.specs.Value.{by_sign, value}
-pub use Rattle.quast_trees.specs.steps.Ways.{turn_held, turns_held}
+pub use Rattle.quast_trees.specs.PathView.{turn_held, turns_held}
 pub use Rattle.scop_syntax.proofs.Common.{Access, Affine, All, All-append, All-cons, All-drop, All-get_or, All-head}
 pub use Rattle.scop_syntax.proofs.Common.{All-nil, All-tail, All-take, Before, Bool, Cell, Contains, Err, FitsSigned}
 pub use Rattle.scop_syntax.proofs.Common.{HasParameters, IfOk, IfOk-weaker, In, Instance, IsKernel, IsPlaced, LexLe}

@@ -10,7 +10,7 @@ use Rattle.quast_trees.specs.Tree.{initial, named}
 use Rattle.quast_trees.specs.Postfix.{written}
 use Rattle.quast_trees.specs.declared.node.Node.{Node}
 use Rattle.dataflow.specs.WriterRuns.{number_fits, form_fits}
-use Rattle.dataflow.specs.Steps.{node_fits}
+use Rattle.dataflow.specs.steps.Steps.{node_fits}
 use Rattle.dataflow.proofs.ResolvedWriters.{size-below}
 use Rattle.quast_trees.specs.declared.node.Node.TheVariants as node
 

@@ -11,7 +11,7 @@ use Rattle.iteration_domains.specs.Parts.{variables_of}
 use Rattle.iteration_domains.proofs.Surroundings.{length-variable}
 use Rattle.conflict_deps.specs.Conflicts.{difference_of_forms}
 use Rattle.conflict_deps.proofs.Shapes.{length-source, length-target, length-difference, size-source}
-use Rattle.dataflow.specs.LeafSteps.{IsSmall}
+use Rattle.dataflow.specs.steps.LeafSteps.{IsSmall}
 use Rattle.dataflow.specs.declared.leaf_rows.Layout.{Layout}
 use Rattle.dataflow.proofs.LeafForms.{length-placed}
 

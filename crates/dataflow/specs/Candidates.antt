@@ -1,5 +1,5 @@
 -- Candidates of a read: the instances of one writing statement at some turns.
-use Rattle.std.specs.Prelude.{◌≡◌, ℕ, ◌<◌, true, ℤ, List, [], ◌∷◌, Option, Some, slice_get}
+use Rattle.std.specs.Prelude.{◌≡◌, ℕ, ℤ, List, [], ◌∷◌, Some}
 use Rattle.whole_numbers.specs.Lexicographic.{LexLe}
 use Rattle.quast_trees.specs.Source.{source_of}
 use Rattle.quast_trees.specs.Tree.{Tree}
@@ -7,20 +7,11 @@ use Rattle.quast_trees.specs.Leaf.{Leaf, initial, found}
 use Rattle.quast_joins.specs.Joins.{join}
 use Rattle.quast_joins.specs.declared.way.Way.{Way}
 use Rattle.quast_joins.specs.declared.way.Way.TheVariants.{Later, Earlier}
-use Rattle.scop_syntax.specs.Walk.{Visit}
-use Rattle.scop_syntax.specs.Cells.{Cell}
-use Rattle.scop_syntax.specs.Writers.{writes}
-use Rattle.dataflow.specs.Wanted.{IsBest}
-use Rattle.dataflow.specs.Places.{Names}
 
 -- the turns xs come at most as wanted as ys
 abbrev pub TurnsAtMost : Way → List ℤ → List ℤ → Type 0
 TurnsAtMost Later xs ys = LexLe xs ys
 TurnsAtMost Earlier xs ys = LexLe ys xs
-
--- place k is an instance of statement number at turns of Q
-abbrev pub IsAmong : List Visit → ℕ → (List ℤ → Type 0) → ℕ → Type 0
-IsAmong visits number Q k = (v : Visit) × (slice_get visits k ≡ Some v) × (v.number ≡ number) × Q v.turns
 
 -- the answer is the wanted one of the turns of Q: the greatest or least by components, or the initial value where
 -- there are none
@@ -28,15 +19,6 @@ abbrev pub IsWanted : Way → ℕ → List ℕ → (List ℤ → Type 0) → Lea
 IsWanted way number loops Q initial = (xs : List ℤ) → Q xs → ⊥
 IsWanted way number loops Q (found o xs) =
     (o ≡ Some (source_of number loops)) × Q xs × ((ys : List ℤ) → Q ys → TurnsAtMost way ys xs)
-
--- the answer names the wanted one of the places that have the property
-abbrev pub Finds : Way → List Visit → (ℕ → Type 0) → Leaf → Type 0
-Finds way visits P l = (o : Option ℕ) × Names visits l o × IsBest way P o
-
--- place k writes the cell, before place j or behind it
-abbrev pub Writes : Way → List Visit → ℕ → Cell → ℕ → Type 0
-Writes Later visits j c k = (k < j) × (writes (slice_get visits k) c ≡ true)
-Writes Earlier visits j c k = (j < k) × (writes (slice_get visits k) c ≡ true)
 
 -- the candidates' quasts joined in order behind a first one
 abbrev pub joined : {C : Type 0} → Way → ℕ → (C → Tree) → Tree → List C → Tree

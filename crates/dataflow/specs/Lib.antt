@@ -1,4 +1,3 @@
-pub mod Wanted
 pub mod Places
 pub mod Candidates
 pub mod Sources
@@ -14,8 +13,7 @@ pub mod Leaves
 pub mod Covering
 pub mod CoverPoints
 pub mod Flow
-pub mod LeafSteps
-pub mod Steps
+pub mod steps
 -- Passed on: what this crate's contracts are told in.
 pub use Rattle.conflict_deps.specs.Pairs
 pub use Rattle.pip_solver.specs.declared.stop.Stop

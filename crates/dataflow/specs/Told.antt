@@ -63,3 +63,8 @@ AreTold model [] [] = ⊤
 AreTold model [] (s ∷ ss) = ⊥
 AreTold model (r ∷ rs) [] = ⊥
 AreTold model (r ∷ rs) (s ∷ ss) = IsToldAt model (slice_get model.statements r.0) s × AreTold model rs ss
+
+-- 128 bits hold each number of a source's quast, where it has one
+abbrev pub IsHeldSource : ReadSource → Type 0
+IsHeldSource (source.Resolved quast) = HoldsNumbers (tree_of quast)
+IsHeldSource (source.Unresolved told) = ⊤

@@ -10,7 +10,7 @@ ghost use Rattle.conflict_deps.specs.Conflicts.{conflicts_of};
 ghost use Rattle.dataflow.specs.Posed.{CanPose, IsOfKernel};
 ghost use Rattle.dataflow.specs.Problems.{all_below, top};
 ghost use Rattle.dataflow.specs.Sources.{reader_end, writer_end};
-ghost use Rattle.dataflow.specs.Steps.{HeldOver, IsToldAs, Solves, node_fits, nodes_fit, tree_held};
+ghost use Rattle.dataflow.specs.steps.Steps.{HeldOver, IsToldAs, Solves, node_fits, nodes_fit, tree_held};
 ghost use Rattle.dataflow.specs.WriterRuns.{form_fits, forms_fit, fitting, number_fits, turned_back, wide_leaf};
 
 use crate::ends::{reader_end, writer_end};

@@ -2,10 +2,10 @@
 ghost use Rattle.std.specs.Prelude.{◌≡◌, ◌++◌, ◌-◌, All, IfOk, OnOk, length, map};
 ghost use Rattle.scop_syntax.specs.Members.{In};
 ghost use Rattle.quast_joins.specs.declared.way.Way.TheVariants.{Later};
-ghost use Rattle.conflict_deps.specs.View.{side_of};
+ghost use Rattle.conflict_deps.specs.steps.View.{side_of};
 ghost use Rattle.dataflow.specs.Flow.{AreLastSources, AreLastSourcesOf, IsLastSource, IsResolved};
 ghost use Rattle.dataflow.specs.Flow.{flow_from, flow_of, read_sides, tree_in};
-ghost use Rattle.dataflow.specs.LeafSteps.{IsReader};
+ghost use Rattle.dataflow.specs.steps.LeafSteps.{IsReader};
 ghost use Rattle.dataflow.specs.Leaves.{leaf_deps};
 ghost use Rattle.dataflow.specs.Posed.{IsOfKernel};
 ghost use Rattle.dataflow.specs.ReadSources.{reads_of_statement};

@@ -3,9 +3,9 @@
 ghost use Rattle.std.specs.Prelude.{◌≡◌, ◌+◌, ◌≤◌, ◌++◌, All, IfOk, OnOk, map};
 ghost use Rattle.iteration_domains.specs.Parts.{variables_of};
 ghost use Rattle.conflict_deps.specs.Conflicts.{end_of, loops_of, source_form, target_form};
-ghost use Rattle.conflict_deps.specs.View.{CanPair, side_of};
+ghost use Rattle.conflict_deps.specs.steps.View.{CanPair, side_of};
 ghost use Rattle.dataflow.specs.LeafRows.{path_rows, turn_equalities, width};
-ghost use Rattle.dataflow.specs.LeafSteps.{CanLay, CanWrite};
+ghost use Rattle.dataflow.specs.steps.LeafSteps.{CanLay, CanWrite};
 ghost use Rattle.dataflow.specs.Leaves.{cell_equalities, leaf_dep, leaf_layout, pair_dep, pair_equalities};
 ghost use Rattle.dataflow.specs.Leaves.{pair_rows};
 

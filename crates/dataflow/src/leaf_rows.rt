@@ -6,10 +6,10 @@ ghost use Rattle.whole_numbers.specs.Affine.{complement, form_of};
 ghost use Rattle.whole_numbers.specs.Lists.{multiples};
 ghost use Rattle.quast_trees.specs.Paths.{AreOver, binds_in};
 ghost use Rattle.quast_trees.specs.Paths as passed;
-ghost use Rattle.quast_trees.specs.steps.Ways.{turn_held, turns_held};
+ghost use Rattle.quast_trees.specs.PathView.{turn_held, turns_held};
 ghost use Rattle.dataflow.specs.LeafRows.{bind_begins, bind_ends, path_rows, placed, placed_numbers};
 ghost use Rattle.dataflow.specs.LeafRows.{turn_equalities, turn_equality, width};
-ghost use Rattle.dataflow.specs.LeafSteps.{AreFree, CanPlace, HoldOpposites, HoldsOpposite, HoldsRows, IsSmall};
+ghost use Rattle.dataflow.specs.steps.LeafSteps.{AreFree, CanPlace, HoldOpposites, HoldsOpposite, HoldsRows, IsSmall};
 
 use affine_forms::{Form, push};
 use iteration_domains::{Numbers, form_from, push_zeros};

@@ -2,7 +2,7 @@
 //! and change nothing.
 ghost use Rattle.std.specs.Prelude.{All};
 ghost use Rattle.quast_trees.specs.Postfix.{tree_of};
-ghost use Rattle.dataflow.specs.Steps.{IsHeldNode};
+ghost use Rattle.dataflow.specs.steps.Steps.{IsHeldNode};
 ghost use Rattle.quast_trees.specs.Turns.{IsHeld};
 ghost use Rattle.dataflow.specs.Told.{HoldsNumbers};
 

@@ -15,8 +15,8 @@ ghost use Rattle.dataflow.specs.Posed.{IsOfKernel};
 ghost use Rattle.dataflow.specs.ReadSources.{IsSourceOf, AreSources, reads_of, reads_of_statement};
 ghost use Rattle.dataflow.specs.ReadSources.{NameLastWriters, NameNextWriters};
 ghost use Rattle.dataflow.specs.Sources.{reader_end};
-ghost use Rattle.dataflow.specs.Steps.{GainsSources, GoesOn, IsHeldSource, IsJoinable};
-ghost use Rattle.dataflow.specs.Told.{AreTold, IsToldOver};
+ghost use Rattle.dataflow.specs.steps.Steps.{GainsSources, GoesOn, IsJoinable};
+ghost use Rattle.dataflow.specs.Told.{IsHeldSource, AreTold, IsToldOver};
 ghost use Rattle.dataflow.specs.WriterRuns.{is_candidate, read_variables};
 
 use crate::candidate::solved;

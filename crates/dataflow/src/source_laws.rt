@@ -26,8 +26,7 @@ ghost use Rattle.dataflow.specs.Places.{Names};
 ghost use Rattle.dataflow.specs.Problems.{all_below, posed_rows, posed_context, turned_leaf};
 ghost use Rattle.dataflow.specs.Posed.{IsOfKernel};
 ghost use Rattle.dataflow.specs.Sources.{IsCandidate, IsSolved, IsWritePoint, reader_side, wanted_writer, writer_side};
-ghost use Rattle.dataflow.specs.Steps.{IsHeldSource};
-ghost use Rattle.dataflow.specs.Told.{AreTold};
+ghost use Rattle.dataflow.specs.Told.{IsHeldSource, AreTold};
 ghost use Rattle.dataflow.specs.WriterRuns.{writers_run};
 ghost use Rattle.dataflow.specs.declared.source.ReadSource.{ReadSource};
 

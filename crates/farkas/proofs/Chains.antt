@@ -16,7 +16,8 @@ use Rattle.pip_solver.specs.declared.stop.Stop.TheVariants as solver
 use Rattle.pip_solver.specs.Promises.{Empties}
 use Rattle.farkas.specs.declared.stuck.Stuck.TheVariants as stuck
 use Rattle.farkas.specs.Run.{Halt, crowded, ◌>>◌, formed, eliminating, answer, emptiness}
-use Rattle.farkas.specs.Gives.{Halts, stuck_of_form, stuck_of_elimination, stuck_of_solver}
+use Rattle.farkas.specs.Gives.{Halts}
+use Rattle.farkas.specs.steps.Questions.{stuck_of_form, stuck_of_elimination, stuck_of_solver}
 
 pub then-ok : {A B : Type 0} (r : Result A Halt) (f : A → Result B Halt) (y : B) → r >> f ≡ Ok y
     → (x : A) × (r ≡ Ok x) × (f x ≡ Ok y)

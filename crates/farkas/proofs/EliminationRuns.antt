@@ -14,7 +14,8 @@ use Rattle.farkas.specs.Claims.{linear, constant}
 use Rattle.farkas.specs.Matching.{matching_run, multipliers_of}
 use Rattle.farkas.specs.Run.{Halt, ◌>>◌, formed, eliminating, kept_from, dropped_run, without_column, narrowing}
 use Rattle.farkas.specs.Run.{left_run, posed, posed_run, rows_run}
-use Rattle.farkas.specs.Gives.{Halts, Follows, stuck_of_elimination}
+use Rattle.farkas.specs.Gives.{Halts, Follows}
+use Rattle.farkas.specs.steps.Questions.{stuck_of_elimination}
 use Rattle.farkas.specs.Meaning.{IsFarkas}
 use Rattle.farkas.proofs.Chains.{then-ok, halts-then, halts-after, halts-same, eliminating-ok, halts-eliminating}
 use Rattle.farkas.proofs.Meaning.{rows-farkas}

@@ -18,7 +18,8 @@ use Rattle.farkas.specs.Claims.{target_factor, source_factor, bound_factor, iter
 use Rattle.farkas.specs.Claims.{constant}
 use Rattle.farkas.specs.Matching.{coefficients_run, matching_run, multipliers_of}
 use Rattle.farkas.specs.Run.{◌>>◌, formed, posed, posed_run}
-use Rattle.farkas.specs.Gives.{with_more, Gains, Halts, stuck_of_form}
+use Rattle.farkas.specs.Gives.{Halts}
+use Rattle.farkas.specs.steps.Questions.{with_more, Gains, stuck_of_form}
 use Rattle.farkas.specs.Meaning.{rows_of}
 use Rattle.farkas.proofs.Chains.{halts-then, halts-formed}
 use Rattle.farkas.proofs.Columns.{matching_is, multipliers_are, matched_sized, own_rows_speak}

@@ -16,8 +16,8 @@ use Rattle.pip_solver.specs.Promises.{Empties}
 use Rattle.farkas.specs.declared.stuck.Stuck.TheVariants as stuck
 use Rattle.farkas.specs.Run.{Halt, ◌>>◌, formed, emptiness, implied_run, kept_run, others, kept_from}
 use Rattle.farkas.specs.Run.{dropped_run}
-use Rattle.farkas.specs.Questions.{asking, settled}
-use Rattle.farkas.specs.Gives.{Halts, stuck_of_form, stuck_of_solver}
+use Rattle.farkas.specs.steps.Questions.{asking, settled, stuck_of_form, stuck_of_solver}
+use Rattle.farkas.specs.Gives.{Halts}
 use Rattle.farkas.proofs.Chains.{halts-then, halts-after, halts-same, halts-formed, emptiness-ok, halts-emptiness}
 use Rattle.farkas.proofs.DroppedRows.{opposite_is}
 

@@ -13,7 +13,7 @@ use Rattle.farkas.specs.Matching.{entry_of, equality_columns_run, row_columns_ru
 use Rattle.affine_forms.specs.declared.stop.FormStop.{FormStop}
 use Rattle.affine_forms.specs.declared.stop.FormStop.TheVariants as form_stop
 use Rattle.affine_forms.specs.Gives.{Fails}
-use Rattle.farkas.specs.Gives.{with_more}
+use Rattle.farkas.specs.steps.Questions.{with_more}
 
 -- what stands in front does not stop a run
 pub with_more-err : {X : Type 0} (front : List X) (run : Result (List X) Wide) (w : Wide) → with_more front run ≡ Err w

@@ -3,8 +3,8 @@
 ghost use Rattle.std.specs.Prelude.{◌≡◌, ◌<◌, HoldsAt, IfOk, length};
 ghost use Rattle.affine_forms.specs.Parts.{variables_of};
 ghost use Rattle.farkas.specs.Run.{dropped_run};
-ghost use Rattle.farkas.specs.Gives.{Follows, Asks};
-ghost use Rattle.farkas.specs.Questions.{Poses, settled};
+ghost use Rattle.farkas.specs.Gives.{Follows};
+ghost use Rattle.farkas.specs.steps.Questions.{Asks, Poses, settled};
 
 use crate::stuck::{Stuck, by_form, by_solver};
 use affine_forms::{Form, FormStop};

@@ -12,7 +12,7 @@ ghost use Rattle.farkas.specs.Unknowns.{layout_of};
 ghost use Rattle.farkas.specs.Claims.{bound_factor, only, iterators, nones, parameters, linear, constant};
 ghost use Rattle.farkas.specs.Matching.{entry_of, HasEntry, equality_columns_run, row_columns_run, matched_run};
 ghost use Rattle.farkas.specs.Matching.{coefficients_run, matching_run};
-ghost use Rattle.farkas.specs.Gives.{Gains};
+ghost use Rattle.farkas.specs.steps.Questions.{Gains};
 ghost use Rattle.fractions.specs.Farkas.{own_rows};
 ghost use Rattle.farkas.specs.declared.matching.Entry.TheVariants.{Coefficient, Constant};
 

@@ -1,7 +1,7 @@
 //! Why the rows of a dependence are not found.
 
 ghost use Rattle.std.specs.Prelude.{◌≡◌};
-ghost use Rattle.farkas.specs.Gives.{stuck_of_form, stuck_of_elimination, stuck_of_solver};
+ghost use Rattle.farkas.specs.steps.Questions.{stuck_of_form, stuck_of_elimination, stuck_of_solver};
 
 use affine_forms::FormStop;
 use fm_projection::FmStop;

@@ -5,7 +5,8 @@ use Rattle.scop_syntax.proofs.Common.{In, Sorted, Program, Instance, in_front, i
 use Rattle.scop_syntax.proofs.Common.{in_if, in_if_from, sorted_append, sorted_map}
 use Rattle.loop_tree.specs.Tree.{Tree, loop, guard, instance, Trees, none, more}
 use Rattle.loop_tree.specs.Walk.{lower, upper, all_hold, Visit, through, walk, walk_all}
-use Rattle.loop_tree.specs.Scans.{key, Before, Spans, SpansAll, Covers, Scans, ScansAll, AreKeys, Exact}
+use Rattle.loop_tree.specs.Scans.{key, Before, Exact}
+use Rattle.loop_tree.specs.steps.Scanning.{Spans, SpansAll, Covers, Scans, ScansAll, AreKeys}
 use Rattle.loop_tree.specs.Plans.{AreInOrder, walked}
 use Rattle.loop_tree.specs.Tiling.{Tiling, kept, tiled}
 use Rattle.loop_tree.proofs.Lists.{in_between_from, in_between, sorted_between}

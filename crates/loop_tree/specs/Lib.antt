@@ -9,7 +9,6 @@ pub mod Source
 pub mod Spot
 pub mod SpotView
 pub mod Passed
-pub mod Examples
 pub mod View
 pub mod Tiling
 pub mod TilingView

@@ -2,7 +2,7 @@
 ghost use Rattle.std.specs.Prelude.{◌≡◌, true, false, pos, [], ◌∷◌, map};
 ghost use Rattle.loop_tree.specs.Walk.{walk_all};
 ghost use Rattle.loop_tree.specs.Scans.{key};
-ghost use Rattle.loop_tree.specs.Examples.{hull, keys_of_three, pieces, twice, visit_at};
+ghost use Rattle.loop_tree.specs.steps.Examples.{hull, keys_of_three, pieces, twice, visit_at};
 ghost use Rattle.loop_tree.specs.Runs.{MayRunAll};
 
 /// Hull and pieces visit the same keys in the same order.

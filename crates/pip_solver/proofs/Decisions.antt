@@ -13,7 +13,8 @@ use Rattle.checked_tableau.proofs.Emptiness.{posed_points}
 use Rattle.checked_tableau.proofs.AddedParameters.{all_speak}
 use Rattle.checked_tableau.specs.declared.problem.Problem.{Problem}
 use Rattle.pip_solver.specs.declared.stop.Stop.TheVariants as solver
-use Rattle.pip_solver.specs.Promises.{Decides, Empties, IsPosed, IsProblem, IsUnposed, FormedUntil, decided}
+use Rattle.pip_solver.specs.Promises.{Empties, IsPosed, IsUnposed, FormedUntil}
+use Rattle.pip_solver.specs.steps.Promises.{Decides, IsProblem, decided}
 use Rattle.pip_solver.proofs.PosedRows.{until-stops}
 
 -- the answer turned

@@ -8,7 +8,7 @@ use Rattle.checked_tableau.specs.Nodes.{Counted, resumed, whole}
 use Rattle.pip_solver.specs.declared.node.Tableau.{Tableau}
 use Rattle.pip_solver.specs.Node.{node_of}
 use Rattle.pip_solver.specs.declared.frames.Frame.TheVariants as frame
-use Rattle.pip_solver.specs.Frames.{framing, under, joins, seconds, IsReady, AreReady, KeepsSides}
+use Rattle.pip_solver.specs.steps.Frames.{framing, under, joins, seconds, IsReady, AreReady, KeepsSides}
 
 -- the innermost frame
 pub turned_last : (old rest : List frame.the_data) (x : frame.the_data) → old ≡ rest ++ x ∷ []

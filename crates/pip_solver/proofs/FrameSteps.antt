@@ -16,8 +16,8 @@ use Rattle.pip_solver.specs.declared.frames.Frame.TheVariants as frame
 use Rattle.pip_solver.specs.declared.question.QuestionStop.{QuestionStop}
 use Rattle.pip_solver.specs.declared.question.QuestionStop.TheVariants as stop
 use Rattle.pip_solver.specs.declared.run.Progress.TheVariants as progress
-use Rattle.pip_solver.specs.Promises.{Tells}
-use Rattle.pip_solver.specs.Frames.{framing, under, joins, seconds, frames_for, IsReady, AreReady, Proceeds}
+use Rattle.pip_solver.specs.steps.Promises.{Tells}
+use Rattle.pip_solver.specs.steps.Frames.{framing, under, joins, seconds, frames_for, IsReady, AreReady, Proceeds}
 use Rattle.pip_solver.proofs.FrameStack.{turned_last}
 
 -- a step that stops

@@ -9,7 +9,8 @@ use Rattle.checked_tableau.specs.Lines.{behind_columns}
 use Rattle.checked_tableau.proofs.AddedParameters.{row_at-longer}
 use Rattle.checked_tableau.specs.Nodes.{Next, goes, Counted, pivot, longer_row, at_least_run, under_run}
 use Rattle.checked_tableau.specs.Table.{Table, table_of, resumed}
-use Rattle.pip_solver.specs.Node.{node_of, next_of, tied_run, ties_run, TiesRows, TiesParts, Moves}
+use Rattle.pip_solver.specs.Node.{node_of, next_of, Moves}
+use Rattle.pip_solver.specs.steps.Cuts.{tied_run, ties_run, TiesRows, TiesParts}
 use Rattle.pip_solver.specs.Node.{Pivots, Keeps}
 use Rattle.pip_solver.specs.declared.node.Tableau.{Tableau}
 use Rattle.pip_solver.specs.declared.node.Move.TheVariants as move

@@ -5,7 +5,7 @@ use Rattle.checked_tableau.specs.Nodes.{Node, Next, Counted, ends, chained, cont
 use Rattle.pip_solver.specs.declared.node.Tableau.{Tableau}
 use Rattle.pip_solver.specs.declared.question.QuestionStop.{QuestionStop}
 use Rattle.pip_solver.specs.declared.step.Next.TheVariants as next
-use Rattle.pip_solver.specs.Steps.{Steps}
+use Rattle.pip_solver.specs.steps.Steps.{Steps}
 
 -- a call that answers is followed by what is chained to its answer
 pub steps_on : {A : Type 0} (result : Result next.the_data QuestionStop) (n left k : ℕ) (new : Tableau) (q : Counted A)

@@ -9,7 +9,8 @@ use Rattle.checked_tableau.specs.Nodes.{opposites_run}
 use Rattle.checked_tableau.specs.Emptiness.{negated_run, equality_rows_run, bound_rows}
 use Rattle.wide_math.proofs.Steps.{chain-ok}
 use Rattle.affine_forms.specs.Gives.{Gives}
-use Rattle.pip_solver.specs.Promises.{FormedUntil, Forms}
+use Rattle.pip_solver.specs.Promises.{FormedUntil}
+use Rattle.pip_solver.specs.steps.Promises.{Forms}
 use Rattle.affine_forms.specs.declared.stop.FormStop.{FormStop}
 use Rattle.affine_forms.specs.declared.stop.FormStop.TheVariants as stop
 

@@ -9,7 +9,7 @@ use Rattle.checked_tableau.proofs.Beginnings.{speaks_all}
 use Rattle.checked_tableau.specs.declared.problem.Problem.{Problem}
 use Rattle.pip_solver.specs.declared.node.Tableau.{Tableau}
 use Rattle.pip_solver.specs.Node.{node_of, IsGoing}
-use Rattle.pip_solver.specs.Frames.{IsReady}
+use Rattle.pip_solver.specs.steps.Frames.{IsReady}
 use Rattle.pip_solver.specs.Solving.{solved}
 
 -- a problem whose forms have the right sizes

@@ -19,7 +19,7 @@ use Rattle.pip_solver.specs.declared.node.Tableau.{Tableau}
 use Rattle.pip_solver.specs.Node.{node_of}
 use Rattle.pip_solver.specs.declared.question.QuestionStop.{QuestionStop}
 use Rattle.pip_solver.specs.declared.question.QuestionStop.TheVariants as stop
-use Rattle.pip_solver.specs.Promises.{Tells, AsksOf}
+use Rattle.pip_solver.specs.steps.Promises.{Tells, AsksOf}
 
 pub ask-is : (left m : ℕ) (rows : List Affine)
     → ask left m rows ≡ answered (run m left (first_rows 0 (problem_of m rows)))

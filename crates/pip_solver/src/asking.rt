@@ -9,7 +9,7 @@ ghost use Rattle.checked_tableau.specs.Nodes.{ask, context_holds, below_somewher
 ghost use Rattle.checked_tableau.specs.Nodes.{none_below, part_of, longer_form, formed};
 ghost use Rattle.checked_tableau.specs.Nodes.{opposite_run, above_run, under_run};
 ghost use Rattle.pip_solver.specs.Node.{node_of};
-ghost use Rattle.pip_solver.specs.Promises.{Tells, AsksOf};
+ghost use Rattle.pip_solver.specs.steps.Promises.{Tells, AsksOf};
 
 use crate::forms::{above, opposite, under};
 use crate::leaf::longer_with;

@@ -7,7 +7,8 @@ ghost use Rattle.integer_sets.specs.Constraints.{IsSized, variables_in};
 ghost use Rattle.whole_numbers.specs.Lists.{zeros};
 ghost use Rattle.checked_tableau.specs.Emptiness.{equality_rows_run, bound_rows};
 ghost use Rattle.checked_tableau.specs.Emptiness.{IsBoundedPoint, HasBoundedPoint};
-ghost use Rattle.pip_solver.specs.Promises.{Decides, Empties};
+ghost use Rattle.pip_solver.specs.Promises.{Empties};
+ghost use Rattle.pip_solver.specs.steps.Promises.{Decides};
 
 use crate::asking::ask;
 use crate::question::QuestionStop;

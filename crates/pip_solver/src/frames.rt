@@ -3,7 +3,7 @@
 //! in front of it. The tree's nodes go out in postfix order when a frame is taken off; so nothing recurses.
 ghost use Rattle.std.specs.Prelude.{◌≡◌, suc, [], ◌∷◌, ◌++◌, length, reverse, OnOk};
 ghost use Rattle.quast_trees.specs.Postfix.{standing};
-ghost use Rattle.pip_solver.specs.Frames.{joins, Resumes};
+ghost use Rattle.pip_solver.specs.steps.Frames.{joins, Resumes};
 
 use crate::node::Tableau;
 use affine_forms::Form;

@@ -11,7 +11,7 @@ ghost use Rattle.tableau_rows.specs.Moves.{row_at};
 ghost use Rattle.quast_trees.specs.Tree.{Tree, bind};
 ghost use Rattle.quast_trees.specs.Postfix.{standing, top};
 ghost use Rattle.checked_tableau.specs.Nodes.{all_divided, divided, padded, part_of, leaf_tree, longer_form};
-ghost use Rattle.pip_solver.specs.Frames.{under, KeepsSides};
+ghost use Rattle.pip_solver.specs.steps.Frames.{under, KeepsSides};
 
 use crate::forms::longer_forms;
 use crate::frames::{Frame, put};

@@ -3,7 +3,7 @@ ghost use Rattle.std.specs.Prelude.{◌≡◌, ℕ, ◌<◌, ◌≤◌, length, 
 ghost use Rattle.checked_tableau.specs.Nodes.{first_asked, below_somewhere, broken_somewhere, part_of};
 ghost use Rattle.checked_tableau.specs.Solutions.{IsNode};
 ghost use Rattle.pip_solver.specs.Node.{node_of};
-ghost use Rattle.pip_solver.specs.Promises.{Tells};
+ghost use Rattle.pip_solver.specs.steps.Promises.{Tells};
 
 use crate::asking::{below_somewhere, broken_somewhere};
 use crate::node::Tableau;

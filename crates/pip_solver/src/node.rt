@@ -10,8 +10,9 @@ ghost use Rattle.checked_tableau.specs.Nodes.{first_node, goes, opposite_run, pa
 ghost use Rattle.checked_tableau.specs.Solutions.{ArePlaced, IsNode};
 ghost use Rattle.checked_tableau.specs.declared.stop.TableauStop.TheVariants as stop;
 ghost use Rattle.pip_solver.specs.declared.node.Move.TheVariants as move;
-ghost use Rattle.pip_solver.specs.Node.{node_of, next_of, IsGoing, Keeps, Pivots, Moves, cut_known, cut_new};
-ghost use Rattle.pip_solver.specs.Node.{StopsAt, BindsOn};
+ghost use Rattle.pip_solver.specs.Node.{node_of, next_of, IsGoing, Keeps, Pivots, Moves};
+ghost use Rattle.pip_solver.specs.steps.Cuts.{cut_known, cut_new, BindsOn};
+ghost use Rattle.pip_solver.specs.Node.{StopsAt};
 
 use crate::bounds::{Bound, bind_front, copied_bounds, place_of};
 use crate::forms::{copies_with, opposite, tied_forms};

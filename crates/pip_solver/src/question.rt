@@ -3,7 +3,7 @@
 ghost use Rattle.std.specs.Prelude.{◌≡◌, ◌<◌, ◌≤◌, length, Ok, None};
 ghost use Rattle.tableau_rows.specs.Run.{cuts, next, pivots, run};
 ghost use Rattle.checked_tableau.specs.Nodes.{answered};
-ghost use Rattle.pip_solver.specs.Promises.{Shows, Advances, Tells, stop_of};
+ghost use Rattle.pip_solver.specs.steps.Promises.{Shows, Advances, Tells, stop_of};
 
 use checked_tableau::{Rows, TableauStop};
 

@@ -3,7 +3,7 @@ ghost use Rattle.std.specs.Prelude.{◌≡◌, [], ◌++◌, ◌≤◌, length, 
 ghost use Rattle.quast_trees.specs.Postfix.{standing};
 ghost use Rattle.checked_tableau.specs.Nodes.{whole};
 ghost use Rattle.pip_solver.specs.Node.{node_of};
-ghost use Rattle.pip_solver.specs.Frames.{under, joins, frames_for, IsReady, AreReady, Proceeds, Runs};
+ghost use Rattle.pip_solver.specs.steps.Frames.{under, joins, frames_for, IsReady, AreReady, Proceeds, Runs};
 
 use crate::frames::{Frame, put, resume};
 use crate::leaf::leaf;

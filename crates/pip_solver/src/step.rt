@@ -5,7 +5,7 @@ ghost use Rattle.tableau_rows.specs.Moves.{row_at};
 ghost use Rattle.checked_tableau.specs.Nodes.{split, pivot, cut, pivot_or_empty, treated, looked, step, part_of};
 ghost use Rattle.checked_tableau.specs.Solutions.{IsNode};
 ghost use Rattle.pip_solver.specs.Node.{node_of};
-ghost use Rattle.pip_solver.specs.Steps.{Steps};
+ghost use Rattle.pip_solver.specs.steps.Steps.{Steps};
 
 use crate::asking::{above_somewhere, context_holds};
 use crate::looking::{first_below, first_broken};

@@ -4,7 +4,7 @@ ghost use Rattle.affine_forms.specs.Gives.{Gives};
 ghost use Rattle.affine_forms.specs.Parts.{variables_of};
 ghost use Rattle.integer_sets.specs.Constraints.{variables_in};
 ghost use Rattle.checked_tableau.specs.Emptiness.{negated_run};
-ghost use Rattle.pip_solver.specs.Promises.{Forms, FormsEqualities, IsProblem};
+ghost use Rattle.pip_solver.specs.steps.Promises.{Forms, FormsEqualities, IsProblem};
 
 use crate::forms::oppose;
 use crate::stop::Stop;

@@ -4,7 +4,7 @@ ghost use Rattle.affine_forms.specs.Gives.{Gives};
 ghost use Rattle.checked_tableau.specs.Moves.{row_at, cut_run};
 ghost use Rattle.checked_tableau.specs.Nodes.{longer_row};
 ghost use Rattle.checked_tableau.specs.Lines.{behind_columns};
-ghost use Rattle.pip_solver.specs.Node.{tied_run, ties_run, TiesParts, TiesRows};
+ghost use Rattle.pip_solver.specs.steps.Cuts.{tied_run, ties_run, TiesParts, TiesRows};
 
 use crate::forms::{at_least, under};
 use affine_forms::{Form, FormStop};

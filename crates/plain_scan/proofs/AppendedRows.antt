@@ -12,7 +12,7 @@ use Rattle.fm_projection.proofs.EliminationRuns.{gone_dimensions}
 use Rattle.plain_scan.specs.Between.{HasSmallNumbers}
 use Rattle.plain_scan.specs.declared.outline.Shadow.{Shadow}
 use Rattle.plain_scan.specs.declared.numbers.Numbers.{Numbers}
-use Rattle.plain_scan.specs.Between.{IsAtLeast, IsAtMost, IsSmallIf, LiesBetween, AreSmall}
+use Rattle.plain_scan.specs.steps.Numbers.{IsAtLeast, IsAtMost, IsSmallIf, LiesBetween, AreSmall}
 use Rattle.fm_projection.proofs.WholePoints.{one_more}
 use Rattle.traced_projections.specs.declared.projections.Projection.{Projection}
 use Rattle.traced_projections.specs.declared.projections.Projection.TheVariants as projection
@@ -20,8 +20,8 @@ use Rattle.traced_projections.specs.Projections.{LastFollows, alone_of, last_tra
 use Rattle.traced_projections.specs.Projections.{without_of}
 use Rattle.traced_projections.proofs.Runs.{traced_dimensions, traced_parameters}
 use Rattle.plain_scan.specs.Sets.{IsKeyOf}
-use Rattle.plain_scan.specs.Shadows.{IsShadow}
-use Rattle.plain_scan.specs.Outlines.{IsRow, IsEquality, IsShadowIn, IsShadowOf, projection_at}
+use Rattle.plain_scan.specs.steps.Shadows.{IsShadow, IsRow, IsEquality, IsShadowIn}
+use Rattle.plain_scan.specs.Outlines.{IsShadowOf, projection_at}
 use Rattle.plain_scan.proofs.Rows.{negated}
 
 pub row_of_equality : (t : Constraints) (f : Affine) → IsEquality t f → HasSmallNumbers f → IsRow t f

@@ -10,11 +10,11 @@ use Rattle.fm_projection.proofs.WholePoints.{one_more}
 use Rattle.loop_tree.specs.Tree.{Trees}
 use Rattle.plain_scan.specs.declared.set_outline.Outline.{Outline}
 use Rattle.integer_sets.specs.Scanned.{Scanned}
-use Rattle.plain_scan.specs.Sets.{AllAtLeast, IsKeyOf, Keys, HaveDimensions, NumbersRise, sets_of, AreTested, leaves}
-use Rattle.plain_scan.specs.Rows.{ServesOn}
+use Rattle.plain_scan.specs.Sets.{IsKeyOf, Keys, NumbersRise, leaves}
+use Rattle.plain_scan.specs.steps.Serving.{AllAtLeast, HaveDimensions, sets_of, AreTested, ServesOn}
 use Rattle.fm_projection.specs.Alone.{AreInRange}
-use Rattle.plain_scan.specs.Pieces.{Piece, loops_of, AreEnough}
-use Rattle.plain_scan.specs.Hulls.{HoldsAt, IsAlike, IsHull, IsHullRow, AreHullRows, sets_in, hull_piece, own_leaf}
+use Rattle.plain_scan.specs.steps.Pieces.{Piece, loops_of, AreEnough, hull_piece}
+use Rattle.plain_scan.specs.Hulls.{HoldsAt, IsAlike, IsHull, IsHullRow, AreHullRows, sets_in, own_leaf}
 use Rattle.plain_scan.proofs.ConstraintLists.{zeros_of, of_zeros, rows_of, of_rows}
 use Rattle.plain_scan.proofs.Nodes.{length_end, tests_hold, hold_tests}
 use Rattle.plain_scan.proofs.Pieces.{dimension_serves, end_serves}
@@ -77,7 +77,7 @@ hull_step depth place n os fs h inside dims parallel body serves =
     below : coefficient_of place (place_form n place (negsuc 0) h.high) <ℤ pos 0
     below = let e = own_coefficient n place (negsuc 0) h.high inside in omega (arith, ints, e)
 
-    piece : Rattle.plain_scan.specs.Pieces.IsPiece depth place (sets_in os) [] p
+    piece : Rattle.plain_scan.specs.steps.Pieces.IsPiece depth place (sets_in os) [] p
     piece = record {
       low = (above, lows_are_low place h.others);
       high = (below, highs_are_high place h.others);

@@ -8,12 +8,11 @@ use Rattle.integer_sets.specs.Scanned.{Scanned}
 use Rattle.loop_tree.specs.Fits.{IsSmall}
 use Rattle.loop_tree.specs.Tree.{Trees, loop, more, none}
 use Rattle.plain_scan.specs.declared.set_outline.Outline.{Outline}
-use Rattle.plain_scan.specs.Giving.{HasIterators}
-use Rattle.plain_scan.specs.Hulls.{IsHull, hull_piece, own_leaf, sets_in}
-use Rattle.plain_scan.specs.Nodes.{IsNode, IsShaped}
-use Rattle.plain_scan.specs.Pieces.{loops_of}
+use Rattle.plain_scan.specs.Sets.{HasIterators, NumbersRise, leaves, IsShaped}
+use Rattle.plain_scan.specs.Hulls.{IsHull, own_leaf, sets_in}
+use Rattle.plain_scan.specs.steps.Pieces.{hull_piece, loops_of}
+use Rattle.plain_scan.specs.steps.Nodes.{IsNode}
 use Rattle.plain_scan.specs.Rows.{low_bounds, high_bounds}
-use Rattle.plain_scan.specs.Sets.{NumbersRise, leaves}
 use Rattle.plain_scan.specs.Sorting.{lows_in, highs_in}
 use Rattle.plain_scan.proofs.HullLoops.{dims_in, hull_step, own_coefficient, own_end, sets_are_small, small_forms}
 use Rattle.plain_scan.proofs.ScannedTrees.{IsRowOver, hull_rows, leaves_shaped, loop_shaped}

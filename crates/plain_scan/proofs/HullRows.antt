@@ -15,7 +15,8 @@ use Rattle.plain_scan.specs.declared.outline.Shadow.{Shadow}
 use Rattle.plain_scan.specs.declared.set_outline.Outline.{Outline}
 use Rattle.plain_scan.specs.Sets.{IsKeyOf}
 use Rattle.plain_scan.specs.Outlines.{IsRowBefore, IsShadowOf}
-use Rattle.plain_scan.specs.Hulls.{Hold, HoldsAt, IsAlike, IsHullRow, AreHullRows, IsHull}
+use Rattle.plain_scan.specs.Hulls.{HoldsAt, IsAlike, IsHullRow, AreHullRows, IsHull}
+use Rattle.plain_scan.specs.steps.Pieces.{Hold}
 use Rattle.plain_scan.proofs.Rows.{weaker_row}
 use Rattle.plain_scan.proofs.Smallness.{place_has_small}
 

@@ -7,10 +7,12 @@ use Rattle.whole_numbers.proofs.Tests.{if_both}
 use Rattle.integer_sets.specs.Points.{Satisfies}
 use Rattle.loop_tree.specs.Tree.{Bounds, Test, equal, Tree, loop, guard, instance, Trees, none, more}
 use Rattle.loop_tree.specs.Walk.{holds, all_hold, walk_all}
-use Rattle.loop_tree.specs.Scans.{Within, Spans, SpansAll, Covers, Scans, ScansAll, AreKeys, Exact}
+use Rattle.loop_tree.specs.Scans.{Within, Exact}
+use Rattle.loop_tree.specs.steps.Scanning.{Spans, SpansAll, Covers, Scans, ScansAll, AreKeys}
 use Rattle.integer_sets.specs.Scanned.{Scanned}
-use Rattle.plain_scan.specs.Sets.{AllZero, AllAtLeast, Keys, KeysAt, Serves, HaveDimensions, AllAbove}
-use Rattle.plain_scan.specs.Sets.{NumbersRise, equal_tests, row_tests, under, Leaf, sets_of, AreTested}
+use Rattle.plain_scan.specs.Sets.{Keys, AllAbove}
+use Rattle.plain_scan.specs.steps.Serving.{AllZero, AllAtLeast, KeysAt, Serves, HaveDimensions, sets_of, AreTested}
+use Rattle.plain_scan.specs.Sets.{NumbersRise, equal_tests, row_tests, under, Leaf}
 use Rattle.plain_scan.specs.Sets.{leaves}
 use Rattle.loop_tree.proofs.Visits.{exact}
 

@@ -21,7 +21,8 @@ use Rattle.fm_projection.proofs.Ranges.{last_value, place_value}
 use Rattle.fm_projection.proofs.RangeRows.{least_row, most_row}
 use Rattle.plain_scan.proofs.AppendedRows.{projected_shape}
 use Rattle.plain_scan.specs.Between.{IsOpenAbove, IsOpenBelow}
-use Rattle.plain_scan.specs.Outlines.{HasNoPoint, IsOpen, IsOpenSomewhere}
+use Rattle.plain_scan.specs.Outlines.{HasNoPoint, IsOpen}
+use Rattle.plain_scan.specs.steps.Shadows.{IsOpenSomewhere}
 
 -- the value of a form at a point of one entry
 one_value : (f : Affine) (x : ℤ) → value_of f (x ∷ []) ≡ (coefficient_of 0 f *ℤ x) +ℤ f.constant

@@ -3,15 +3,18 @@ use Rattle.scop_syntax.proofs.Common.{◌≡◌, ℕ, zero, suc, ℤ, List, [], 
 use Rattle.scop_syntax.proofs.Common.{refl, ◌∙◌, ◌≤ℤ◌, Affine, widened}
 use Rattle.loop_tree.specs.Tree.{Trees}
 use Rattle.loop_tree.specs.Walk.{lower, upper, walk_all}
-use Rattle.loop_tree.specs.Scans.{Within, Spans, SpansAll, Scans, ScansAll, Exact}
+use Rattle.loop_tree.specs.Scans.{Within, Exact}
+use Rattle.loop_tree.specs.steps.Scanning.{Spans, SpansAll, Scans, ScansAll}
 use Rattle.integer_sets.specs.Scanned.{Scanned}
-use Rattle.plain_scan.specs.Sets.{AllAtLeast, Keys, KeysAt, HaveDimensions, NumbersRise, row_tests, under}
-use Rattle.plain_scan.specs.Sets.{Leaf, sets_of, AreTested, leaves}
-use Rattle.plain_scan.specs.Rows.{low_bounds, high_bounds, AreLow, AreHigh, IsPlace, ServesOn}
+use Rattle.plain_scan.specs.Sets.{Keys, NumbersRise, row_tests, under}
+use Rattle.plain_scan.specs.steps.Serving.{AllAtLeast, KeysAt, HaveDimensions, sets_of, AreTested}
+use Rattle.plain_scan.specs.Sets.{Leaf, leaves}
+use Rattle.plain_scan.specs.Rows.{low_bounds, high_bounds}
+use Rattle.plain_scan.specs.steps.Serving.{AreLow, AreHigh, IsPlace, ServesOn, deeper}
 use Rattle.fm_projection.specs.Alone.{AreInRange}
 use Rattle.fm_projection.proofs.WholePoints.{one_more}
-use Rattle.plain_scan.specs.Rows.{deeper}
-use Rattle.plain_scan.specs.Pieces.{Piece, bounding, loop_of, loops_of, LiesIn, InSome, IsPiece, ArePieces, AreEnough}
+use Rattle.plain_scan.specs.steps.Pieces.{Piece, bounding, loop_of, loops_of, LiesIn, InSome, IsPiece, ArePieces}
+use Rattle.plain_scan.specs.steps.Pieces.{AreEnough}
 use Rattle.plain_scan.proofs.Nodes.{loop_scans, leaves_serve, length_end, serves_exact, rows_hold}
 use Rattle.plain_scan.proofs.Nodes.{hold_rows, under_spans, spans_under, under_scans}
 use Rattle.plain_scan.proofs.Rows.{widened_hold, lows_to, lows_from, highs_to, highs_from}

@@ -8,8 +8,8 @@ use Rattle.fractions.specs.Elimination.{coefficient_of, removed, narrowed}
 use Rattle.loop_tree.proofs.Extremes.{max_below, below_max, above_min, min_above}
 use Rattle.whole_numbers.proofs.Values.{value_of-widened}
 use Rattle.loop_tree.specs.Walk.{lower, upper}
-use Rattle.plain_scan.specs.Sets.{AllAtLeast}
-use Rattle.plain_scan.specs.Rows.{low_bound, high_bound, low_bounds, high_bounds, AreLow, AreHigh}
+use Rattle.plain_scan.specs.steps.Serving.{AllAtLeast, AreLow, AreHigh}
+use Rattle.plain_scan.specs.Rows.{low_bound, high_bound, low_bounds, high_bounds}
 
 -- a row is a multiple of the loop's value plus a rest
 dot_split : (outer : List ℤ) (x : ℤ) (params cs : List ℤ)

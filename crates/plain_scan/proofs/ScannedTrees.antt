@@ -17,7 +17,7 @@ use Rattle.loop_tree.specs.Fits.{IsSmall, form_in}
 use Rattle.loop_tree.specs.Shape.{BoundsAreOver, BoundsAreUpTo, IsOver, IsUpTo, TestIsUpTo}
 use Rattle.plain_scan.specs.declared.set_outline.Outline.{Outline}
 use Rattle.plain_scan.specs.Scanning.{AreOfSets, IsOfSets}
-use Rattle.plain_scan.specs.Shape.{AreShaped}
+use Rattle.plain_scan.specs.steps.Shape.{AreShaped}
 use Rattle.plain_scan.specs.Sets.{equal_tests, leaves, place_forms, row_tests, tests_of, turn_forms, under}
 use Rattle.plain_scan.specs.Rows.{high_bound, high_bounds, low_bound, low_bounds}
 use Rattle.plain_scan.specs.Sorting.{lows_in, highs_in}

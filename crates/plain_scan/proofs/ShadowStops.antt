@@ -13,9 +13,9 @@ use Rattle.traced_projections.specs.Projections.{PassesAlone, PassesOf, StopsAlo
 use Rattle.traced_projections.specs.Projections.{without_of}
 use Rattle.traced_projections.proofs.Runs.{follow_of}
 use Rattle.plain_scan.specs.Between.{IsLargeOf}
-use Rattle.plain_scan.specs.Shadows.{IsShadow}
-use Rattle.plain_scan.specs.Outlines.{IsLargeOwn, IsNext, IsOpen, IsOpenFrom, IsOpenSomewhere, PassEachAlone}
-use Rattle.plain_scan.specs.Outlines.{PassProjecting, StopsAt, StopsBy, StopsSet, StopsShadow}
+use Rattle.plain_scan.specs.steps.Shadows.{IsShadow, IsNext, IsOpenSomewhere, StopsShadow}
+use Rattle.plain_scan.specs.Outlines.{IsLargeOwn, IsOpen, IsOpenFrom, PassEachAlone}
+use Rattle.plain_scan.specs.Outlines.{PassProjecting, StopsAt, StopsBy, StopsSet}
 use Rattle.plain_scan.specs.Outlines.{projection_at}
 use Rattle.plain_scan.specs.Scanning.{StopsScan}
 use Rattle.plain_scan.proofs.AppendedRows.{projection_shape}

@@ -6,7 +6,7 @@ use Rattle.integer_sets.specs.Scanned.{Scanned}
 use Rattle.plain_scan.specs.Sets.{IsKeyOf}
 use Rattle.integer_sets.specs.Constraints.{Constraints}
 use Rattle.integer_sets.specs.Points.{Satisfies}
-use Rattle.plain_scan.specs.Shadows.{IsShadow, Follow}
+use Rattle.plain_scan.specs.steps.Shadows.{IsShadow, Follow}
 use Rattle.plain_scan.proofs.Nodes.{length_end}
 
 -- the set itself

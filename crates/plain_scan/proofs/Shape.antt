@@ -4,10 +4,11 @@ use Rattle.loop_tree.specs.Tree.{Test, Tree, instance}
 use Rattle.integer_sets.specs.Scanned.{Scanned}
 use Rattle.plain_scan.specs.Sets.{equal_tests, row_tests, tests_of, turn_forms, under, Leaf, leaves}
 use Rattle.plain_scan.specs.Hulls.{own_leaf}
-use Rattle.plain_scan.specs.Rows.{low_bounds, high_bounds, AreLow, AreHigh}
-use Rattle.plain_scan.specs.Pieces.{Piece, loop_of, loops_of, ArePieces}
+use Rattle.plain_scan.specs.Rows.{low_bounds, high_bounds}
+use Rattle.plain_scan.specs.steps.Serving.{AreLow, AreHigh}
+use Rattle.plain_scan.specs.steps.Pieces.{Piece, loop_of, loops_of, ArePieces}
 use Rattle.loop_tree.specs.Marks.{AreBounds, AreTests, Flat, FlatAll, Marks, MarksAll}
-use Rattle.plain_scan.specs.Shape.{HaveFlatBodies, AreMarked}
+use Rattle.plain_scan.specs.steps.Shape.{HaveFlatBodies, AreMarked}
 
 pub flat_lows : (m : ℕ) (f : Affine) (fs : List Affine) → AreLow m (f ∷ fs) → AreBounds (low_bounds m f fs)
 flat_lows m f [] h = h.0

@@ -1,8 +1,7 @@
 -- What holds of rows holds of those that are sorted out.
 use Rattle.scop_syntax.proofs.Common.{◌≡◌, ℕ, zero, suc, ℤ, pos, negsuc, List, [], ◌∷◌, All, refl, arith, ◌≤ℤ◌, ints}
 use Rattle.scop_syntax.proofs.Common.{All-cons, All-head, All-tail, Affine, value_of}
-use Rattle.plain_scan.specs.Sets.{AllAtLeast}
-use Rattle.plain_scan.specs.Rows.{AreLow, AreHigh}
+use Rattle.plain_scan.specs.steps.Serving.{AllAtLeast, AreLow, AreHigh}
 use Rattle.fractions.specs.Elimination.{coefficient_of}
 use Rattle.plain_scan.specs.Sorting.{if_above, if_below, lows_in, highs_in}
 

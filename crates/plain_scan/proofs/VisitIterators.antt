@@ -12,9 +12,9 @@ use Rattle.fm_projection.proofs.WholePoints.{one_more}
 use Rattle.loop_tree.specs.Tree.{Bounds, Test, Tree, Trees, instance, loop, more, none}
 use Rattle.loop_tree.specs.Walk.{Visit, all_hold, lower, through, upper, walk, walk_all}
 use Rattle.loop_tree.proofs.Lists.{in_between_from}
-use Rattle.plain_scan.specs.Sets.{leaves, place_forms, tests_of, turn_forms, under}
+use Rattle.plain_scan.specs.Sets.{leaves, place_forms, tests_of, turn_forms, under, HasIterators}
 use Rattle.plain_scan.specs.Hulls.{own_leaf}
-use Rattle.plain_scan.specs.Giving.{Gives, HasIterators, TurnsOn}
+use Rattle.plain_scan.specs.steps.Giving.{Gives, TurnsOn}
 
 -- forms of places give the entries there
 front_entry : (outer params : List ℤ) (i : ℕ) → i < length outer

@@ -16,7 +16,7 @@ use Rattle.plain_scan.specs.declared.set_outline.Outline.{Outline}
 use Rattle.plain_scan.specs.Between.{HasSmallNumbers}
 use Rattle.plain_scan.specs.Outlines.{IsRowBefore}
 use Rattle.plain_scan.specs.Hulls.{HoldsAt}
-use Rattle.plain_scan.specs.Weaker.{IsWeaker, Follows, IsAbove, greater_numbers, greater_form}
+use Rattle.plain_scan.specs.steps.Weaker.{IsWeaker, Follows, IsAbove, greater_numbers, greater_form}
 use Rattle.plain_scan.proofs.HullRows.{rows_at}
 
 -- the first m numbers stay, the others may be greater

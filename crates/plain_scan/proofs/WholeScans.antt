@@ -11,13 +11,14 @@ use Rattle.loop_tree.proofs.Fits.{small_fits_all}
 use Rattle.loop_tree.proofs.LargerBounds.{nested_all}
 use Rattle.plain_scan.specs.declared.set_outline.Outline.{Outline}
 use Rattle.plain_scan.specs.declared.outlined_sets.Outlines.{Outlines}
-use Rattle.plain_scan.specs.Sets.{HaveDimensions}
-use Rattle.plain_scan.specs.Hulls.{flags, sets_in}
+use Rattle.plain_scan.specs.Sets.{IsShaped}
+use Rattle.plain_scan.specs.steps.Serving.{HaveDimensions}
+use Rattle.plain_scan.specs.Hulls.{sets_in}
+use Rattle.plain_scan.specs.Scanning.{flags, AreScanned, IsScan, IsScanned, dimensions_of, mark_of, parameters_of}
 use Rattle.plain_scan.specs.Leaving.{LeavesOut}
-use Rattle.plain_scan.specs.Nodes.{IsShaped}
-use Rattle.plain_scan.specs.Outlined.{AreNodesOf, AreOutlined}
+use Rattle.plain_scan.specs.Outlined.{AreOutlined}
+use Rattle.plain_scan.specs.steps.Nodes.{AreNodesOf}
 use Rattle.plain_scan.specs.Outlines.{HasNoPoint}
-use Rattle.plain_scan.specs.Scanning.{AreScanned, IsScan, IsScanned, dimensions_of, mark_of, parameters_of}
 use Rattle.plain_scan.proofs.CodeBounds.{take_next}
 use Rattle.plain_scan.proofs.HullLoops.{dims_in}
 use Rattle.plain_scan.proofs.HullNodes.{dimensions_are}

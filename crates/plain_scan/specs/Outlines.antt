@@ -1,7 +1,6 @@
 -- Rows and numbers that hold at each point of a set's projections, and why they are not found.
-use Rattle.std.specs.Prelude.{◌≡◌, ℕ, zero, suc, ◌+◌, ◌-◌, ◌<◌, ◌≤◌, ◌^◌, ℤ, pos, ◌≤ℤ◌, List, [], ◌∷◌, ◌++◌, length}
-use Rattle.std.specs.Prelude.{get_or, All}
-use Rattle.std.specs.Prelude.{unsigned_abs, ◌⊎◌, Result, Ok, ⊤}
+use Rattle.std.specs.Prelude.{◌≡◌, ℕ, zero, suc, ◌+◌, ◌-◌, ◌<◌, ◌≤◌, ◌^◌, ℤ, pos, ◌≤ℤ◌, List, ◌∷◌, ◌++◌, length}
+use Rattle.std.specs.Prelude.{get_or, All, unsigned_abs, ◌⊎◌, ⊤}
 use Rattle.whole_numbers.specs.Affine.{Affine, value_of}
 use Rattle.affine_forms.specs.Parts.{variables_of}
 use Rattle.integer_sets.specs.Constraints.{Constraints, IsSized, variables_in}
@@ -9,42 +8,19 @@ use Rattle.integer_sets.specs.Points.{Satisfies}
 use Rattle.integer_sets.specs.Scanned.{Scanned}
 use Rattle.fm_projection.specs.declared.stop.FmStop.{FmStop}
 use Rattle.fm_projection.specs.declared.stop.FmStop.TheVariants as fm
-use Rattle.fm_projection.specs.Projecting.{projected}
-use Rattle.fm_projection.specs.Alone.{AreInRange, last_alone}
+use Rattle.fm_projection.specs.Alone.{AreInRange}
 use Rattle.traced_projections.specs.declared.projections.Projection.{Projection}
 use Rattle.traced_projections.specs.declared.projections.Projection.TheVariants.{Exact, Traced}
 use Rattle.traced_projections.specs.Tracing.{traced}
-use Rattle.traced_projections.specs.Projections.{DropsOf, PassesAlone, PassesOf, StopsAloneOf, StopsOf, alone_of}
+use Rattle.traced_projections.specs.Projections.{PassesAlone, PassesOf, StopsAloneOf, StopsOf, alone_of}
 use Rattle.traced_projections.specs.Projections.{system_in, without_of}
-use Rattle.plain_scan.specs.Between.{HasSmallNumbers}
+use Rattle.plain_scan.specs.Between.{HasSmallNumbers, IsLargeOf, IsOpenAbove, IsOpenBelow}
 use Rattle.plain_scan.specs.Sets.{IsKeyOf}
 use Rattle.plain_scan.specs.declared.outline.Shadow.{Shadow}
-use Rattle.plain_scan.specs.Between.{IsLargeOf, IsOpenAbove, IsOpenBelow}
-
--- a row of small numbers over the system's variables that none of its whole points leaves
-pub record IsRow (t : Constraints) (f : Affine) : Type 0 where
-  pub sized : variables_of f ≡ variables_in t
-  pub small : HasSmallNumbers f
-  pub holds : (point : List ℤ) → Satisfies t point → pos 0 ≤ℤ value_of f point
-
--- a form over the system's variables that is 0 at each of its whole points
-pub record IsEquality (t : Constraints) (f : Affine) : Type 0 where
-  pub sized : variables_of f ≡ variables_in t
-  pub holds : (point : List ℤ) → Satisfies t point → value_of f point ≡ pos 0
-
--- such rows
-abbrev pub AreRows : Constraints → List Affine → Type 0
-AreRows t fs = All (IsRow t) fs
 
 -- small numbers
 abbrev pub AreSmallEnds : Shadow → Type 0
 AreSmallEnds shadow = (unsigned_abs shadow.low ≤ 2 ^ 40) × (unsigned_abs shadow.high ≤ 2 ^ 40)
-
--- rows of a projection, and small numbers between which what is left of its last dimension alone lies
-pub record IsShadowIn (t last : Constraints) (shadow : Shadow) : Type 0 where
-  pub rows : AreRows t shadow.rows.items
-  pub between : (x : ℤ) → Satisfies last (x ∷ []) → (shadow.low ≤ℤ x) × (x ≤ℤ shadow.high)
-  pub small : AreSmallEnds shadow
 
 -- the row is at least 0 at the first values of each key of the set, all but those of the last n dimensions, for
 -- parameters in range
@@ -81,13 +57,6 @@ pub record AreShadows (s : Scanned) (shadows : List Shadow) : Type 0 where
 abbrev pub IsOpen : Constraints → Type 0
 IsOpen last = IsOpenBelow last ⊎ IsOpenAbove last
 
--- one of the exact projections of a set on its first dimensions is open in its last
-pub record IsOpenSomewhere (s : Constraints) : Type 0 where
-  pub sized : IsSized (variables_in s) s.equalities s.rows
-  pub before : ℕ
-  pub less : before < s.dimensions
-  pub there : IsOpen (last_alone (projected before s))
-
 -- the set has no whole point for parameters in 0..=65536
 abbrev pub HasNoPoint : Constraints → Type 0
 HasNoPoint s =
@@ -113,26 +82,6 @@ pub record IsOpenFrom (p : Projection) : Type 0 where
   pub passed : PassProjecting before p
   pub alone : PassEachAlone (suc before) p
   pub there : IsOpen (alone_of (projection_at before p))
-
--- the numbers of what is left alone give no shadow, since one is beyond 2^40; want of memory is free
-abbrev pub StopsNumbers : Constraints → FmStop → Type 0
-StopsNumbers last (fm.Wide w) = ⊥
-StopsNumbers last (fm.Crowded pairs) = ⊥
-StopsNumbers last (fm.Large number) = IsLargeOf last number
-StopsNumbers last fm.NoMemory = ⊤
-
--- the shadow of a projection is not found, since an elimination stops or a number is beyond 2^40; want of memory is
--- free
-abbrev pub StopsShadow : Projection → FmStop → Type 0
-StopsShadow p (fm.Wide w) = StopsAloneOf p (fm.Wide w)
-StopsShadow p (fm.Crowded pairs) = StopsAloneOf p (fm.Crowded pairs)
-StopsShadow p (fm.Large number) = PassesAlone p × IsLargeOf (alone_of p) number
-StopsShadow p fm.NoMemory = ⊤
-
--- the projection that comes behind n others: without the last dimension of the one before it, or the first itself
-abbrev pub IsNext : ℕ → Projection → Result Projection FmStop → Type 0
-IsNext zero last result = result ≡ Ok last
-IsNext (suc n) last result = DropsOf ((system_in last).dimensions - 1) last result
 
 -- the first elimination of the projections that stops does so: of the others and the parameters, for the last
 -- dimension alone, or then of the last dimension, if it is not the first

@@ -11,9 +11,10 @@ use Rattle.loop_tree.specs.Scans.{Exact}
 use Rattle.loop_tree.specs.Shape.{NestAllTo, TreesAreOver, TreesAreUpTo}
 use Rattle.loop_tree.specs.Tree.{Tree, loop, guard, instance, Trees, none, more}
 use Rattle.loop_tree.specs.Walk.{Visit, walk_all}
-use Rattle.plain_scan.specs.Hulls.{flags}
 use Rattle.plain_scan.specs.Outlines.{StopsSet}
 use Rattle.plain_scan.specs.Sets.{Keys}
+use Rattle.std.specs.Option.{option_eq}
+use Rattle.std.specs.Prelude.{suc, eqb, Some, Bool}
 
 -- how many dimensions sets have, whose number is that of the first
 abbrev pub dimensions_of : List Scanned → ℕ
@@ -61,6 +62,11 @@ abbrev mutual
   pub AreOfSets : List Scanned → Trees → Type 0
   AreOfSets sets none = ⊤
   AreOfSets sets (more t ts) = IsOfSets sets t × AreOfSets sets ts
+
+-- whether each of so many dimensions, from a place on, is the parallel one
+abbrev pub flags : Option ℕ → ℕ → ℕ → List Bool
+flags parallel place zero = []
+flags parallel place (suc n) = option_eq eqb parallel (Some place) ∷ flags parallel (suc place) n
 
 -- trees that scan sets: for parameters in range they visit exactly the keys, in order, give the iterators, and their
 -- numbers fit; the numbers are small, the forms over the parameters and the loops round, which are one a dimension at

@@ -1,23 +1,11 @@
 -- The sets that a tree scans: one for each statement, and the keys of their points.
-use Rattle.std.specs.Prelude.{◌≡◌, true, ℕ, zero, suc, ◌<◌, ℤ, pos, ◌≤ℤ◌, List, [], ◌∷◌, ◌++◌, length, ◌⊎◌, ⊤}
-use Rattle.whole_numbers.specs.Affine.{Affine, value_of}
+use Rattle.std.specs.Prelude.{◌≡◌, ℕ, zero, suc, ◌<◌, ℤ, pos, List, [], ◌∷◌, ◌++◌, length, ◌⊎◌, ⊤, ◌+◌, ◌≤◌}
+use Rattle.whole_numbers.specs.Affine.{Affine}
 use Rattle.integer_sets.specs.Constraints.{variables_in}
 use Rattle.integer_sets.specs.Points.{Satisfies}
 use Rattle.integer_sets.specs.Scanned.{Scanned}
 use Rattle.fm_projection.specs.Alone.{place_form}
 use Rattle.loop_tree.specs.Tree.{Test, at_least, equal, Tree, guard, instance, Trees, none, more}
-use Rattle.loop_tree.specs.Walk.{all_hold}
-use Rattle.loop_tree.specs.Scans.{Covers, ScansAll}
-
--- each form is 0 at the point
-abbrev pub AllZero : List Affine → List ℤ → Type 0
-AllZero [] point = ⊤
-AllZero (f ∷ fs) point = (value_of f point ≡ pos 0) × AllZero fs point
-
--- each form is at least 0 at the point
-abbrev pub AllAtLeast : List Affine → List ℤ → Type 0
-AllAtLeast [] point = ⊤
-AllAtLeast (f ∷ fs) point = (pos 0 ≤ℤ value_of f point) × AllAtLeast fs point
 
 -- r is a point of the set and then its statement
 pub record IsKeyOf (params : List ℤ) (s : Scanned) (r : List ℤ) : Type 0 where
@@ -30,20 +18,6 @@ pub record IsKeyOf (params : List ℤ) (s : Scanned) (r : List ℤ) : Type 0 whe
 abbrev pub Keys : List Scanned → List ℤ → List ℤ → Type 0
 Keys [] params r = ⊥
 Keys (s ∷ sets) params r = IsKeyOf params s r ⊎ Keys sets params r
-
--- those of them that begin with the given values
-abbrev pub KeysAt : List Scanned → List ℤ → List ℤ → List ℤ → Type 0
-KeysAt sets params outer r = Keys sets params (outer ++ r)
-
--- a sequence that k loops go down from visits what the sets have behind the outer values
-pub record Serves (k : ℕ) (sets : List Scanned) (ts : Trees) (params outer : List ℤ) : Type 0 where
-  pub covers : Covers (KeysAt sets params outer) ts params outer
-  pub scans : ScansAll k (KeysAt sets params outer) ts params outer
-
--- sets of n dimensions
-abbrev pub HaveDimensions : ℕ → List Scanned → Type 0
-HaveDimensions n [] = ⊤
-HaveDimensions n (s ∷ sets) = (s.system.dimensions ≡ n) × HaveDimensions n sets
 
 -- statements' numbers above n
 abbrev pub AllAbove : ℕ → List Scanned → Type 0
@@ -89,19 +63,17 @@ pub record Leaf : Type 0 where
   pub tests : List Test
   pub turns : List Affine
 
--- the sets of leaves
-abbrev pub sets_of : List Leaf → List Scanned
-sets_of [] = []
-sets_of (l ∷ ls) = l.set ∷ sets_of ls
-
--- the tests tell the set's points
-abbrev pub AreTested : List Leaf → List ℤ → Type 0
-AreTested [] point = ⊤
-AreTested (l ∷ ls) point =
-    (all_hold l.tests point ≡ true → Satisfies l.set.system point)
-    × (Satisfies l.set.system point → all_hold l.tests point ≡ true) × AreTested ls point
-
 -- the innermost sequence: each statement under its tests
 abbrev pub leaves : List Leaf → Trees
 leaves [] = none
 leaves (l ∷ ls) = more (under l.tests (instance l.set.statement l.turns)) (leaves ls)
+
+-- the statement's iterators stand among the first m dimensions
+abbrev pub HasIterators : ℕ → Scanned → Type 0
+HasIterators m s = (s.first + s.iterators ≤ m) × (m ≤ variables_in s.system)
+
+-- a set of n dimensions and p parameters
+pub record IsShaped (n p : ℕ) (s : Scanned) : Type 0 where
+  pub dimensions : s.system.dimensions ≡ n
+  pub parameters : s.system.parameters ≡ p
+  pub iterators : HasIterators n s

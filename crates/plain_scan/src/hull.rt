@@ -7,7 +7,8 @@ ghost use Rattle.whole_numbers.specs.Affine.{Affine, form_of, value_of};
 ghost use Rattle.affine_forms.specs.Parts.{variables_of};
 ghost use Rattle.plain_scan.specs.Between.{HasSmallNumbers};
 ghost use Rattle.plain_scan.specs.declared.outline.Shadow.{Shadow};
-ghost use Rattle.plain_scan.specs.Hulls.{AreHullRows, Hold, HoldsAt, IsAlike, IsHull};
+ghost use Rattle.plain_scan.specs.Hulls.{AreHullRows, HoldsAt, IsAlike, IsHull};
+ghost use Rattle.plain_scan.specs.steps.Pieces.{Hold};
 
 use crate::numbers::{greater, opposite};
 use crate::set_outline::Outline;

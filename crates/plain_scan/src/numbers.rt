@@ -8,7 +8,8 @@ ghost use Rattle.affine_forms.specs.Parts.{variables_of};
 ghost use Rattle.fractions.specs.Elimination.{coefficient_of};
 ghost use Rattle.loop_tree.specs.Walk.{max_z};
 ghost use Rattle.plain_scan.specs.Between.{HasSmallNumbers};
-ghost use Rattle.plain_scan.specs.Between.{AreNumbersOf, AreSmall, IsLargeAmong, IsLargeIn, LiesBetween};
+ghost use Rattle.plain_scan.specs.Between.{IsLargeAmong, IsLargeIn};
+ghost use Rattle.plain_scan.specs.steps.Numbers.{AreNumbersOf, AreSmall, LiesBetween};
 
 use affine_forms::Form;
 use integer_sets::System;

@@ -8,9 +8,11 @@ ghost use Rattle.fm_projection.specs.declared.stop.FmStop.TheVariants.{Large};
 ghost use Rattle.traced_projections.specs.declared.projections.Projection.TheVariants as projection;
 ghost use Rattle.traced_projections.specs.Projections.{LastFollows, PassesAlone, alone_of, system_in};
 ghost use Rattle.plain_scan.specs.Between.{HasSmallNumbers, IsLargeOf};
-ghost use Rattle.plain_scan.specs.Outlines.{AreRows, AreShadows, HasSmallConstraints};
-ghost use Rattle.plain_scan.specs.Outlines.{IsEquality, IsNext, IsOpen, IsOpenFrom, IsOpenSomewhere};
-ghost use Rattle.plain_scan.specs.Outlines.{IsRow, IsShadowIn, StopsBy, StopsNumbers, StopsSet, StopsShadow};
+ghost use Rattle.plain_scan.specs.Outlines.{AreShadows, HasSmallConstraints};
+ghost use Rattle.plain_scan.specs.steps.Shadows.{AreRows, IsEquality, IsNext, IsOpenSomewhere};
+ghost use Rattle.plain_scan.specs.Outlines.{IsOpen, IsOpenFrom};
+ghost use Rattle.plain_scan.specs.Outlines.{StopsBy, StopsSet};
+ghost use Rattle.plain_scan.specs.steps.Shadows.{IsRow, IsShadowIn, StopsNumbers, StopsShadow};
 
 use crate::numbers::{has_small_numbers, large_among, numbers_alone};
 use affine_forms::{Form, FormStop, push_copy};

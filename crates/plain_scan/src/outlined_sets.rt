@@ -2,7 +2,7 @@
 
 ghost use Rattle.std.specs.Prelude.{◌+◌, ◌<◌, ◌^◌, All, length};
 ghost use Rattle.plain_scan.specs.Hulls.{sets_in};
-ghost use Rattle.plain_scan.specs.Nodes.{IsShaped};
+ghost use Rattle.plain_scan.specs.Sets.{IsShaped};
 
 use crate::set_outline::Outline;
 

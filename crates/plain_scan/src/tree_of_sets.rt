@@ -5,7 +5,8 @@ ghost use Rattle.loop_tree.specs.View.{trees_in};
 ghost use Rattle.plain_scan.specs.Sets.{NumbersRise};
 ghost use Rattle.plain_scan.specs.Hulls.{sets_in};
 ghost use Rattle.plain_scan.specs.Leaving.{LeavesOut};
-ghost use Rattle.plain_scan.specs.Outlined.{AreNodesOf, AreOutlined};
+ghost use Rattle.plain_scan.specs.Outlined.{AreOutlined};
+ghost use Rattle.plain_scan.specs.steps.Nodes.{AreNodesOf};
 ghost use Rattle.plain_scan.specs.Scanning.{AreScanned, IsScan, StopsScan, dimensions_of, mark_of, parameters_of};
 
 use crate::bounds::{leaves, loop_round};

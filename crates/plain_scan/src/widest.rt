@@ -9,7 +9,7 @@ ghost use Rattle.whole_numbers.specs.Content.{lowest_of_form};
 ghost use Rattle.affine_forms.specs.Parts.{variables_of};
 ghost use Rattle.plain_scan.specs.Between.{HasSmallNumbers};
 ghost use Rattle.plain_scan.specs.Hulls.{AreHullRows, IsAlike, IsHullRow};
-ghost use Rattle.plain_scan.specs.Weaker.{IsAbove, IsAboveSome, greater_form, greater_numbers};
+ghost use Rattle.plain_scan.specs.steps.Weaker.{IsAbove, IsAboveSome, greater_form, greater_numbers};
 
 use crate::hull::same;
 use crate::numbers::{greater, has_small_numbers};

@@ -21,7 +21,7 @@ use Rattle.plan_check.specs.Progress.{opening}
 use Rattle.plan_check.specs.Text.{goal, lines_of}
 use Rattle.plan_certificate.specs.Certificates.{behind_text, certificate_of, derivation_of, proofs_text, steps_text}
 use Rattle.plan_certificate.specs.SchedulePlan.{plan_of_blocks}
-use Rattle.plan_certificate.specs.steps.Narrow.{IsNarrow}
+use Rattle.plan_certificate.specs.Certificates.{IsNarrow}
 use Rattle.plan_certificate.proofs.AcceptedBlocks.{blocks_printed}
 use Rattle.plan_certificate.proofs.AcceptedConflicts.{conflict_over}
 use Rattle.plan_certificate.proofs.AcceptedGoals.{goals_sized}

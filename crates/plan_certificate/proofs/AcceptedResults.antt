@@ -8,8 +8,8 @@ use Rattle.schedule_rows.specs.Items.{Block}
 use Rattle.schedule_rows.specs.Outcomes.{IsSchedule}
 use Rattle.schedule_rows.specs.Schedule.{Scheduled, loops_in}
 use Rattle.plan_check.specs.Judged.{judged}
-use Rattle.plan_certificate.specs.Certificates.{certificate_of}
-use Rattle.plan_certificate.specs.steps.Narrow.{IsCertified, IsNarrow}
+use Rattle.plan_certificate.specs.Certificates.{certificate_of, IsNarrow}
+use Rattle.plan_certificate.specs.steps.Narrow.{IsCertified}
 use Rattle.plan_certificate.specs.declared.stop.CertifyStop.{CertifyStop}
 
 -- the law of certificates

@@ -9,8 +9,7 @@ ghost use Rattle.schedule_rows.specs.Items.{Block};
 ghost use Rattle.schedule_rows.specs.Outcomes.{IsSchedule};
 ghost use Rattle.schedule_rows.specs.Schedule.{loops_in};
 ghost use Rattle.plan_check.specs.Judged.{judged};
-ghost use Rattle.plan_certificate.specs.Certificates.{certificate_of};
-ghost use Rattle.plan_certificate.specs.steps.Narrow.{IsNarrow};
+ghost use Rattle.plan_certificate.specs.Certificates.{certificate_of, IsNarrow};
 
 use crate::derivation_laws::derivations_are_accepted;
 use conflict_deps::conflict_laws::systems_have_parts;

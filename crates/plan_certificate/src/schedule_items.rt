@@ -2,7 +2,7 @@
 //! all other items stand behind them.
 ghost use Rattle.std.specs.Prelude.{◌≡◌, IfOk, OnOk, map};
 ghost use Rattle.schedule_rows.specs.Schedule.{item_of};
-ghost use Rattle.report_text.specs.ScheduleLines.{part_view};
+ghost use Rattle.report_text.specs.steps.ScheduleLines.{part_view};
 ghost use Rattle.plan_check.specs.PlanView.{plan_of};
 ghost use Rattle.plan_certificate.specs.SchedulePlan.{form_of_part};
 ghost use Rattle.plan_certificate.specs.steps.ItemPlans.{IsPlanned, in_first, with_item, with_numbers, with_row};

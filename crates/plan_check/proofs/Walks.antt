@@ -19,7 +19,8 @@ use Rattle.plan_check.specs.Goals.{above, bounded, difference, goals_of, later_g
 use Rattle.plan_check.specs.Goals.{row_goals, upper_rows}
 use Rattle.plan_check.specs.Plans.{AreFor, AreUp, IsFor, IsItemUp, IsUp, Plan, PlanItem, PlanRow, Suits, form_for, number_of}
 use Rattle.plan_check.specs.Plans.{rows, numbers}
-use Rattle.plan_check.specs.steps.Walks.{CanGo, Finds, FitsRow, band_goals_at, goals_at, rows_behind, with_rows}
+use Rattle.plan_check.specs.steps.Walks.{Finds, FitsRow, rows_behind, with_rows}
+use Rattle.plan_check.specs.GoalList.{CanGo, band_goals_at, goals_at}
 use Rattle.plan_check.specs.declared.walk.Found.{Found}
 use Rattle.plan_check.specs.declared.walk.Place.{Place}
 use Rattle.plan_check.proofs.ConflictPairs.{coefficients_at, ends_of}

@@ -9,3 +9,5 @@ pub mod Judged
 pub mod FirstFaults
 pub mod TextView
 pub mod steps
+pub mod GoalList
+pub mod Taking

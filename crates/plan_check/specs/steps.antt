@@ -1,4 +1,3 @@
 -- What only proofs and private contracts need.
 pub mod Walks
 pub mod Stages
-pub mod Taking

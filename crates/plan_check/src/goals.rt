@@ -10,7 +10,7 @@ pub struct Goals {
 }
 
 impl Model for Goals {
-    ghost use Rattle.plan_check.specs.steps.Walks.{AreGoals, Listed, listed};
+    ghost use Rattle.plan_check.specs.GoalList.{AreGoals, Listed, listed};
 
     ghost Value = { Listed };
 

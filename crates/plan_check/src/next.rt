@@ -3,8 +3,8 @@ ghost use Rattle.std.specs.Prelude.{◌≡◌, IfOk, None, Some};
 ghost use Rattle.plan_check.specs.Goals.{goals_in, loops_in};
 ghost use Rattle.plan_check.specs.Plans.{IsUp, Suits};
 ghost use Rattle.plan_check.specs.PlanView.{plan_of};
-ghost use Rattle.plan_check.specs.steps.Taking.{Takes};
-ghost use Rattle.plan_check.specs.steps.Walks.{AreAll, AreGoals, CanGo, listed};
+ghost use Rattle.plan_check.specs.Taking.{Takes};
+ghost use Rattle.plan_check.specs.GoalList.{AreAll, AreGoals, CanGo, listed};
 
 use crate::goals::Goals;
 use crate::plan::PlanItems;

@@ -7,7 +7,8 @@ ghost use Rattle.iteration_domains.specs.Restrictions.{row_behind};
 ghost use Rattle.plan_check.specs.Goals.{band_goals, difference, goals_of, later_goals, leading_goals, restricted};
 ghost use Rattle.plan_check.specs.Plans.{Plan, number_of, rows};
 ghost use Rattle.plan_check.specs.PlanView.{plan_of, row_of};
-ghost use Rattle.plan_check.specs.steps.Walks.{CanGo, Finds, FindsNext, FitsRow, band_goals_at, goals_at};
+ghost use Rattle.plan_check.specs.steps.Walks.{Finds, FindsNext, FitsRow};
+ghost use Rattle.plan_check.specs.GoalList.{CanGo, band_goals_at, goals_at};
 
 use crate::plan::{BandRow, LaterItem, PlanItems};
 use crate::row_goals::{bounded, equal, falling, rising};

@@ -4,7 +4,7 @@ use Rattle.iteration_domains.specs.Dependence.{Dependence}
 use Rattle.iteration_domains.specs.Model.{KernelModel}
 use Rattle.pluto_search.specs.Next.{IsSizedDep}
 use Rattle.pluto_search.specs.Schedule.{loops_in}
-use Rattle.pluto_search.specs.Steps.{AreBetween}
+use Rattle.pluto_search.specs.Searching.{AreBetween}
 use Rattle.pluto_search.proofs.ModelLoops.{loops_at}
 use Rattle.plan_search.specs.Found.{LieBetween}
 

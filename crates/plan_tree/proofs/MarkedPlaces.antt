@@ -5,7 +5,7 @@ use Rattle.scop_syntax.proofs.Common.{if◌then◌else◌, option_eq, eqb-true, 
 use Rattle.loop_tree.specs.Tree.{Tree, loop, guard, instance, Trees, none, more}
 use Rattle.loop_tree.specs.Marks.{Marks, MarksAll, marked}
 use Rattle.loop_tree.specs.Shape.{IsSerial, AreSerial}
-use Rattle.plain_scan.specs.Hulls.{flags}
+use Rattle.plain_scan.specs.Scanning.{flags}
 use Rattle.plan_tree.specs.steps.Parting.{PartAt}
 
 -- no place from j on is marked

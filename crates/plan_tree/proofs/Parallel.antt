@@ -18,8 +18,7 @@ use Rattle.tile_skew.specs.Tilings.{leading_at, first_band_at, behind_at, statem
 use Rattle.tile_skew.proofs.TilingAgreement.{items_found}
 use Rattle.tile_skew.proofs.AlikeSets.{scanned_alike}
 use Rattle.tile_skew.proofs.PlaceOrder.{band_lengths}
-use Rattle.plain_scan.specs.Hulls.{flags}
-use Rattle.plain_scan.specs.Scanning.{GiveIterators, dimensions_of, mark_of}
+use Rattle.plain_scan.specs.Scanning.{flags, GiveIterators, dimensions_of, mark_of}
 use Rattle.plan_tree.specs.Schedules.{tiling_of}
 use Rattle.plan_tree.specs.steps.Parting.{NoneConflict, PartAt}
 use Rattle.plan_tree.proofs.ConflictFreedom.{free_all}

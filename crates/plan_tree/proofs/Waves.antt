@@ -7,7 +7,7 @@ use Rattle.loop_tree.specs.Marks.{marked}
 use Rattle.loop_tree.specs.Plans.{Conflict, first_coordinate}
 use Rattle.loop_tree.specs.Tiling.{TileRow, Item, Items, Tiling, item_values, coordinates, wave_sum, tile_of, wave_of}
 use Rattle.loop_tree.specs.Tiling.{IsInOrder, IsGoodPlan}
-use Rattle.plain_scan.specs.Hulls.{flags}
+use Rattle.plain_scan.specs.Scanning.{flags}
 use Rattle.tile_skew.specs.Places.{place_of}
 use Rattle.tile_skew.specs.ScanSets.{parallel_place}
 use Rattle.planned_trees.proofs.Orders.{length_wave, wave_at}

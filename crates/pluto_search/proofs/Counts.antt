@@ -12,8 +12,8 @@ use Rattle.pluto_systems.specs.Unknowns.{part_numbers}
 use Rattle.pluto_systems.specs.Unknowns as unknowns
 use Rattle.pluto_systems.specs.Placing.{AreShaped}
 use Rattle.pluto_systems.specs.Posing.{IsBetween}
-use Rattle.pluto_search.specs.Sizes.{IsCount, AreCounts, CanTell, CanNarrowEach}
-use Rattle.pluto_search.specs.Steps.{IsGoodRow}
+use Rattle.pluto_search.specs.steps.Sizes.{IsCount, AreCounts, CanTell, CanNarrowEach}
+use Rattle.pluto_search.specs.steps.Steps.{IsGoodRow}
 
 all_turned : {X : Type 0} (P : X → Type 0) (xs : List X) → All P xs → All P (reverse xs)
 all_turned P [] h = h

@@ -20,7 +20,8 @@ use Rattle.pluto_systems.specs.Posing.{RuledDep, IsRuled, dep_of, IsBetween, Are
 use Rattle.pluto_systems.specs.Posing.{posed_system, ruled_run}
 use Rattle.pluto_search.specs.declared.state.Progress.{Progress}
 use Rattle.pluto_search.specs.Questions.{AreRuledBy, IsRuledBy, IsPosedAt}
-use Rattle.pluto_search.specs.Steps.{state_of, vectors_in, IsGood, IsGoodRow, AllRuled, AreBetween}
+use Rattle.pluto_search.specs.steps.Steps.{state_of, vectors_in, IsGood, IsGoodRow, AllRuled}
+use Rattle.pluto_search.specs.Searching.{AreBetween}
 
 abbrev pub Vectors : Type 0
 Vectors = Vec (Vec ℤ Global) Global

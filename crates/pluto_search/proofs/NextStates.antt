@@ -29,15 +29,16 @@ use Rattle.pluto_systems.specs.Placing.{AreShaped}
 use Rattle.pluto_systems.specs.Posing.{RuledDep, dep_of, AreVectorsOf}
 use Rattle.pluto_systems.proofs.Rows.{posed_shape}
 use Rattle.pluto_search.specs.declared.state.Progress.{Progress}
-use Rattle.pluto_search.specs.StepParts.{AreWithin, IsClosed, IsCut, DropsNone, Cuts, EndsWith, Ended, IsAppended}
+use Rattle.pluto_search.specs.steps.StepParts.{AreWithin, IsClosed, IsCut, DropsNone, Cuts, EndsWith, Ended, IsAppended}
 use Rattle.pluto_search.specs.declared.kept.Kept.TheVariants as kept
 use Rattle.pluto_search.specs.Questions.{AnswersRestricted, FindsNone, IsPosedAt, StopsAt, StopsRestricted}
-use Rattle.pluto_search.specs.Stopping.{IsStop}
+use Rattle.pluto_search.specs.steps.Stopping.{IsStop}
 use Rattle.pluto_search.proofs.QuestionStops.{stop_of, stop_at}
 use Rattle.integer_sets.specs.Constraints.{Constraints}
 use Rattle.pluto_search.specs.Questions.{AreRuledBy}
-use Rattle.pluto_search.specs.Sizes.{CanNarrowEach, narrowed_each}
-use Rattle.pluto_search.specs.Steps.{state_of, vectors_in, IsGood, IsGoodRow, AreBetween, Steps, going, KeepsAt}
+use Rattle.pluto_search.specs.steps.Sizes.{CanNarrowEach, narrowed_each}
+use Rattle.pluto_search.specs.steps.Steps.{state_of, vectors_in, IsGood, IsGoodRow, Steps, going, KeepsAt}
+use Rattle.pluto_search.specs.Searching.{AreBetween}
 use Rattle.pluto_search.proofs.Counts.{IsSmallPart, row_small, small_part, shaped_length, counts_within}
 use Rattle.schedule_rows.proofs.Pairs.{legal_kept, parallel_exact}
 use Rattle.schedule_rows.specs.Dependences.{IsEmptyDep, Suits, above_at}

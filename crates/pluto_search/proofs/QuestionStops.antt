@@ -10,10 +10,10 @@ use Rattle.pluto_search.specs.declared.kept.Kept.TheVariants as kept
 use Rattle.pip_solver.specs.Minimum.{Minimizes}
 use Rattle.pluto_search.specs.Questions.{StopsRows, StopsMinimum, AsksFirst, Answered, AnswersAt, StopsAt}
 use Rattle.pluto_search.specs.Searching.{Keeps}
-use Rattle.pluto_search.specs.Steps.{KeepsAt}
-use Rattle.pluto_search.specs.StepParts.{IsLarge}
+use Rattle.pluto_search.specs.steps.Steps.{KeepsAt}
+use Rattle.pluto_search.specs.steps.StepParts.{IsLarge}
 use Rattle.schedule_rows.specs.Outcomes.{large, Next}
-use Rattle.pluto_search.specs.Stopping.{kept_by_solver, kept_by_rows, IsStop}
+use Rattle.pluto_search.specs.steps.Stopping.{kept_by_solver, kept_by_rows, IsStop}
 
 pub minimum_stops : (budget : ℕ) (s : Constraints) (stop : solver.the_data) → Minimizes (Err stop) budget s
     → IsStop (StopsMinimum budget s) (kept_by_solver stop)

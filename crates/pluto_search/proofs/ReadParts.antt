@@ -4,7 +4,7 @@ use Rattle.scop_syntax.proofs.Common.{get_or, add-one, drop-cons, append_assoc, 
 use Rattle.pluto_systems.specs.Unknowns.{Part}
 use Rattle.pluto_systems.specs.Placing.{columns_in, parts_from}
 use Rattle.schedule_rows.specs.declared.item.Part as code_part
-use Rattle.pluto_search.specs.StepParts.{parts_of}
+use Rattle.pluto_search.specs.steps.StepParts.{parts_of}
 
 abbrev plain : code_part.Part → Part
 plain p = record { coefficients = p.coefficients.items; shift = p.shift }

@@ -10,8 +10,8 @@ use Rattle.schedule_rows.specs.Schedule.{row_of, marked_of}
 use Rattle.schedule_rows.specs.Dependences.{IsEmptyDep, equal_at}
 use Rattle.schedule_rows.specs.Next.{restricted, Restricts}
 use Rattle.pluto_systems.specs.Posing.{IsBetween}
-use Rattle.pluto_search.specs.Sizes.{CanTell}
-use Rattle.pluto_search.specs.Steps.{AreBetween}
+use Rattle.pluto_search.specs.steps.Sizes.{CanTell}
+use Rattle.pluto_search.specs.Searching.{AreBetween}
 
 -- what is asked of the rest goes behind what is kept
 abbrev pub Leads : ℕ → List Marked → List Dependence → List Dependence → List Dependence → Type 0

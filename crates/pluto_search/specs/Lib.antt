@@ -1,11 +1,7 @@
 pub mod Questions
-pub mod Sizes
-pub mod Shared
-pub mod Stopping
-pub mod Steps
-pub mod StepParts
 pub mod Searching
 pub mod Alike
+pub mod steps
 -- Passed on: what this crate's contracts are told in.
 pub use Rattle.pip_solver.specs.declared.stop.Stop
 pub use Rattle.pluto_systems.specs.Stuck

@@ -1,18 +1,15 @@
 -- What the search answers.
-use Rattle.std.specs.Prelude.{◌≡◌, ℕ, List, map, Vec, Result, Ok, Err, ⊤}
-use Rattle.std.specs.Global.{Global}
+use Rattle.std.specs.Prelude.{◌≡◌, ℕ, List, Result, Ok, Err, ⊤}
 use Rattle.integer_sets.specs.Constraints.{Constraints}
-use Rattle.iteration_domains.specs.Dependence.{Dependence}
+use Rattle.iteration_domains.specs.Dependence.{Dependence, IsDependence}
 use Rattle.iteration_domains.specs.Model.{KernelModel}
 use Rattle.schedule_rows.specs.Next.{State}
 use Rattle.schedule_rows.specs.Outcomes.{ends, no_row, no_order, large, Next}
-use Rattle.schedule_rows.specs.Schedule.{Scheduled, IsScheduled, block_of, loops_in}
-use Rattle.schedule_rows.specs.declared.item.Block.TheVariants as code_block
-use Rattle.pluto_search.specs.Questions.{AnswersAt, AsksFirst, Answered, ComesAnswered, IsPosedAt, Stops}
-use Rattle.pluto_search.specs.Stopping.{IsStop}
-use Rattle.pluto_search.specs.Steps.{state_of, IsGood}
-use Rattle.pluto_search.specs.declared.state.Progress.{Progress}
+use Rattle.schedule_rows.specs.Schedule.{Scheduled, IsScheduled, loops_in}
+use Rattle.pluto_search.specs.Questions.{AnswersAt, Answered, ComesAnswered, IsPosedAt, Stops}
 use Rattle.pluto_search.specs.declared.kept.Kept.TheVariants as kept
+use Rattle.scop_syntax.specs.Members.{In}
+use Rattle.pluto_systems.specs.Posing.{IsBetween}
 
 -- the determined run comes to a state without a row to come, all questions answered, and the system is that state's
 -- posed system
@@ -37,12 +34,6 @@ Searches model deps budget (Ok s) =
     × ComesAnswered model.parameters (loops_in model) budget deps (ends run.blocks)
 Searches model deps budget (Err kept) = Keeps model.parameters (loops_in model) deps budget kept
 
--- the first state, or the first stop among the first questions
-abbrev pub Starts : ℕ → List ℕ → List Dependence → ℕ → Result Progress kept.the_data → Type 0
-Starts m loops deps budget (Ok p) = IsGood m loops budget p × Answered m loops budget deps (state_of p)
-Starts m loops deps budget (Err kept) = IsStop (AsksFirst budget deps) kept
-
--- the blocks of the determined run, or why the order is kept
-abbrev pub Runs : ℕ → List ℕ → List Dependence → ℕ → Result (Vec code_block.the_data Global) kept.the_data → Type 0
-Runs m loops deps budget (Ok blocks) = ComesAnswered m loops budget deps (ends (map block_of blocks.items))
-Runs m loops deps budget (Err kept) = Keeps m loops deps budget kept
+-- dependences between statements of these numbers of loops, with m parameters
+abbrev pub AreBetween : ℕ → List ℕ → List Dependence → Type 0
+AreBetween m loops deps = (d : Dependence) → In d deps → IsBetween m loops d × IsDependence d

@@ -2,7 +2,8 @@
 ghost use Rattle.std.specs.Prelude.{◌≡◌, ℕ, [], IfOk, map};
 ghost use Rattle.null_space.specs.Narrowing.{kernel_vectors};
 ghost use Rattle.schedule_rows.specs.Outcomes.{state};
-ghost use Rattle.pluto_search.specs.Steps.{AreBetween, state_of, IsGood};
+ghost use Rattle.pluto_search.specs.steps.Steps.{state_of, IsGood};
+ghost use Rattle.pluto_search.specs.Searching.{AreBetween};
 
 use crate::state::{Progress, Search};
 use iteration_domains::Dep;

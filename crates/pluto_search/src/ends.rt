@@ -9,9 +9,9 @@ ghost use Rattle.schedule_rows.specs.Next.{Uncuts};
 ghost use Rattle.schedule_rows.specs.Outcomes.{items_in};
 ghost use Rattle.schedule_rows.specs.Schedule.{block_of, marked_of};
 ghost use Rattle.pluto_systems.specs.Posing.{dep_of};
-ghost use Rattle.pluto_search.specs.StepParts.{AreWithin};
-ghost use Rattle.pluto_search.specs.Shared.{SharesComponent, Finds};
-ghost use Rattle.pluto_search.specs.Steps.{state_of};
+ghost use Rattle.pluto_search.specs.steps.StepParts.{AreWithin};
+ghost use Rattle.pluto_search.specs.steps.Shared.{SharesComponent, Finds};
+ghost use Rattle.pluto_search.specs.steps.Steps.{state_of};
 
 use crate::state::Progress;
 use affine_forms::push;

@@ -8,12 +8,12 @@ ghost use Rattle.schedule_rows.specs.Outcomes.{items_in};
 ghost use Rattle.schedule_rows.specs.Schedule.{block_of, marked_of};
 ghost use Rattle.pluto_systems.specs.Placing.{columns_of, row_from};
 ghost use Rattle.pluto_systems.specs.Posing.{dep_of};
-ghost use Rattle.pluto_search.specs.StepParts.{AreWithin, Ended, IsClosed, Cuts, IsLarge, IsAppended, HasAllRows};
+ghost use Rattle.pluto_search.specs.steps.StepParts.{AreWithin, Ended, IsClosed, Cuts, IsLarge, IsAppended, HasAllRows};
 ghost use Rattle.pluto_search.specs.Questions.{AnswersRestricted, AreRuledBy, FindsNone, FindsRow, IsPosedAt};
 ghost use Rattle.pluto_search.specs.Questions.{StopsRestricted, StopsRowsOf};
-ghost use Rattle.pluto_search.specs.Sizes.{CanTell, CanNarrowEach};
-ghost use Rattle.pluto_search.specs.Steps.{AllRuled, going, state_of, vectors_in, IsGood, Steps};
-ghost use Rattle.pluto_search.specs.Stopping.{IsStop};
+ghost use Rattle.pluto_search.specs.steps.Sizes.{CanTell, CanNarrowEach};
+ghost use Rattle.pluto_search.specs.steps.Steps.{AllRuled, going, state_of, vectors_in, IsGood, Steps};
+ghost use Rattle.pluto_search.specs.steps.Stopping.{IsStop};
 
 use crate::ends::{close, items_in, numbered, remaining, shared, uncut, with_scalar};
 use crate::kept::Kept;

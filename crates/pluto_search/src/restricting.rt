@@ -11,8 +11,8 @@ ghost use Rattle.schedule_rows.specs.Dependences.{IsEmptyDep, unknowns_of, equal
 ghost use Rattle.schedule_rows.specs.Next.{Restricts, restricted};
 ghost use Rattle.schedule_rows.specs.Schedule.{row_of, marked_of};
 ghost use Rattle.pluto_search.specs.Questions.{AnswersEmptiness, AnswersRestricted, StopsEmptiness, StopsRestricted};
-ghost use Rattle.pluto_search.specs.Sizes.{IsCount, AreCounts, CanTell};
-ghost use Rattle.pluto_search.specs.Stopping.{IsStop, Restrictions};
+ghost use Rattle.pluto_search.specs.steps.Sizes.{IsCount, AreCounts, CanTell};
+ghost use Rattle.pluto_search.specs.steps.Stopping.{IsStop, Restrictions};
 
 use crate::kept::Kept;
 use crate::stops::by_solver;

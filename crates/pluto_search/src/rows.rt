@@ -10,9 +10,9 @@ ghost use Rattle.schedule_rows.specs.Schedule.{row_of};
 ghost use Rattle.pluto_systems.specs.Placing.{columns_in, columns_of, parts_from, row_from};
 ghost use Rattle.pluto_systems.specs.Posing.{RuledDep, dep_of};
 ghost use Rattle.pluto_search.specs.Questions.{AnswersMark, AnswersMarks, StopsEmptiness, StopsMarks};
-ghost use Rattle.pluto_search.specs.Sizes.{CanTell, CanNarrow, CanNarrowEach, narrowed_each};
-ghost use Rattle.pluto_search.specs.StepParts.{parts_of};
-ghost use Rattle.pluto_search.specs.Stopping.{IsStop};
+ghost use Rattle.pluto_search.specs.steps.Sizes.{CanTell, CanNarrow, CanNarrowEach, narrowed_each};
+ghost use Rattle.pluto_search.specs.steps.StepParts.{parts_of};
+ghost use Rattle.pluto_search.specs.steps.Stopping.{IsStop};
 
 use crate::kept::Kept;
 use crate::restricting::{above_at, asked};

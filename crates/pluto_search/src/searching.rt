@@ -1,7 +1,7 @@
 //! The search, item by item.
 ghost use Rattle.schedule_rows.specs.Schedule.{loops_in};
-ghost use Rattle.pluto_search.specs.Searching.{Runs, Starts, Searches};
-ghost use Rattle.pluto_search.specs.Steps.{AreBetween};
+ghost use Rattle.pluto_search.specs.Searching.{Searches, AreBetween};
+ghost use Rattle.pluto_search.specs.steps.Steps.{Runs, Starts};
 
 use crate::begin::begin;
 use crate::kept::Kept;

@@ -1,6 +1,6 @@
 //! How a question that stops keeps the order.
 ghost use Rattle.std.specs.Prelude.{◌≡◌};
-ghost use Rattle.pluto_search.specs.Stopping.{kept_by_solver, kept_by_rows};
+ghost use Rattle.pluto_search.specs.steps.Stopping.{kept_by_solver, kept_by_rows};
 
 use crate::kept::Kept;
 use pip_solver::Stop;

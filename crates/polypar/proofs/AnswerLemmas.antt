@@ -28,8 +28,8 @@ use Rattle.polypar.specs.Told.{Told, IsTextAlone}
 use Rattle.polypar.specs.Deserves.{DeservesInput, DeservesFor, Deserves, AsksFor, Asks, IsReadBy}
 use Rattle.plan_search.specs.StatusText.{status_text}
 use Rattle.polypar.specs.KernelText.{IsTextFor}
-use Rattle.polypar.specs.Promises.{WritesTold, CutsTold, AreUntouched, AnswersFor, AnswersCommand, AnswersWords}
-use Rattle.polypar.specs.Promises.{IsReadOn, TellsStatus}
+use Rattle.polypar.specs.steps.Promises.{WritesTold, CutsTold, AreUntouched, AnswersFor, AnswersCommand, AnswersWords}
+use Rattle.polypar.specs.steps.Promises.{IsReadOn, TellsStatus}
 use Rattle.polypar.specs.Answered.{ChecksPlan, PrintsArrays, PrintsSummary, PrintsText, PrintsTold, PrintsFront}
 use Rattle.polypar.specs.Answered.{IsDeserved, NamesOf, IsFrontOf}
 use Rattle.polypar.specs.Answered.{HasLines, GainsTo, GainsLine, NoneRose, HasRoomForText, Answered}

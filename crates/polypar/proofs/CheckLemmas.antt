@@ -20,7 +20,7 @@ use Rattle.plan_check.specs.declared.kinds.FaultKind.{FaultKind}
 use Rattle.plan_check.specs.declared.kinds.FaultKind.TheVariants as fault
 use Rattle.plan_search.specs.Status.{Status}
 use Rattle.polypar.specs.Told.{text_alone}
-use Rattle.polypar.specs.Promises.{AnswersCertificate, AnswersKernel, WritesTold, CutsTold}
+use Rattle.polypar.specs.steps.Promises.{AnswersCertificate, AnswersKernel, WritesTold, CutsTold}
 
 -- a judgement that accepts, or tells a fault
 abbrev pub IsJudged : Result Bool Fault → Type 0

@@ -19,7 +19,8 @@ use Rattle.polypar.specs.Cut.{kernel_part}
 use Rattle.polypar.specs.Told.{Told, IsHeld}
 use Rattle.polypar.specs.Runs.{IsSummaryText}
 use Rattle.polypar.specs.Deserves.{IsReadBy}
-use Rattle.polypar.specs.Promises.{AnswersCommand, AnswersFor, AnswersTold, AnswersWords, Ends, IsReadOn, ReadsKernel}
+use Rattle.polypar.specs.steps.Promises.{AnswersCommand, AnswersFor, AnswersTold, AnswersWords, Ends, IsReadOn}
+use Rattle.polypar.specs.steps.Promises.{ReadsKernel}
 use Rattle.polypar.specs.Answered.{NamesOf}
 use Rattle.polypar.specs.declared.input.Ending.{Ending}
 use Rattle.polypar.proofs.AnswerLemmas.{some_input}

@@ -9,7 +9,7 @@ use Rattle.plan_search.specs.Trees.{AreTreesOf}
 use Rattle.c_printer.specs.Printable.{AreNodes}
 use Rattle.polypar.specs.declared.told.Told as code
 use Rattle.polypar.specs.Told.{Told, IsHeld, told_of}
-use Rattle.polypar.specs.Promises.{AnswersMade, AnswersTold}
+use Rattle.polypar.specs.steps.Promises.{AnswersMade, AnswersTold}
 use Rattle.plan_search.specs.Status.{Status}
 use Rattle.plan_search.specs.Status.TheVariants.{Done, Usage, Refused, BadData, Outside, ReadFault}
 use Rattle.plan_search.specs.Status.TheVariants.{WriteFault, NoMemory, Rejected}

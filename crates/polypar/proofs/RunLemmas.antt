@@ -17,9 +17,9 @@ use Rattle.polypar.specs.Case.{IsShort}
 use Rattle.polypar.specs.Told.{Told, IsHeld}
 use Rattle.polypar.specs.Runs.{IsSummaryText}
 use Rattle.polypar.specs.Deserves.{too_long, AsksFor}
-use Rattle.polypar.specs.Promises.{AnswersCase, AnswersCertificate, AnswersData, AnswersProgram, AnswersTold}
-use Rattle.polypar.specs.Promises.{AnswersKernel, AnswersFor}
-use Rattle.polypar.specs.Promises.{AreUntouched, AsksData, ReadsKernel}
+use Rattle.polypar.specs.steps.Promises.{AnswersCase, AnswersCertificate, AnswersData, AnswersProgram, AnswersTold}
+use Rattle.polypar.specs.steps.Promises.{AnswersKernel, AnswersFor}
+use Rattle.polypar.specs.steps.Promises.{AreUntouched, AsksData, ReadsKernel}
 
 -- the answer to a case that the data says is the answer to the data
 pub data_answers : (options : RunOptions) (status : Status) (program : Program) (text : List ℕ)

@@ -1,5 +1,4 @@
 pub mod Answered
-pub mod Promises
 pub mod Case
 pub mod Checking
 pub mod Cut

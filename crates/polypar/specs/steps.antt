@@ -1,2 +1,3 @@
 -- What only private contracts need.
 pub mod Courses
+pub mod Promises

@@ -7,7 +7,7 @@ ghost use Rattle.tile_runs.specs.Running.{AreExecuted};
 ghost use Rattle.plan_search.specs.Status.{Status};
 ghost use Rattle.polypar.specs.Deserves.{Deserves, IsVerdict};
 ghost use Rattle.command_line.specs.Command.{HasSize};
-ghost use Rattle.polypar.specs.Promises.{AnswersCommand, AnswersWords, Ends, TellsStatus};
+ghost use Rattle.polypar.specs.steps.Promises.{AnswersCommand, AnswersWords, Ends, TellsStatus};
 ghost use Rattle.polypar.specs.Answered.{Answered};
 
 use crate::generate::print_summary;

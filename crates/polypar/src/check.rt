@@ -4,7 +4,7 @@ ghost use Rattle.std.specs.Prelude.{◌≡◌};
 ghost use Rattle.io_ports.specs.Writes.{SinkShows};
 ghost use Rattle.scop_syntax.specs.Kernel.{IsKernel};
 ghost use Rattle.scop_syntax.specs.View.{program_of};
-ghost use Rattle.polypar.specs.Promises.{AnswersCertificate};
+ghost use Rattle.polypar.specs.steps.Promises.{AnswersCertificate};
 
 use crate::kernel::print_text;
 use io_ports::{Failed, Sink};

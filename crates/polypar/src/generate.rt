@@ -5,7 +5,7 @@ ghost use Rattle.kernel_gen.specs.Cases.{params, program};
 ghost use Rattle.kernel_gen.specs.Totals.{cells_in, sum_of};
 ghost use Rattle.command_line.specs.Command.{AreSized};
 ghost use Rattle.command_line.specs.declared.command.Sync.TheVariants.{Waves};
-ghost use Rattle.polypar.specs.Promises.{AnswersTold};
+ghost use Rattle.polypar.specs.steps.Promises.{AnswersTold};
 ghost use Rattle.polypar.specs.Runs.{IsPlanTold, IsSummaryText, left_by};
 ghost use Rattle.polypar.specs.Told.{IsHeld, told_of};
 

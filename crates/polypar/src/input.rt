@@ -11,9 +11,9 @@ ghost use Rattle.scop_syntax.specs.Limits.{WithinLimits};
 ghost use Rattle.data_text.specs.ArrayText.{array_text};
 ghost use Rattle.polypar.specs.Case.{IsShort};
 ghost use Rattle.polypar.specs.Deserves.{too_long};
-ghost use Rattle.polypar.specs.Promises.{AnswersCase, AnswersData, AnswersKernel, AnswersFor, AnswersCommand};
+ghost use Rattle.polypar.specs.steps.Promises.{AnswersCase, AnswersData, AnswersKernel, AnswersFor, AnswersCommand};
 ghost use Rattle.polypar.specs.Told.{lines_and_arrays};
-ghost use Rattle.polypar.specs.Promises.{CutsTold, Ends, ReadsKernel, WritesTold};
+ghost use Rattle.polypar.specs.steps.Promises.{CutsTold, Ends, ReadsKernel, WritesTold};
 ghost use Rattle.command_line.specs.Command.{AreSized, HasSize};
 ghost use Rattle.polypar.specs.Answered.{NamesOf};
 

@@ -10,7 +10,7 @@ ghost use Rattle.plan_search.specs.Planning.{IsPlanOf};
 ghost use Rattle.polypar.specs.Told.{IsTextAlone, told_of};
 ghost use Rattle.polypar.specs.KernelText.{IsTextFor};
 ghost use Rattle.command_line.specs.Command.{IsSized};
-ghost use Rattle.polypar.specs.Promises.{AnswersMade, AnswersProgram, WritesTold, CutsTold};
+ghost use Rattle.polypar.specs.steps.Promises.{AnswersMade, AnswersProgram, WritesTold, CutsTold};
 
 use crate::certify::certificate_told;
 use crate::deps::sources_told;

@@ -7,8 +7,8 @@ use Rattle.scop_lexer.specs.Bytes.{Text}
 use Rattle.quast_trees.specs.Tree.{Tree, branch, bind, count}
 use Rattle.quast_trees.specs.Place.{Spot, subtree}
 use Rattle.form_text.specs.Forms.{form_text}
-use Rattle.quast_text.specs.Text.{bound_name, names_within, let_text, quast_text}
-use Rattle.quast_text.specs.Waiting.{texts_of, lets_in, waiting_text, weight, weights, GoesOn}
+use Rattle.quast_text.specs.Text.{bound_name, names_within, let_text, quast_text, texts_of}
+use Rattle.quast_text.specs.steps.Waiting.{lets_in, waiting_text, weight, weights, GoesOn}
 use Rattle.quast_text.specs.declared.writer.Rest.TheVariants as rest
 
 -- the last part of a stack is the nearest

@@ -1,3 +1,3 @@
 pub mod Text
 pub mod Reading
-pub mod Waiting
+pub mod steps

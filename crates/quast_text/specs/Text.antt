@@ -1,5 +1,5 @@
 -- The text of a quast over names (quasts: Feautrier, Parametric integer programming, 1988).
-use Rattle.std.specs.Prelude.{ℕ, zero, suc, ℤ, List, [], ◌∷◌, ◌++◌, codes, decimal, Option, Some, None}
+use Rattle.std.specs.Prelude.{ℕ, zero, suc, ℤ, List, [], ◌∷◌, ◌++◌, codes, decimal, Option, Some, None, map, Vec}
 use Rattle.std.specs.Fmt.{signed_decimal}
 use Rattle.std.specs.List.{concat}
 use Rattle.whole_numbers.specs.Affine.{Affine}
@@ -7,6 +7,7 @@ use Rattle.scop_lexer.specs.Bytes.{Text}
 use Rattle.form_text.specs.Forms.{form_text}
 use Rattle.quast_trees.specs.Source.{Source, Forms}
 use Rattle.quast_trees.specs.Tree.{Tree, initial, leaf, branch, bind}
+use Rattle.std.specs.declared.alloc.Global.{Global}
 
 -- what the k-th `let` from the outside binds
 abbrev pub bound_name : ℕ → Text
@@ -56,3 +57,7 @@ quast_text outer k (branch test first second) =
     ∷ quast_text outer k second ∷ codes " }" ∷ [])
 quast_text outer k (bind form divisor body) =
     concat (let_text (names_within outer k) (suc k) form divisor ∷ quast_text outer (suc k) body ∷ codes " }" ∷ [])
+
+-- the texts of names
+abbrev pub texts_of : List (Vec ℕ Global) → List Text
+texts_of names = map (λ n. n.items) names

@@ -8,8 +8,8 @@ ghost use Rattle.form_text.specs.Forms.{form_text};
 ghost use Rattle.quast_trees.specs.Postfix.{tree_of};
 ghost use Rattle.quast_trees.specs.Source.{source_held};
 ghost use Rattle.quast_text.specs.Text.{bound_name, comma, forms_from, leaf_text, let_text, quast_text};
-ghost use Rattle.quast_text.specs.Text.{statement_name, test_text};
-ghost use Rattle.quast_text.specs.Waiting.{GoesOn, texts_of, weight, weights};
+ghost use Rattle.quast_text.specs.Text.{statement_name, test_text, texts_of};
+ghost use Rattle.quast_text.specs.steps.Waiting.{GoesOn, weight, weights};
 ghost use Rattle.quast_text.specs.declared.writer.Rest.TheVariants as rest;
 
 use form_text::{put_bytes, put_form};

@@ -10,3 +10,4 @@ pub mod Shows
 pub mod Turns
 pub mod Paths
 pub mod steps
+pub mod PathView

@@ -5,7 +5,8 @@ ghost use Rattle.std.specs.List.{list_all};
 ghost use Rattle.std.specs.Ordering.{int_eq};
 ghost use Rattle.quast_trees.specs.Postfix.{tree_of};
 ghost use Rattle.quast_trees.specs.Paths.{are_opposite, down, fails, is_same, live_paths, up};
-ghost use Rattle.quast_trees.specs.steps.Ways.{met, met_by, path_found, side_ways, turn_held, turns_held, with_turn};
+ghost use Rattle.quast_trees.specs.steps.Ways.{met, met_by, path_found, side_ways, with_turn};
+ghost use Rattle.quast_trees.specs.PathView.{turn_held, turns_held};
 
 use crate::node::{Forms, Node};
 use crate::quast::Quast;
@@ -30,7 +31,7 @@ pub struct Path<'a> {
 
 impl<'a> Model for Path<'a> {
     ghost use Rattle.quast_trees.specs.Paths.{LeafPath, path_to};
-    ghost use Rattle.quast_trees.specs.steps.Ways.{turns_held};
+    ghost use Rattle.quast_trees.specs.PathView.{turns_held};
 
     ghost Value = { LeafPath };
 

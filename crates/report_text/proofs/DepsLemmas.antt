@@ -5,7 +5,7 @@ use Rattle.scop_syntax.proofs.Common.{drop_of_length-le, subst, Vec, Global, sli
 use Rattle.scop_lexer.specs.Bytes.{Text}
 use Rattle.iteration_domains.specs.Model.{Modelled, model_of}
 use Rattle.dataflow.specs.ReadSources.{reads_from, reads_of_statement, reads_in}
-use Rattle.quast_text.specs.Waiting.{texts_of}
+use Rattle.quast_text.specs.Text.{texts_of}
 use Rattle.dataflow.specs.declared.source.ReadSource.{ReadSource}
 use Rattle.report_text.specs.DepsText.{read_text, line_of, lines_of, turn_name, turn_names}
 

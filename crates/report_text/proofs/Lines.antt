@@ -4,8 +4,8 @@ use Rattle.scop_syntax.proofs.Common.{drop-cons, append_assoc, append-nil, subst
 use Rattle.io_ports.specs.Writes.{SinkShows, Puts}
 use Rattle.report_text.specs.declared.parts.Part.{Part}
 use Rattle.report_text.specs.declared.pieces.Piece.{Piece}
-use Rattle.report_text.specs.Pieces.{piece_text, pieces_text}
-use Rattle.report_text.specs.Parts.{part_text, parts_text}
+use Rattle.report_text.specs.steps.Pieces.{piece_text, pieces_text}
+use Rattle.report_text.specs.steps.Parts.{part_text, parts_text}
 use Rattle.report_text.specs.StatusText.{named, numbered}
 
 -- what is put, as a text that is the same

@@ -10,7 +10,7 @@ use Rattle.schedule_rows.specs.declared.item.Band.{Band}
 use Rattle.schedule_rows.specs.declared.item.Part.{Part}
 use Rattle.report_text.specs.ScheduleText.{rows_text, blocks_text, row_line, schedule_text, before, numbers_from}
 use Rattle.report_text.specs.ScheduleText.{statement_text, statements_from, component_text, components_from}
-use Rattle.report_text.specs.ScheduleLines.{begins, entered, item_text, items_text, part_view}
+use Rattle.report_text.specs.steps.ScheduleLines.{begins, entered, item_text, items_text, part_view}
 
 -- the number at a place, and those behind it
 pub numbers_next : (zs : List ℤ) (at : ℕ) (d : ℤ) → at < length zs

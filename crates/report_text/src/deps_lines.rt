@@ -9,7 +9,7 @@ ghost use Rattle.iteration_domains.specs.Model.{model_of};
 ghost use Rattle.dataflow.specs.ReadSources.{reads_of_statement};
 ghost use Rattle.report_text.specs.DepsText.{array_of, deps_text, lines_of, names_at, read_text, solver_text};
 ghost use Rattle.report_text.specs.DepsText.{source_text, stop_text};
-ghost use Rattle.quast_text.specs.Waiting.{texts_of};
+ghost use Rattle.quast_text.specs.Text.{texts_of};
 
 use crate::data_line::array_name;
 use crate::deps_names::names_within;

@@ -3,7 +3,7 @@
 
 ghost use Rattle.std.specs.Prelude.{◌≡◌, ◌++◌, [], ◌∷◌, IfOk, OnOk};
 ghost use Rattle.scop_syntax.specs.View.{program_of};
-ghost use Rattle.quast_text.specs.Waiting.{texts_of};
+ghost use Rattle.quast_text.specs.Text.{texts_of};
 ghost use Rattle.report_text.specs.DepsText.{turn_name, turn_names};
 
 use crate::pieces::{Piece, push_pieces};

@@ -4,7 +4,7 @@ ghost use Rattle.std.specs.Prelude.{◌≡◌, ◌≤◌, ◌+◌, ◌++◌, IfO
 ghost use Rattle.schedule_rows.specs.Schedule.{item_of, row_of};
 ghost use Rattle.report_text.specs.ScheduleText.{mark_text, row_line, scalar_line, statement_text, statements_from};
 ghost use Rattle.report_text.specs.ScheduleText.{component_text, components_from, IsTextOf};
-ghost use Rattle.report_text.specs.ScheduleLines.{entered, item_text, part_view};
+ghost use Rattle.report_text.specs.steps.ScheduleLines.{entered, item_text, part_view};
 
 use crate::pieces::{Piece, before, push_pieces, push_text};
 use schedule_rows::{Band, Item, Part, Row, Schedule};

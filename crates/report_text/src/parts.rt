@@ -1,7 +1,7 @@
 //! The parts of status lines, put one after another.
 
 ghost use Rattle.io_ports.specs.Writes.{Puts};
-ghost use Rattle.report_text.specs.Parts.{part_text, parts_text};
+ghost use Rattle.report_text.specs.steps.Parts.{part_text, parts_text};
 ghost use Rattle.report_text.specs.StatusText.{named, numbered};
 
 use io_ports::{Failed, Pieces, Sink};

@@ -2,7 +2,7 @@
 
 ghost use Rattle.std.specs.Prelude.{◌≡◌, ◌++◌, OnOk, codes};
 ghost use Rattle.std.specs.Fmt.{signed_decimal};
-ghost use Rattle.report_text.specs.Pieces.{piece_text, pieces_text};
+ghost use Rattle.report_text.specs.steps.Pieces.{piece_text, pieces_text};
 ghost use Rattle.report_text.specs.ScheduleText.{before, numbers_from, list_text};
 
 use itoa::Buffer;

@@ -9,7 +9,7 @@ use Rattle.scop_expressions.specs.Machine.{State, start, go, stops, step, fits, 
 use Rattle.scop_expressions.specs.Machine.{complete, unfit, unended, or_fault, answer, Answer, read}
 use Rattle.scop_expressions.specs.Grammar.{told_at}
 use Rattle.scop_expressions.specs.Promises.{IsNoExpression}
-use Rattle.scop_expressions.specs.Claims.{IsAnswer}
+use Rattle.scop_expressions.specs.steps.Claims.{IsAnswer}
 use Rattle.scop_expressions.proofs.Shapes.{Shape, want, cast_word, done, state_of, read_of, Stands, keeps}
 use Rattle.scop_expressions.proofs.RunEnds.{Stop, Reached, reached}
 use Rattle.scop_expressions.proofs.Fronts.{is_front, final, accepted, final_complete, is_whole, spells_wider}

@@ -13,7 +13,8 @@ use Rattle.scop_expressions.specs.Tree.{level}
 use Rattle.scop_expressions.specs.declared.node.Last.{Last}
 use Rattle.scop_expressions.specs.declared.node.Mode.TheVariants as mode
 use Rattle.scop_expressions.specs.Machine.{reduced, Pair, State, state, Move, complete, whole}
-use Rattle.scop_expressions.specs.Steps.{tight, Steps, StepsFrom}
+use Rattle.scop_expressions.specs.Stepping.{Steps}
+use Rattle.scop_expressions.specs.steps.Joining.{tight, StepsFrom}
 
 -- one operator, by whether it binds tighter
 abbrev pub reduced_by : ℕ → Held → List Held → List Node → Option Node → Pair

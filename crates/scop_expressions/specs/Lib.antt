@@ -2,9 +2,9 @@ pub mod Tree
 pub mod Grammar
 pub mod Machine
 pub mod Promises
-pub mod Claims
-pub mod Steps
+pub mod Stepping
 pub mod Gives
+pub mod steps
 -- Passed on: the tokens.
 pub use Rattle.scop_tokens.specs.declared.Assign
 pub use Rattle.scop_tokens.specs.declared.Base

@@ -12,7 +12,8 @@ ghost use Rattle.scop_expressions.specs.declared.reader.Stop.TheVariants as stop
 ghost use Rattle.scop_expressions.specs.Promises.{IsRead};
 ghost use Rattle.scop_expressions.specs.Gives.{Gives, IsStop};
 ghost use Rattle.scop_expressions.specs.declared.reader.TheConstants.{MOST_BRACKETS, MOST_OPERATORS};
-ghost use Rattle.scop_expressions.specs.Steps.{ClosesAs, ClosesIndexAs, Completes, HasRoom, JoinsAs, Steps, tight};
+ghost use Rattle.scop_expressions.specs.Stepping.{Completes, HasRoom, Steps};
+ghost use Rattle.scop_expressions.specs.steps.Joining.{ClosesAs, ClosesIndexAs, JoinsAs, tight};
 
 use crate::node::{Held, Last, Mode, Node};
 use crate::stack::Stack;

@@ -1,6 +1,6 @@
 //! What waits, innermost last in memory and first in contracts.
 ghost use Rattle.std.specs.Prelude.{◌≡◌, List, [], ◌∷◌, MatchOption, OnOk};
-ghost use Rattle.scop_expressions.specs.Steps.{rest};
+ghost use Rattle.scop_expressions.specs.steps.Joining.{rest};
 
 use crate::node::Held;
 use std::alloc::{AllocError, Global};

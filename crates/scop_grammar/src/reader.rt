@@ -3,7 +3,7 @@
 //! Promises the parts of each tree that the tokens spell, or the first fault.
 ghost use Rattle.std.specs.Prelude.{◌≡◌, ◌<◌, ◌^◌, ◌++◌, ◌+◌, [], Some, IfErr, IfOk, OnOk};
 ghost use Rattle.scop_expressions.specs.Machine.{step};
-ghost use Rattle.scop_expressions.specs.Steps.{HasRoom};
+ghost use Rattle.scop_expressions.specs.Stepping.{HasRoom};
 ghost use Rattle.scop_expressions.specs.declared.reader.TheConstants.{MOST_BRACKETS, MOST_OPERATORS};
 ghost use Rattle.scop_grammar.specs.Promises.{IsRead};
 ghost use Rattle.scop_grammar.specs.Kernel.{marked};

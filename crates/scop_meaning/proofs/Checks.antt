@@ -10,8 +10,8 @@ use Rattle.scop_syntax.specs.declared.tree.Item.{Item}
 use Rattle.scop_syntax.specs.Walk.{within, walk, walk_all}
 use Rattle.scop_syntax.specs.Failures.{is_within, outside_dimensions, outside_accesses, failures}
 use Rattle.scop_meaning.specs.declared.index.Outside.{Outside}
-use Rattle.scop_meaning.specs.Conditions.{CanCheck}
-use Rattle.scop_meaning.specs.Outside.{outside_of, first_of}
+use Rattle.scop_meaning.specs.steps.Conditions.{CanCheck, first_of}
+use Rattle.scop_meaning.specs.Outside.{outside_of}
 use Rattle.scop_meaning.proofs.WalkSteps.{walk_first, walk_rest, walk_turn}
 
 -- the first of two lists one behind the other

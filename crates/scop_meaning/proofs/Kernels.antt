@@ -29,7 +29,7 @@ use Rattle.std.proofs.lemmas.List.Folds.{fold-map}
 use Rattle.scop_syntax.specs.Execution.{performed_by}
 use Rattle.scop_syntax.specs.Fits.{FitsAll}
 use Rattle.scop_syntax.proofs.Acts.{whole_walk_acts}
-use Rattle.scop_meaning.specs.Conditions.{ActsAreInside, AreCells, CanCheck, CanRun, CanWalk, ran}
+use Rattle.scop_meaning.specs.steps.Conditions.{ActsAreInside, AreCells, CanCheck, CanRun, CanWalk, ran}
 
 kernel_walks : (p : Program) (params : List ℤ) → WithinLimits p params → FitsAll p.body params
     → CanWalk 9 (ranks_of p) p.body params

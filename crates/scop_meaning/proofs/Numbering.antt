@@ -2,7 +2,8 @@
 use Rattle.scop_syntax.proofs.Common.{◌≡◌, ℕ, zero, suc, ◌+◌, ◌<◌, ◌≤◌, List, [], ◌∷◌, length, take, get_or, ap, ◌∙◌}
 use Rattle.scop_syntax.proofs.Common.{arith, refl, Access, Right, assigned, combined, moved_left, moved_right}
 use Rattle.scop_syntax.proofs.Common.{combined_narrow, moved_left_narrow, reads_with, cell_count, total_cells}
-use Rattle.scop_meaning.specs.Instances.{AreExtents, AreLayout, values_wanted}
+use Rattle.scop_meaning.specs.Instances.{AreLayout, values_wanted}
+use Rattle.scop_meaning.specs.steps.Conditions.{AreExtents}
 
 -- a statement reads as many values as its right side wants
 pub reads_wanted : (place : Access) (right : Right) → length (reads_with place right) ≡ values_wanted right

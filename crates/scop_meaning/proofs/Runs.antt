@@ -8,7 +8,7 @@ use Rattle.std.proofs.lemmas.List.Sums.{fold-append}
 use Rattle.scop_syntax.specs.declared.tree.Item.{Item}
 use Rattle.scop_syntax.specs.Acts.{acts}
 use Rattle.scop_syntax.specs.Execution.{performed_by}
-use Rattle.scop_meaning.specs.Conditions.{ActsAreInside, AreCells, CanRun, IsReady, ran}
+use Rattle.scop_meaning.specs.steps.Conditions.{ActsAreInside, AreCells, CanRun, IsReady, ran}
 use Rattle.scop_meaning.proofs.WalkSteps.{walk_first, walk_rest, walk_turn}
 
 inside_front : (es : List (List ℕ)) (xs ys : List Act) → ActsAreInside es (xs ++ ys) → ActsAreInside es xs

@@ -52,7 +52,7 @@ use Rattle.scop_syntax.specs.Statements.{
   Runs,
   visit_of,
 }
-use Rattle.scop_meaning.specs.Instances.{act_at, act_at_all, CanFind}
+use Rattle.scop_meaning.specs.steps.Conditions.{act_at, act_at_all, CanFind}
 
 -- a choice of two
 chosen_if : (k n : ℕ) (o q : Option Act) → k < n → (if nat_lt k n then o else q) ≡ o

@@ -3,7 +3,8 @@ use Rattle.scop_syntax.proofs.Common.{◌≡◌, ℕ, ◌-◌, ◌<◌, ◌≤�
 use Rattle.scop_syntax.proofs.Common.{length-append, ℤ, pos, ◌+ℤ◌, ◌*ℤ◌, value_of, Head, Tree, loop, Trees, none, more}
 use Rattle.scop_syntax.proofs.Common.{condition_at, turn_point, RunsFor, IsHead, AreTrees}
 use Rattle.scop_syntax.specs.Fits.{TurnFits}
-use Rattle.scop_meaning.specs.Conditions.{CanWalk, CanTurn}
+use Rattle.scop_meaning.specs.Conditions.{CanTurn}
+use Rattle.scop_meaning.specs.steps.Conditions.{CanWalk}
 
 pub walk_first : (room : ℕ) (ranks : List ℕ) (t : Tree) (ts : Trees) (point : List ℤ)
     → CanWalk room ranks (more t ts) point

@@ -3,3 +3,4 @@ pub mod Instances
 pub mod LastWrites
 pub mod Outside
 pub mod Rows
+pub mod steps

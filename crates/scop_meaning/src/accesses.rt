@@ -2,7 +2,8 @@
 ghost use Rattle.std.specs.Prelude.{◌≡◌, ◌<◌, ◌≤◌, ◌^◌, length, take};
 ghost use Rattle.scop_syntax.specs.Cells.{cell_of};
 ghost use Rattle.scop_syntax.specs.Execution.{IsCell, cell_count, cell_number, total_cells};
-ghost use Rattle.scop_meaning.specs.Instances.{AreExtents, AreLayout};
+ghost use Rattle.scop_meaning.specs.Instances.{AreLayout};
+ghost use Rattle.scop_meaning.specs.steps.Conditions.{AreExtents};
 
 use crate::cells::offset_at;
 use scop_syntax::arrays::Extents;

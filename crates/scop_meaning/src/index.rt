@@ -14,8 +14,9 @@ ghost use Rattle.scop_syntax.specs.Tree.{loop, more, none};
 ghost use Rattle.scop_syntax.specs.View.{items_of, program_of, statement_of, tree_of};
 ghost use Rattle.scop_syntax.specs.Walk.{Visit, statements_in, statements_in_all, turn_point};
 ghost use Rattle.scop_syntax.specs.Walk.{walk, walk_all, walk_of};
-ghost use Rattle.scop_meaning.specs.Conditions.{CanCheck, CanTurn};
-ghost use Rattle.scop_meaning.specs.Outside.{FindsFirst, IsAt, first_of, outside_of};
+ghost use Rattle.scop_meaning.specs.Conditions.{CanTurn};
+ghost use Rattle.scop_meaning.specs.steps.Conditions.{CanCheck, FindsFirst, IsAt, first_of};
+ghost use Rattle.scop_meaning.specs.Outside.{outside_of};
 ghost use Rattle.scop_syntax.specs.declared.limits.TheConstants.{MOST_ENTRIES};
 
 use crate::guards::all_hold;

@@ -11,7 +11,8 @@ ghost use Rattle.scop_syntax.specs.Tree.{Access as Place, more, none};
 ghost use Rattle.scop_syntax.specs.Values.{stored_by};
 ghost use Rattle.scop_syntax.specs.View.{instance_of, items_of, program_of, statement_of, tree_of};
 ghost use Rattle.scop_syntax.specs.Walk.{Visit, instance as numbers_of, walk_of};
-ghost use Rattle.scop_meaning.specs.Instances.{CanFind, IsVisitOf, act_at, act_at_all};
+ghost use Rattle.scop_meaning.specs.Instances.{IsVisitOf};
+ghost use Rattle.scop_meaning.specs.steps.Conditions.{CanFind, act_at, act_at_all};
 ghost use Rattle.scop_syntax.specs.declared.limits.TheConstants.{MOST_ENTRIES};
 
 use crate::accesses::number_of;

@@ -9,7 +9,8 @@ ghost use Rattle.scop_syntax.specs.Limits.{WithinLimits};
 ghost use Rattle.scop_syntax.specs.Tree.{loop, more, none};
 ghost use Rattle.scop_syntax.specs.View.{items_of, program_of, tree_of};
 ghost use Rattle.scop_syntax.specs.Walk.{turn_point};
-ghost use Rattle.scop_meaning.specs.Conditions.{CanRun, CanTurn, IsReady, ran};
+ghost use Rattle.scop_meaning.specs.Conditions.{CanTurn};
+ghost use Rattle.scop_meaning.specs.steps.Conditions.{CanRun, IsReady, ran};
 ghost use Rattle.scop_meaning.specs.LastWrites.{left_at_the_end};
 ghost use Rattle.scop_syntax.specs.declared.limits.TheConstants.{MOST_ENTRIES};
 

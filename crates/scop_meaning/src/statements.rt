@@ -3,7 +3,7 @@ ghost use Rattle.std.specs.Prelude.{◌≡◌, ◌<◌, ◌≤◌, [], length, s
 ghost use Rattle.scop_syntax.specs.Cells.{accesses, cell_of, reads as reads_by};
 ghost use Rattle.scop_syntax.specs.Execution.{IsCell, held, offset_of, performed_by, stored, values_read_by};
 ghost use Rattle.scop_syntax.specs.View.{statement_of};
-ghost use Rattle.scop_meaning.specs.Conditions.{AreCells, IsReady};
+ghost use Rattle.scop_meaning.specs.steps.Conditions.{AreCells, IsReady};
 
 use crate::cells::offset_at;
 use crate::expressions::stored_on;

@@ -4,7 +4,7 @@ use Rattle.scop_syntax.proofs.Common.{Some, None, ap, sym, ◌∙◌, refl, arit
 use Rattle.scop_roles.specs.declared.kinds.Fault.{Fault}
 use Rattle.scop_roles.specs.declared.kinds.Kind.{Kind}
 use Rattle.scop_roles.specs.Faults.{number, precedes, first_of, first, told, judged}
-use Rattle.scop_roles.specs.Judgement.{part_or_own}
+use Rattle.scop_roles.specs.steps.Judgement.{part_or_own}
 
 -- by two numbers, the first first
 before_then : (a k b l c m : ℕ) → (nat_lt a b || (a == b && nat_lt k l)) ≡ true

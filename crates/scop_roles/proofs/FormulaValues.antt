@@ -13,7 +13,7 @@ use Rattle.scop_roles.specs.Faults.{first, faults, place_faults, is_count}
 use Rattle.scop_roles.specs.Values.{access, subscript_forms, expression, IsValueOf, signed_value, combined, count}
 use Rattle.scop_roles.specs.Values.{comparison, tests, operator, narrowed_where, cast_to, joined, IsSideOf}
 use Rattle.scop_roles.specs.declared.judgement.Judgement.{Judgement}
-use Rattle.scop_roles.specs.Judgement.{HasForm, IsJudgement}
+use Rattle.scop_roles.specs.steps.Judgement.{HasForm, IsJudgement}
 use Rattle.scop_roles.proofs.NodeFaults.{signed_is_affine}
 use Rattle.scop_roles.proofs.Parts.{place_parts, index_value, cast_value, unary_value, signed_unary, signed_binary}
 use Rattle.scop_roles.proofs.Parts.{binary_value, shift_count, combined_plain, condition_sides, comparison_sides}

@@ -19,8 +19,9 @@ use Rattle.scop_roles.specs.Forms.{is_sum_or_product, is_signed, is_narrow, mixe
 use Rattle.scop_roles.specs.Faults.{first, first_of, told, faults, place_faults, named, called, operand_role, cast_role}
 use Rattle.scop_roles.specs.Faults.{term_role, side_role, rank, own, own_affine, or_else, only_where}
 use Rattle.scop_roles.specs.Faults.{are_plain_constants, is_count, last_count, is_shift_count}
-use Rattle.scop_roles.specs.Judgement.{IsJudgement, AreAffine, IsOwnAffine, in_role, part_or_own, own_joined, lacking}
-use Rattle.scop_roles.specs.Judgement.{one_less, is_zero}
+use Rattle.scop_roles.specs.steps.Judgement.{IsJudgement, AreAffine, IsOwnAffine, in_role, part_or_own, own_joined}
+use Rattle.scop_roles.specs.steps.Judgement.{lacking}
+use Rattle.scop_roles.specs.steps.Judgement.{one_less, is_zero}
 use Rattle.scop_roles.proofs.Firsts.{first-append, first-judged, first_of_none, part_or_own_none, part_or_own_same}
 use Rattle.scop_roles.proofs.Firsts.{none_part_or_own, none_first_of}
 

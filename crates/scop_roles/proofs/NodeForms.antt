@@ -15,7 +15,7 @@ use Rattle.scop_roles.specs.Formula.{Formula, name, unary, binary}
 use Rattle.scop_roles.specs.Forms.{is_sum_or_product, is_product, is_number, is_signed, has_name, is_long, form}
 use Rattle.scop_roles.specs.Forms.{combined_forms, is_within}
 use Rattle.scop_roles.specs.Faults.{first, first_of, told, judged, faults, side_role, own, own_affine, only_where}
-use Rattle.scop_roles.specs.Judgement.{IsJudgement, IsFormOf, IsJoined, HasForm}
+use Rattle.scop_roles.specs.steps.Judgement.{IsJudgement, IsFormOf, IsJoined, HasForm}
 use Rattle.scop_roles.proofs.Firsts.{first-judged, first_of_none, part_or_own_none}
 use Rattle.scop_roles.proofs.Sizes.{within_affine}
 use Rattle.scop_roles.proofs.NodeFaults.{unary_first, binary_first, sum_sides}

@@ -17,7 +17,7 @@ use Rattle.scop_roles.specs.Forms.{is_sum_or_product, is_shift, is_and, is_compa
 use Rattle.scop_roles.specs.Faults.{first, first_of, told, judged, faults, place_faults, operand_role, term_role}
 use Rattle.scop_roles.specs.Faults.{side_role, own, own_rank, own_operator, or_else, only_where, are_plain_constants}
 use Rattle.scop_roles.specs.Faults.{is_count, last_count, is_shift_count}
-use Rattle.scop_roles.specs.Judgement.{part_or_own}
+use Rattle.scop_roles.specs.steps.Judgement.{part_or_own}
 use Rattle.scop_roles.specs.Values.{combined, operator}
 use Rattle.scop_roles.proofs.Firsts.{first-append, first-judged, first_of_none, part_or_own_none, none_part_or_own}
 use Rattle.scop_roles.proofs.NodeFaults.{unary_first, binary_first, sum_sides}

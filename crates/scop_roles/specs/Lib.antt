@@ -2,6 +2,6 @@ pub mod Formula
 pub mod Forms
 pub mod Faults
 pub mod Values
-pub mod Judgement
 pub mod Resolving
 pub mod Scope
+pub mod steps

@@ -7,7 +7,7 @@ ghost use Rattle.scop_roles.specs.declared.formula.Role.TheVariants as role;
 ghost use Rattle.scop_roles.specs.Faults.{faults, first, place_faults};
 ghost use Rattle.scop_roles.specs.Forms.{form};
 ghost use Rattle.scop_roles.specs.Formula.{Formula as Tree, argument_of, formula_of, index, with_argument};
-ghost use Rattle.scop_roles.specs.Judgement.{HasForm, IsFormOf, IsJudgement, in_role};
+ghost use Rattle.scop_roles.specs.steps.Judgement.{HasForm, IsFormOf, IsJudgement, in_role};
 
 use crate::kinds::Fault;
 use crate::formula::{Argument, Formula, Role};

@@ -1,7 +1,7 @@
 //! What can be wrong with a text, in the order of the kinds at one place.
 ghost use Rattle.std.specs.Prelude.{◌≡◌};
 ghost use Rattle.scop_roles.specs.Faults.{first, first_of, number, only_where, precedes, told};
-ghost use Rattle.scop_roles.specs.Judgement.{part_or_own};
+ghost use Rattle.scop_roles.specs.steps.Judgement.{part_or_own};
 
 /// The kinds of faults, in the order in which they are looked for, and at one place in their order.
 #[derive(Clone, Copy)]

@@ -6,7 +6,7 @@ ghost use Rattle.scop_roles.specs.Faults.{called, faults, first, first_of, told}
 ghost use Rattle.scop_roles.specs.Forms.{has_name, is_long, is_signed, keeps_type};
 ghost use Rattle.scop_roles.specs.Formula.{Formula as Tree, bare_call, call, cast, constant, index, name};
 ghost use Rattle.scop_roles.specs.Formula.{unary};
-ghost use Rattle.scop_roles.specs.Judgement.{HasForm, IsFormOf, IsJudgement, is_zero, one_less};
+ghost use Rattle.scop_roles.specs.steps.Judgement.{HasForm, IsFormOf, IsJudgement, is_zero, one_less};
 
 use crate::kinds::{Fault, first_of, part_or_own, told};
 use crate::forms::{constant_form, multiple, variable_form};

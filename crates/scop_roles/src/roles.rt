@@ -8,7 +8,7 @@ ghost use Rattle.scop_roles.specs.Formula.{subscripts, unary};
 ghost use Rattle.scop_roles.specs.Forms.{is_and, is_comparison, is_minus, is_number, is_product, is_shift, is_signed};
 ghost use Rattle.scop_roles.specs.Forms.{greatest, is_joining, is_long, is_narrow_array, is_narrow_width};
 ghost use Rattle.scop_roles.specs.Forms.{is_sum_or_product, keeps_type, makes_narrow};
-ghost use Rattle.scop_roles.specs.Judgement.{own_joined};
+ghost use Rattle.scop_roles.specs.steps.Judgement.{own_joined};
 ghost use Rattle.scop_expressions.specs.Width.{Width};
 ghost use Rattle.scop_roles.specs.declared.kinds.Kind.TheVariants as kind;
 ghost use Rattle.scop_roles.specs.declared.formula.Meaning.{Meaning};

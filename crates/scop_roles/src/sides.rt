@@ -5,7 +5,7 @@ ghost use Rattle.scop_roles.specs.declared.kinds.Kind.TheVariants as kind;
 ghost use Rattle.scop_roles.specs.Faults.{faults, first};
 ghost use Rattle.scop_roles.specs.Forms.{combined_forms, is_product, is_sum_or_product, is_within, makes_narrow};
 ghost use Rattle.scop_roles.specs.Formula.{Formula as Tree, binary};
-ghost use Rattle.scop_roles.specs.Judgement.{HasForm, IsJoined, IsJudgement, IsOwnAffine};
+ghost use Rattle.scop_roles.specs.steps.Judgement.{HasForm, IsJoined, IsJudgement, IsOwnAffine};
 
 use crate::kinds::{Fault, Kind, first_of, part_or_own};
 use crate::forms::{is_within, multiple, sum};

@@ -9,7 +9,7 @@ use Rattle.fm_projection.specs.Alone.{AreInRange}
 use Rattle.fm_projection.proofs.Ranges.{fitted, fitted_length, satisfies_fitted}
 use Rattle.plain_scan.proofs.ConstraintLists.{of_rows}
 use Rattle.plain_scan.proofs.Pieces.{all_append}
-use Rattle.split_scan.specs.Questions.{AreNatural, HasNone, IsVoid}
+use Rattle.split_scan.specs.steps.Questions.{AreNatural, HasNone, IsVoid}
 use Rattle.split_scan.proofs.Values.{one_size, one_point}
 
 -- parameters in range, or zeros, are whole numbers within bounds

@@ -9,14 +9,14 @@ use Rattle.fm_projection.proofs.Ranges.{place_value}
 use Rattle.fm_projection.proofs.WholePoints.{one_more}
 use Rattle.plain_scan.specs.declared.set_outline.Outline.{Outline}
 use Rattle.plain_scan.specs.Hulls.{AreHullRows, IsHull, IsHullRow}
-use Rattle.plain_scan.specs.Sets.{AllAtLeast}
+use Rattle.plain_scan.specs.steps.Serving.{AllAtLeast}
 use Rattle.plain_scan.proofs.CodeBounds.{take_next}
 use Rattle.plain_scan.proofs.Pieces.{append_all}
 use Rattle.plain_scan.proofs.Rows.{widened_held}
 use Rattle.plain_scan.proofs.HullLoops.{own_coefficient}
-use Rattle.split_scan.specs.Questions.{AreNatural, IsCut}
-use Rattle.split_scan.specs.Copies.{bounding_in, if_bounds}
-use Rattle.split_scan.specs.Bounding.{AreBars}
+use Rattle.split_scan.specs.steps.Questions.{AreNatural, IsCut}
+use Rattle.split_scan.specs.steps.Copies.{bounding_in, if_bounds}
+use Rattle.split_scan.specs.steps.Bounding.{AreBars}
 use Rattle.split_scan.proofs.PartLoops.{ends}
 
 -- row by row

@@ -8,17 +8,18 @@ use Rattle.loop_tree.specs.View.{trees_of}
 use Rattle.plain_scan.specs.declared.set_outline.Outline.{Outline}
 use Rattle.plain_scan.specs.Hulls.{IsAlike, sets_in}
 use Rattle.plain_scan.specs.Rows.{low_bounds, high_bounds}
-use Rattle.plain_scan.specs.Sets.{AllAbove, AllAtLeast, NumbersRise}
+use Rattle.plain_scan.specs.Sets.{AllAbove, NumbersRise, IsShaped}
+use Rattle.plain_scan.specs.steps.Serving.{AllAtLeast}
 use Rattle.plain_scan.specs.Sorting.{lows_in, highs_in}
-use Rattle.plain_scan.specs.Pieces.{Piece, loops_of}
+use Rattle.plain_scan.specs.steps.Pieces.{Piece, loops_of}
 use Rattle.plain_scan.proofs.CodeBounds.{take_next}
 use Rattle.plain_scan.proofs.Pieces.{append_all}
 use Rattle.plain_scan.proofs.HullLoops.{alike_of, keys_hold}
 use Rattle.plain_scan.proofs.HullNodes.{over_outlines}
-use Rattle.split_scan.specs.Questions.{AreNatural, IsCut}
-use Rattle.split_scan.specs.Parts.{staying}
-use Rattle.split_scan.specs.Bounding.{AreBars}
-use Rattle.plain_scan.specs.Nodes.{IsNode, IsShaped}
+use Rattle.split_scan.specs.steps.Questions.{AreNatural, IsCut}
+use Rattle.split_scan.specs.steps.Parts.{staying}
+use Rattle.split_scan.specs.steps.Bounding.{AreBars}
+use Rattle.plain_scan.specs.steps.Nodes.{IsNode}
 use Rattle.split_scan.specs.steps.Frames.{AreBodies, Frame, HasBodies, IsFrame, frame_of, high_in, inside_of, low_in}
 use Rattle.split_scan.specs.steps.Frames.{piece_of, pieces_of, tree_at}
 use Rattle.split_scan.specs.declared.part.Part.{Part}

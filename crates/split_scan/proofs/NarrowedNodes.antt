@@ -2,14 +2,15 @@
 use Rattle.scop_syntax.proofs.Common.{◌≡◌, ℕ, ◌+◌, ◌<◌, ℤ, pos, List, [], ◌∷◌, ◌++◌, length, take, get_or, ◌⊎◌, inl, inr}
 use Rattle.scop_syntax.proofs.Common.{subst, sym, ap, ◌∙◌, All, ◌≤ℤ◌, Affine, complement, value_of}
 use Rattle.integer_sets.specs.Scanned.{Scanned}
-use Rattle.plain_scan.specs.Sets.{AllAtLeast, IsKeyOf, Keys}
+use Rattle.plain_scan.specs.Sets.{IsKeyOf, Keys}
+use Rattle.plain_scan.specs.steps.Serving.{AllAtLeast}
 use Rattle.plain_scan.specs.Hulls.{sets_in}
 use Rattle.plain_scan.specs.declared.set_outline.Outline.{Outline}
 use Rattle.plain_scan.proofs.CodeBounds.{take_next}
 use Rattle.plain_scan.proofs.Pieces.{all_append}
 use Rattle.plain_scan.proofs.WholeScans.{sets_more}
-use Rattle.split_scan.specs.Questions.{IsVoid}
-use Rattle.split_scan.specs.Parts.{Implies}
+use Rattle.split_scan.specs.steps.Questions.{IsVoid}
+use Rattle.split_scan.specs.steps.Parts.{Implies}
 use Rattle.split_scan.specs.steps.Narrowing.{HasNoKey, HoldAtKeys}
 use Rattle.split_scan.proofs.NodeParts.{implied_at, one_side}
 

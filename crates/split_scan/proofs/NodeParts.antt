@@ -7,7 +7,8 @@ use Rattle.scop_syntax.proofs.Common.{length-multiples, mul_neg_left, mul_one_le
 use Rattle.fractions.specs.Elimination.{coefficient_of}
 use Rattle.integer_sets.specs.Scanned.{Scanned}
 use Rattle.plain_scan.specs.Between.{HasSmallNumbers}
-use Rattle.plain_scan.specs.Sets.{AllAtLeast, IsKeyOf, Keys}
+use Rattle.plain_scan.specs.Sets.{IsKeyOf, Keys}
+use Rattle.plain_scan.specs.steps.Serving.{AllAtLeast}
 use Rattle.plain_scan.specs.declared.outline.Shadow.{Shadow}
 use Rattle.plain_scan.specs.declared.set_outline.Outline.{Outline}
 use Rattle.plain_scan.specs.Hulls.{IsAlike, sets_in}
@@ -15,9 +16,9 @@ use Rattle.plain_scan.proofs.CodeBounds.{take_next}
 use Rattle.plain_scan.proofs.Pieces.{all_append}
 use Rattle.plain_scan.proofs.HullLoops.{row_holds}
 use Rattle.fm_projection.specs.Alone.{AreInRange}
-use Rattle.split_scan.specs.Questions.{IsCut, IsVoid}
-use Rattle.split_scan.specs.Parts.{Goes, HasMarks, Implies, InPart, IsCell, IsHeld, IsNext, IsPart, Keeps}
-use Rattle.split_scan.specs.Parts.{staying}
+use Rattle.split_scan.specs.steps.Questions.{IsCut, IsVoid}
+use Rattle.split_scan.specs.steps.Parts.{Goes, HasMarks, Implies, InPart, IsCell, IsHeld, IsNext, IsPart, Keeps}
+use Rattle.split_scan.specs.steps.Parts.{staying}
 use Rattle.split_scan.specs.declared.part.Part.{Part}
 
 -- the keys of the sets that stay are keys of all

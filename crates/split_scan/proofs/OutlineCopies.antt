@@ -9,8 +9,8 @@ use Rattle.plain_scan.specs.Hulls.{sets_in}
 use Rattle.plain_scan.specs.Outlines.{AreShadows, IsRowBefore, IsShadowOf}
 use Rattle.plain_scan.proofs.CodeBounds.{take_next}
 use Rattle.plain_scan.proofs.WholeScans.{sets_more}
-use Rattle.split_scan.specs.Copies.{AreCopies, IsCopy, one_if}
-use Rattle.split_scan.specs.Parts.{staying}
+use Rattle.split_scan.specs.steps.Copies.{AreCopies, IsCopy, one_if}
+use Rattle.split_scan.specs.steps.Parts.{staying}
 
 -- copies one by one
 pub copies_more : (xs ys : List Shadow) (x y : Shadow) → AreCopies xs ys → IsCopy x y

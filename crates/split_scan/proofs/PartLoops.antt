@@ -10,14 +10,14 @@ use Rattle.integer_sets.specs.Scanned.{Scanned}
 use Rattle.loop_tree.specs.Tree.{Trees, more, none}
 use Rattle.loop_tree.specs.Walk.{walk, walk_all}
 use Rattle.loop_tree.specs.Fits.{AreSmallForms, AreSmallTrees}
-use Rattle.plain_scan.specs.Sets.{AllAtLeast}
-use Rattle.plain_scan.specs.Rows.{IsPlace, deeper, low_bounds, high_bounds}
-use Rattle.plain_scan.specs.Pieces.{ArePieces, InSome, IsBelow, IsPiece, LiesIn, bounding, loop_of, loops_of}
-use Rattle.plain_scan.specs.Shape.{AreMarked, AreShaped, HaveFlatBodies}
+use Rattle.plain_scan.specs.steps.Serving.{AllAtLeast, IsPlace, deeper}
+use Rattle.plain_scan.specs.Rows.{low_bounds, high_bounds}
+use Rattle.plain_scan.specs.steps.Pieces.{ArePieces, InSome, IsBelow, IsPiece, LiesIn, bounding, loop_of, loops_of}
+use Rattle.plain_scan.specs.steps.Shape.{AreMarked, AreShaped, HaveFlatBodies}
 use Rattle.plain_scan.proofs.ScannedTrees.{IsRowOver, all_of_more, loop_shaped, row_over}
 use Rattle.plain_scan.specs.Sorting.{if_above, if_below, lows_in, highs_in}
-use Rattle.plain_scan.specs.Giving.{Gives, TurnsOn}
-use Rattle.plain_scan.specs.Hulls.{flags}
+use Rattle.plain_scan.specs.steps.Giving.{Gives, TurnsOn}
+use Rattle.plain_scan.specs.Scanning.{flags}
 use Rattle.plain_scan.proofs.Rows.{widened_held, widened_hold}
 use Rattle.plain_scan.proofs.Pieces.{all_append, append_all, dimension_serves}
 use Rattle.plain_scan.proofs.Shape.{flat_pieces, marks_pieces}
@@ -25,10 +25,10 @@ use Rattle.plain_scan.proofs.SortedRows.{lows_are_low, highs_are_high, lows_hold
 use Rattle.plain_scan.proofs.Smallness.{high_is_number, is_small, loop_small, low_is_number}
 use Rattle.plain_scan.proofs.VisitIterators.{loop_gives}
 use Rattle.plain_scan.proofs.HullLoops.{own_coefficient}
-use Rattle.split_scan.specs.Questions.{IsCut, IsIn}
-use Rattle.split_scan.specs.Parts.{InPart, IsPart, staying}
-use Rattle.split_scan.specs.Ordering.{AreParts, IsBelowAll, Rise}
-use Rattle.plain_scan.specs.Nodes.{IsNode}
+use Rattle.split_scan.specs.steps.Questions.{IsCut, IsIn}
+use Rattle.split_scan.specs.steps.Parts.{InPart, IsPart, staying}
+use Rattle.split_scan.specs.steps.Ordering.{AreParts, IsBelowAll, Rise}
+use Rattle.plain_scan.specs.steps.Nodes.{IsNode}
 use Rattle.split_scan.specs.steps.Frames.{AreBodies, Frame, IsFrame, high_in, inside_of, low_in, piece_of, pieces_of}
 use Rattle.split_scan.specs.steps.Frames.{rows_in}
 use Rattle.split_scan.specs.declared.part.Part.{Part}

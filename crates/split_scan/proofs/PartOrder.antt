@@ -9,15 +9,16 @@ use Rattle.scop_syntax.proofs.Common.{mul_one_left, mul_neg_left, le_or_lt}
 use Rattle.fm_projection.proofs.WholePoints.{one_more}
 use Rattle.integer_sets.specs.Scanned.{Scanned}
 use Rattle.affine_forms.specs.Parts.{variables_of}
-use Rattle.plain_scan.specs.Sets.{AllAtLeast, Keys}
+use Rattle.plain_scan.specs.Sets.{Keys}
+use Rattle.plain_scan.specs.steps.Serving.{AllAtLeast}
 use Rattle.plain_scan.proofs.Pieces.{all_append}
 use Rattle.plain_scan.proofs.Rows.{widened_hold}
-use Rattle.split_scan.specs.Questions.{AreNatural, HasNone, IsCut, IsIn}
-use Rattle.split_scan.specs.Parts.{HasMarks, InPart, IsPart, staying}
+use Rattle.split_scan.specs.steps.Questions.{AreNatural, HasNone, IsCut, IsIn}
+use Rattle.split_scan.specs.steps.Parts.{HasMarks, InPart, IsPart, staying}
 use Rattle.split_scan.specs.steps.Narrowing.{HoldAtKeys}
 use Rattle.split_scan.specs.steps.Picking.{IsPicking}
 use Rattle.split_scan.proofs.NodeParts.{in_part_append}
-use Rattle.split_scan.specs.Ordering.{AreBelow, AreEnoughParts, AreParts, IsBelowAll, Rise, difference, turned}
+use Rattle.split_scan.specs.steps.Ordering.{AreBelow, AreEnoughParts, AreParts, IsBelowAll, Rise, difference, turned}
 use Rattle.split_scan.specs.declared.part.Part.{Part}
 use Rattle.split_scan.proofs.Values.{one_point, one_size, widened_sized}
 

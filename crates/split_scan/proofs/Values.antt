@@ -4,7 +4,7 @@ use Rattle.scop_syntax.proofs.Common.{length-append, All-cons, All-head, All-nil
 use Rattle.scop_syntax.proofs.Common.{length-widened}
 use Rattle.fm_projection.proofs.WholePoints.{one_more}
 use Rattle.affine_forms.specs.Parts.{variables_of}
-use Rattle.plain_scan.specs.Sets.{AllAtLeast}
+use Rattle.plain_scan.specs.steps.Serving.{AllAtLeast}
 
 -- the outer values and the loop's value as one list
 pub one_size : (outer : List ℤ) (x : ℤ) (m : ℕ) → length outer ≡ m → length (outer ++ x ∷ []) ≡ m + 1

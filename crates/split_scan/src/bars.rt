@@ -7,9 +7,9 @@ ghost use Rattle.whole_numbers.specs.Affine.{Affine, widened};
 ghost use Rattle.affine_forms.specs.Parts.{variables_of};
 ghost use Rattle.fm_projection.specs.Alone.{place_form};
 ghost use Rattle.plain_scan.specs.Hulls.{IsAlike};
-ghost use Rattle.split_scan.specs.Questions.{AreNatural};
-ghost use Rattle.split_scan.specs.Copies.{bounding_in};
-ghost use Rattle.split_scan.specs.Bounding.{AreBars};
+ghost use Rattle.split_scan.specs.steps.Questions.{AreNatural};
+ghost use Rattle.split_scan.specs.steps.Copies.{bounding_in};
+ghost use Rattle.split_scan.specs.steps.Bounding.{AreBars};
 
 use crate::level::Level;
 use affine_forms::{Form, push_copies, push_copy, push_widened};

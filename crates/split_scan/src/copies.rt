@@ -4,8 +4,8 @@ ghost use Rattle.std.specs.Prelude.{◌≡◌, ◌++◌, ◌∷◌, [], IfOk, On
 ghost use Rattle.plain_scan.specs.Hulls.{sets_in};
 ghost use Rattle.plain_scan.specs.Outlines.{AreShadows};
 ghost use Rattle.plain_scan.specs.declared.outline.Shadow.{Shadow};
-ghost use Rattle.split_scan.specs.Copies.{AreCopies, IsCopy, one_if};
-ghost use Rattle.split_scan.specs.Parts.{staying};
+ghost use Rattle.split_scan.specs.steps.Copies.{AreCopies, IsCopy, one_if};
+ghost use Rattle.split_scan.specs.steps.Parts.{staying};
 
 use affine_forms::{Form, copies};
 use integer_sets::ScanSet;

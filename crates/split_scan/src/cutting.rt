@@ -4,8 +4,8 @@ ghost use Rattle.std.specs.Prelude.{◌≡◌, suc, ◌+◌, ◌<◌, ◌++◌, 
 ghost use Rattle.affine_forms.specs.Parts.{variables_of};
 ghost use Rattle.plain_scan.specs.Between.{HasSmallNumbers};
 ghost use Rattle.plain_scan.specs.Hulls.{IsAlike};
-ghost use Rattle.split_scan.specs.Questions.{IsCut, IsIn, IsVoid};
-ghost use Rattle.split_scan.specs.Parts.{Goes, InPart, IsCell, IsHeld};
+ghost use Rattle.split_scan.specs.steps.Questions.{IsCut, IsIn, IsVoid};
+ghost use Rattle.split_scan.specs.steps.Parts.{Goes, InPart, IsCell, IsHeld};
 ghost use Rattle.split_scan.specs.declared.part.Part.{Part};
 
 use crate::halt::Halt;

@@ -2,7 +2,7 @@
 
 ghost use Rattle.std.specs.Prelude.{◌≡◌, ◌+◌, ◌<◌, ◌^◌, All, IsTrue};
 ghost use Rattle.affine_forms.specs.Parts.{variables_of};
-ghost use Rattle.split_scan.specs.Questions.{AreNatural};
+ghost use Rattle.split_scan.specs.steps.Questions.{AreNatural};
 
 use affine_forms::Form;
 

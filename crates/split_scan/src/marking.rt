@@ -3,8 +3,8 @@
 ghost use Rattle.std.specs.Prelude.{◌≡◌, suc, ◌+◌, ◌++◌, ◌∷◌, List, ℤ, All, IfOk, length};
 ghost use Rattle.affine_forms.specs.Parts.{variables_of};
 ghost use Rattle.plain_scan.specs.Hulls.{IsAlike, sets_in};
-ghost use Rattle.split_scan.specs.Questions.{IsIn};
-ghost use Rattle.split_scan.specs.Parts.{HasMarks, InPart, IsCell, IsPart, Keeps};
+ghost use Rattle.split_scan.specs.steps.Questions.{IsIn};
+ghost use Rattle.split_scan.specs.steps.Parts.{HasMarks, InPart, IsCell, IsPart, Keeps};
 
 use crate::cutting::{cells_of, lacks};
 use crate::halt::Halt;

@@ -5,7 +5,7 @@ ghost use Rattle.whole_numbers.specs.Affine.{complement};
 ghost use Rattle.affine_forms.specs.Parts.{variables_of};
 ghost use Rattle.plain_scan.specs.Between.{HasSmallNumbers};
 ghost use Rattle.plain_scan.specs.Hulls.{IsAlike, sets_in};
-ghost use Rattle.split_scan.specs.Questions.{IsCut};
+ghost use Rattle.split_scan.specs.steps.Questions.{IsCut};
 ghost use Rattle.split_scan.specs.declared.part.Part.{Part};
 ghost use Rattle.split_scan.specs.steps.Narrowing.{HasNoKey, HoldAtKeys};
 

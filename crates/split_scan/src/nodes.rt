@@ -8,11 +8,11 @@ ghost use Rattle.loop_tree.specs.Tree.{loop};
 ghost use Rattle.loop_tree.specs.View.{nodes_of, tree_of};
 ghost use Rattle.plain_scan.specs.Hulls.{IsAlike, sets_in};
 ghost use Rattle.plain_scan.specs.Rows.{low_bounds, high_bounds};
-ghost use Rattle.plain_scan.specs.Sets.{NumbersRise};
+ghost use Rattle.plain_scan.specs.Sets.{NumbersRise, IsShaped};
 ghost use Rattle.plain_scan.specs.Sorting.{lows_in, highs_in};
-ghost use Rattle.split_scan.specs.Questions.{AreNatural, IsCut};
-ghost use Rattle.split_scan.specs.Ordering.{AreParts};
-ghost use Rattle.plain_scan.specs.Nodes.{IsNode, IsShaped};
+ghost use Rattle.split_scan.specs.steps.Questions.{AreNatural, IsCut};
+ghost use Rattle.split_scan.specs.steps.Ordering.{AreParts};
+ghost use Rattle.plain_scan.specs.steps.Nodes.{IsNode};
 
 use crate::bars::{bars, level_of};
 use crate::copies::staying;

@@ -5,8 +5,8 @@ ghost use Rattle.std.specs.Prelude.{OnOk, length, take};
 ghost use Rattle.std.specs.Prelude.{drop, get_or, false};
 ghost use Rattle.affine_forms.specs.Parts.{variables_of};
 ghost use Rattle.integer_sets.specs.Scanned.{Scanned};
-ghost use Rattle.split_scan.specs.Parts.{HasMarks, IsPart};
-ghost use Rattle.split_scan.specs.Ordering.{AreBelow, AreEnoughParts, AreParts, IsBelowAll, Rise, difference};
+ghost use Rattle.split_scan.specs.steps.Parts.{HasMarks, IsPart};
+ghost use Rattle.split_scan.specs.steps.Ordering.{AreBelow, AreEnoughParts, AreParts, IsBelowAll, Rise, difference};
 ghost use Rattle.split_scan.specs.steps.Picking.{IsPicking};
 ghost use Rattle.split_scan.specs.declared.part.Part.{Part};
 

@@ -4,7 +4,7 @@ ghost use Rattle.std.specs.Prelude.{◌≡◌, ◌+◌, ◌++◌, All, IfOk, IsT
 ghost use Rattle.whole_numbers.specs.Affine.{complement};
 ghost use Rattle.affine_forms.specs.Parts.{variables_of};
 ghost use Rattle.plain_scan.specs.Between.{HasSmallNumbers};
-ghost use Rattle.split_scan.specs.Questions.{HasNone, IsVoid};
+ghost use Rattle.split_scan.specs.steps.Questions.{HasNone, IsVoid};
 
 use crate::halt::Halt;
 use crate::level::Level;

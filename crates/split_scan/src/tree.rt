@@ -4,7 +4,7 @@ ghost use Rattle.std.specs.Prelude.{IfErr, IfOk};
 ghost use Rattle.loop_tree.specs.View.{trees_in};
 ghost use Rattle.plain_scan.specs.Hulls.{sets_in};
 ghost use Rattle.plain_scan.specs.Sets.{NumbersRise};
-ghost use Rattle.plain_scan.specs.Outlined.{AreNodesOf};
+ghost use Rattle.plain_scan.specs.steps.Nodes.{AreNodesOf};
 ghost use Rattle.plain_scan.specs.Scanning.{AreScanned, IsScan, StopsScan};
 
 use crate::nodes::{Shape, nodes};

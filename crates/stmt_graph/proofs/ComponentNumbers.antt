@@ -5,7 +5,7 @@ use Rattle.scop_syntax.proofs.Common.{false≢true, eq-eqb, le-ltb, ltb-false, e
 use Rattle.scop_syntax.proofs.Common.{nat_eq_below}
 use Rattle.whole_numbers.proofs.Tests.{if_both}
 use Rattle.stmt_graph.specs.Graph.{number_in, Reaches, IsNumbering}
-use Rattle.stmt_graph.specs.Closure.{IsClosure, reaches, joined, IsFree, IsNext, IsGiven}
+use Rattle.stmt_graph.specs.steps.Closure.{IsClosure, reaches, joined, IsFree, IsNext, IsGiven}
 use Rattle.stmt_graph.proofs.Counts.{lt_or_eq, count, count_falls, found, none_counted}
 use Rattle.stmt_graph.proofs.Reachability.{reaches_on}
 

@@ -4,7 +4,7 @@ use Rattle.scop_syntax.proofs.Common.{◌∙◌, ap, subst, ◌⊎◌, inl, inr,
 use Rattle.scop_syntax.proofs.Common.{drop-cons, add-one, ◌+◌, length-set, get_or-set_same, get_or-set_other, All-head}
 use Rattle.scop_syntax.proofs.Common.{All-tail, All-same, All-cons, false≢true, cases_lt, get_or_same, In}
 use Rattle.stmt_graph.specs.Graph.{AreWithin, IsChain, Reaches}
-use Rattle.stmt_graph.specs.Closure.{at, Leads, IsReached, IsClosure, AreSquare}
+use Rattle.stmt_graph.specs.steps.Closure.{at, Leads, IsReached, IsClosure, AreSquare}
 
 pub in_all : {X : Type 0} (P : X → Type 0) (x : X) (xs : List X) → All P xs → In x xs → P x
 in_all P x [] h i = absurd i

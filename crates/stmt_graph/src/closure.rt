@@ -1,6 +1,6 @@
 //! Which statements are reached from which, edge by edge.
 ghost use Rattle.std.specs.Prelude.{◌≡◌, ◌<◌, length, IfOk, slice_index_or, map, []};
-ghost use Rattle.stmt_graph.specs.Closure.{Leads, IsReached, IsClosure, reaches};
+ghost use Rattle.stmt_graph.specs.steps.Closure.{Leads, IsReached, IsClosure, reaches};
 ghost use Rattle.stmt_graph.specs.Graph.{AreWithin};
 
 use std::alloc::{AllocError, Global};

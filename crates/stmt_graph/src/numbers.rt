@@ -1,7 +1,7 @@
 //! Component after component gets its number.
 ghost use Rattle.std.specs.Prelude.{◌≡◌, ◌<◌, length, map, replicate, IfOk};
 ghost use Rattle.stmt_graph.specs.Graph.{AreWithin, IsNumbering};
-ghost use Rattle.stmt_graph.specs.Closure.{AreSquare, joined, Frees, IsNext, IsGiven};
+ghost use Rattle.stmt_graph.specs.steps.Closure.{AreSquare, joined, Frees, IsNext, IsGiven};
 
 use crate::closure::{closure, is_reached};
 use std::alloc::{AllocError, Global};

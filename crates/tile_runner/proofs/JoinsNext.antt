@@ -16,7 +16,7 @@ use Rattle.tile_core.specs.Passes.{walk_in}
 use Rattle.array_words.specs.Loads.{IsNextRead}
 use Rattle.array_words.specs.Seats.{IsSeat}
 use Rattle.array_words.specs.Stores.{IsNextLast, IsNextStore}
-use Rattle.tile_runner.specs.Laid.{AreJoined}
+use Rattle.tile_runner.specs.steps.Laid.{AreJoined}
 use Rattle.tile_runner.proofs.Laid.{RowsTell, first_tells, next_last, next_read}
 
 module _ (plan : Plan) (s : Stage) (lanes : JoinLanes) (a : AreJoined plan s lanes 1) (law : RowsTell)

@@ -26,7 +26,7 @@ use Rattle.tile_core.proofs.Stretches.{step_first}
 use Rattle.array_words.specs.Loads.{IsNextRead}
 use Rattle.array_words.specs.Seats.{IsSeat}
 use Rattle.array_words.specs.Stores.{IsNextLast}
-use Rattle.tile_runner.specs.Laid.{AreNext, IsOnDesk}
+use Rattle.tile_runner.specs.steps.Laid.{AreNext, IsOnDesk}
 
 -- the law of rows
 abbrev pub RowsTell : Type 0

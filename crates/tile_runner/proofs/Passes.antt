@@ -9,7 +9,7 @@ use Rattle.tile_core.specs.declared.worker.Stage.TheVariants.{Working}
 use Rattle.tile_core.specs.declared.words.Words.{Words}
 use Rattle.tile_core.specs.declared.words.Pass.{Pass}
 use Rattle.array_words.specs.Closing.{IsResting, Rests, one_if_ended, stage_in}
-use Rattle.tile_runner.specs.Running.{IsOver}
+use Rattle.tile_runner.specs.steps.Running.{IsOver}
 
 -- where all passes have ended they are counted all
 all_over : (words : Words) (passes : List Pass) → All (IsOver words) passes

@@ -17,7 +17,7 @@ use Rattle.tile_core.specs.declared.plan.Plan.{Plan}
 use Rattle.tile_core.specs.declared.worker.Stage.{Stage}
 use Rattle.tile_core.specs.declared.worker.Stage.TheVariants.{Working}
 use Rattle.tile_core.proofs.Strands.{laid_there, room_there, rounds_at}
-use Rattle.tile_runner.specs.Laid.{AreOnDesk, AreStrandsNext}
+use Rattle.tile_runner.specs.steps.Laid.{AreOnDesk, AreStrandsNext}
 
 -- what a strand gives in a round is on its desk, next in the tile
 pub strand_next : (plan : Plan) (b : Braid) (desks : List Desk) (i : ℕ) (s : Stretch) (desk : Desk) (row : Row)

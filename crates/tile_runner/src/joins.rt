@@ -9,7 +9,7 @@ ghost use Rattle.tile_core.specs.Plans.{IsPlan, is_expanded};
 ghost use Rattle.tile_core.specs.Stretches.{IsAhead};
 ghost use Rattle.tile_core.specs.Views.{done_at, tile_at};
 ghost use Rattle.tile_core.specs.declared.worker.Stage.TheVariants.{Working};
-ghost use Rattle.tile_runner.specs.Laid.{AreJoined};
+ghost use Rattle.tile_runner.specs.steps.Laid.{AreJoined};
 
 use crate::stretches::first_steps;
 use array_words::{load_at, store_at};

@@ -8,7 +8,7 @@ ghost use Rattle.tile_core.specs.Stretches.{IsWoven};
 ghost use Rattle.tile_core.specs.Views.{done_at, tile_at};
 ghost use Rattle.tile_core.specs.Workers.{IsWorker};
 ghost use Rattle.tile_core.specs.declared.worker.Stage.TheVariants.{Working};
-ghost use Rattle.tile_runner.specs.Laid.{AreStrandsNext};
+ghost use Rattle.tile_runner.specs.steps.Laid.{AreStrandsNext};
 
 use crate::stretches::do_laid;
 use atomic_table::Seat;

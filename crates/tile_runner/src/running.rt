@@ -5,7 +5,7 @@ ghost use Rattle.scop_syntax.specs.Cells.{Cell};
 ghost use Rattle.scop_syntax.specs.Execution.{IsCell, IsShaped, cell_number, exec, held, value_stored_at};
 ghost use Rattle.tile_core.specs.Plans.{HasRest, HoldsContents, IsPlan, extents_in, is_expanded};
 ghost use Rattle.tile_core.specs.Plans.{plain_shape, plan_of, program_in, shape_of, walk_in};
-ghost use Rattle.tile_runner.specs.Running.{IsOver, IsReady};
+ghost use Rattle.tile_runner.specs.steps.Running.{IsOver, IsReady};
 
 use crate::working::work;
 use array_words::{Closed, close, start};

@@ -12,7 +12,7 @@ ghost use Rattle.tile_core.specs.Stretches.{IsAhead};
 ghost use Rattle.tile_core.specs.Views.{done_at, tile_at};
 ghost use Rattle.tile_core.specs.Workers.{IsWorker};
 ghost use Rattle.tile_core.specs.declared.worker.Stage.TheVariants.{Working};
-ghost use Rattle.tile_runner.specs.Laid.{AreOnDesk};
+ghost use Rattle.tile_runner.specs.steps.Laid.{AreOnDesk};
 
 use crate::joins::{do_joins, lay_join};
 use array_words::{add_at, load_at, store_at};

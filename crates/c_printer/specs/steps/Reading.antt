@@ -13,7 +13,7 @@ use Rattle.c_printer.specs.Naming.{iterators_of}
 use Rattle.c_printer.specs.Statements.{statement_text}
 use Rattle.c_printer.specs.Reading.{is_narrow, turned_back, quotient, quotients, read_turn, read_lower, read_upper}
 use Rattle.c_printer.specs.Reading.{read_tests}
-use Rattle.c_printer.specs.View.{Line, line}
+use Rattle.c_printer.specs.steps.View.{Line, line}
 
 -- a number, where 64 bits hold it
 abbrev pub narrow : ℤ → Option ℤ

@@ -2,19 +2,14 @@
 use Rattle.std.specs.Prelude.{◌≡◌, ℕ, ◌^◌, ◌<◌, pos, ◌<ℤ◌, List, All, IfOk, Result, Some}
 use Rattle.wide_math.specs.Gives.{Gives}
 use Rattle.scop_lexer.specs.Bytes.{Text}
-use Rattle.scop_syntax.specs.Members.{In}
 use Rattle.iteration_domains.specs.Dependence.{Dependence}
-use Rattle.iteration_domains.specs.Model.{KernelModel}
-use Rattle.schedule_rows.specs.Items.{Block, Row, rows_in}
-use Rattle.schedule_rows.specs.Items as blocks
+use Rattle.schedule_rows.specs.Items.{Block, Row}
 use Rattle.schedule_rows.specs.Outcomes.{IsSchedule}
 use Rattle.schedule_rows.specs.Schedule.{Item, row, scalar, Scheduled, loops_in}
 use Rattle.plan_check.specs.Derivations.{Step, step_of}
-use Rattle.plan_check.specs.Goals.{goals_in}
 use Rattle.plan_check.specs.declared.lines.Line.{Line}
 use Rattle.plan_check.specs.declared.lines.Term.{Term}
-use Rattle.plan_certificate.specs.Certificates.{certificate_of, derivation_of}
-use Rattle.plan_certificate.specs.SchedulePlan.{plan_of_blocks}
+use Rattle.plan_certificate.specs.Certificates.{certificate_of, derivation_of, IsNarrow}
 use Rattle.plan_certificate.specs.View.{uncertified_in}
 use Rattle.plan_certificate.specs.declared.stop.CertifyStop.{CertifyStop}
 
@@ -45,14 +40,6 @@ AreNarrow steps = All IsNarrowStep steps
 -- those of a goal's derivation are
 abbrev pub HasNarrow : Dependence → Type 0
 HasNarrow d = (steps : List Step) → derivation_of d ≡ Some steps → AreNarrow steps
-
--- all numbers of a certificate are
-pub record IsNarrow (model : KernelModel) (bs : List Block) : Type 0 where
-  pub rows : All (λ r. All (λ z. z <ℤ pos (2 ^ 127)) r.u × (r.w <ℤ pos (2 ^ 127))) (rows_in bs)
-  pub scalars : (numbers : List ℕ) → In (blocks.scalar numbers) bs → All (λ n. n < 2 ^ 127) numbers
-  pub lines : (d : Dependence) (steps : List Step) → In d (goals_in model (plan_of_blocks bs))
-      → derivation_of d ≡ Some steps
-      → All (λ s. All (λ t. t.row < 2 ^ 64) s.terms) steps
 
 -- a call gives the certificate of these blocks, and where there is one its numbers are narrow
 pub record IsCertified {V : Type 0} (view : V → Text) (s : Scheduled) (result : Result V CertifyStop) : Type 0 where

@@ -1,21 +1,11 @@
 -- The ways to the leaves of a tree, as they are found from the last of its nodes to the first.
-use Rattle.std.specs.Prelude.{Bool, false, List, [], ◌∷◌, ◌++◌, map, Option, Some, None, Vec, ◌||◌, if◌then◌else◌}
+use Rattle.std.specs.Prelude.{Bool, false, List, [], ◌∷◌, ◌++◌, Option, Some, None, Vec, ◌||◌, if◌then◌else◌}
 use Rattle.std.specs.Global.{Global}
 use Rattle.quast_trees.specs.declared.node.Node.{Node}
 use Rattle.quast_trees.specs.declared.node.Node.TheVariants as node
 use Rattle.quast_trees.specs.Paths.{Turn, up, down, bound, LeafPath, path_to, are_opposite, fails}
 use Rattle.quast_trees.specs.declared.paths.Turn.{Turn as Held}
-use Rattle.quast_trees.specs.declared.paths.Turn.TheVariants as held
-
--- the turn that a value of the program holds
-abbrev pub turn_held : Held → Turn
-turn_held (held.Up test) = up test.now
-turn_held (held.Down test) = down test.now
-turn_held (held.Bound form divisor) = bound form.now divisor
-
--- the turns that a list holds
-abbrev pub turns_held : List Held → List Turn
-turns_held turns = map turn_held turns
+use Rattle.quast_trees.specs.PathView.{turns_held}
 
 -- the way that a value holds, if it holds one
 abbrev pub way_held : Option (Vec Held Global) → Option (List Turn)

@@ -6,12 +6,13 @@ use Rattle.integer_sets.specs.Scanned.{Scanned}
 use Rattle.fm_projection.specs.Alone.{AreInRange, place_form}
 use Rattle.std.specs.Option.{option_eq}
 use Rattle.loop_tree.specs.Tree.{Tree, Trees}
-use Rattle.plain_scan.specs.Sets.{AllAtLeast, Keys, row_tests, under}
-use Rattle.plain_scan.specs.Pieces.{Piece, loop_of}
+use Rattle.plain_scan.specs.Sets.{Keys, row_tests, under}
+use Rattle.plain_scan.specs.steps.Serving.{AllAtLeast}
+use Rattle.plain_scan.specs.steps.Pieces.{Piece, loop_of}
 use Rattle.plain_scan.specs.Sorting.{lows_in, highs_in}
-use Rattle.split_scan.specs.Questions.{IsCut}
-use Rattle.split_scan.specs.Parts.{staying}
-use Rattle.plain_scan.specs.Nodes.{IsNode}
+use Rattle.split_scan.specs.steps.Questions.{IsCut}
+use Rattle.split_scan.specs.steps.Parts.{staying}
+use Rattle.plain_scan.specs.steps.Nodes.{IsNode}
 use Rattle.split_scan.specs.declared.part.Part.{Part}
 
 -- the loop's dimension, how many variables its rows have, the two numbers and the other rows of its hull, whether it is

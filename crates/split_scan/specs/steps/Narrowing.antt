@@ -2,8 +2,9 @@
 use Rattle.std.specs.Prelude.{◌++◌, ◌∷◌, ℕ, ℤ, List}
 use Rattle.whole_numbers.specs.Affine.{Affine}
 use Rattle.integer_sets.specs.Scanned.{Scanned}
-use Rattle.plain_scan.specs.Sets.{AllAtLeast, Keys}
-use Rattle.split_scan.specs.Questions.{IsIn}
+use Rattle.plain_scan.specs.Sets.{Keys}
+use Rattle.plain_scan.specs.steps.Serving.{AllAtLeast}
+use Rattle.split_scan.specs.steps.Questions.{IsIn}
 
 -- where the rows hold, no set has a key in the node
 abbrev pub HasNoKey : ℕ → List Affine → List Scanned → List Affine → Type 0

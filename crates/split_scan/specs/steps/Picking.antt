@@ -3,8 +3,8 @@ use Rattle.std.specs.Prelude.{ℕ, ◌<◌, ℤ, List, ◌∷◌, ◌++◌, leng
 use Rattle.whole_numbers.specs.Affine.{Affine}
 use Rattle.integer_sets.specs.Scanned.{Scanned}
 use Rattle.plain_scan.specs.Sets.{Keys}
-use Rattle.split_scan.specs.Questions.{IsIn}
-use Rattle.split_scan.specs.Parts.{HasMarks, InPart, IsPart, staying}
+use Rattle.split_scan.specs.steps.Questions.{IsIn}
+use Rattle.split_scan.specs.steps.Parts.{HasMarks, InPart, IsPart, staying}
 use Rattle.split_scan.specs.declared.part.Part.{Part}
 
 -- what holds of the parts that wait and of those in order, where all are parts of the node of these sets

@@ -3,7 +3,7 @@ use Rattle.scop_lexer.specs.Bytes.{Text}
 use Rattle.loop_tree.specs.Tree.{Bounds}
 use Rattle.form_text.specs.Reading.{strip}
 use Rattle.c_printer.specs.Reading.{read_bound, read_bounds}
-use Rattle.c_printer.specs.View.{sides_in}
+use Rattle.c_printer.specs.steps.View.{sides_in}
 use Rattle.c_printer.specs.steps.Reading.{chosen_bound}
 use Rattle.c_printer.proofs.ReadSteps.{bounds_more, bounds_stop, bounds_last, bounds_spent}
 use Rattle.c_printer.proofs.read_bounds.read_bounds.Goals as goal

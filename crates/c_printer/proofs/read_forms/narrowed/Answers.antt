@@ -1,6 +1,6 @@
 use Rattle.scop_syntax.proofs.Common.{◌≡◌, ◌∙◌, ap₂, subst, List, IfOk, FitsSigned, w128, ℤ, Option, to_z-of_z, Affine}
 use Rattle.scop_lexer.specs.Bytes.{Text}
-use Rattle.c_printer.specs.View.{form_in}
+use Rattle.c_printer.specs.steps.View.{form_in}
 use Rattle.c_printer.specs.steps.Reading.{form_from, narrow}
 use Rattle.c_printer.proofs.NarrowNumbers.{form_narrowed}
 use Rattle.c_printer.proofs.read_forms.narrowed.Goals as goal

@@ -3,7 +3,7 @@ use Rattle.scop_syntax.proofs.Common.{Affine, form_of}
 use Rattle.scop_lexer.specs.Bytes.{Text}
 use Rattle.form_text.specs.Reading.{read_form, when}
 use Rattle.c_printer.specs.Reading.{narrowed, read_turn, turn_of}
-use Rattle.c_printer.specs.View.{form_in}
+use Rattle.c_printer.specs.steps.View.{form_in}
 use Rattle.c_printer.specs.steps.Reading.{turn_from}
 use Rattle.c_printer.proofs.NarrowNumbers.{turn_narrowed}
 use Rattle.c_printer.proofs.read_forms.read_turn.Goals as goal

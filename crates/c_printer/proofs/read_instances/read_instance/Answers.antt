@@ -4,7 +4,7 @@ use Rattle.scop_lexer.specs.Bytes.{Text}
 use Rattle.loop_tree.specs.Tree.{Tree}
 use Rattle.form_text.specs.Reading.{strip, when}
 use Rattle.c_printer.specs.Reading.{body_at}
-use Rattle.c_printer.specs.View.{node_in}
+use Rattle.c_printer.specs.steps.View.{node_in}
 use Rattle.c_printer.specs.steps.Reading.{place_of}
 use Rattle.c_printer.proofs.BoundTexts.{placed}
 use Rattle.c_printer.proofs.read_instances.read_instance.Goals as goal

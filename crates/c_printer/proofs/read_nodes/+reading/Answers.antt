@@ -6,7 +6,7 @@ use Rattle.loop_tree.specs.View.{tree_of}
 use Rattle.form_text.specs.Reading.{strip}
 use Rattle.c_printer.specs.Nodes.{indent}
 use Rattle.c_printer.specs.Reading.{read_node, read_nodes}
-use Rattle.c_printer.specs.View.{node_in}
+use Rattle.c_printer.specs.steps.View.{node_in}
 use Rattle.c_printer.proofs.ReadSteps.{parallel_node, loop_node, guard_node, nodes_more, nodes_stop, nodes_end}
 use Rattle.c_printer.proofs.read_nodes.+reading.Goals as goal
 

@@ -6,7 +6,7 @@ use Rattle.loop_tree.specs.Tree.{Trees}
 use Rattle.loop_tree.specs.View.{trees_in}
 use Rattle.form_text.specs.Reading.{strip, when}
 use Rattle.c_printer.specs.Reading.{printed_as, read_nodes}
-use Rattle.c_printer.specs.View.{body_part}
+use Rattle.c_printer.specs.steps.View.{body_part}
 use Rattle.c_printer.specs.Statements.{front_text}
 use Rattle.c_printer.proofs.read_nodes.read_whole.Goals as goal
 

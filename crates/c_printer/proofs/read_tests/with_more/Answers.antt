@@ -2,7 +2,7 @@ use Rattle.scop_syntax.proofs.Common.{rules, ◌≡◌, ◌∙◌, ◌<◌, ◌�
 use Rattle.loop_tree.specs.View.{test_of}
 use Rattle.form_text.specs.Reading.{strip}
 use Rattle.c_printer.specs.Reading.{read_more_tests, read_test, with_test}
-use Rattle.c_printer.specs.View.{test_part}
+use Rattle.c_printer.specs.steps.View.{test_part}
 use Rattle.c_printer.proofs.ReadSteps.{tests_more, tests_stop, tests_end}
 use Rattle.c_printer.proofs.read_tests.with_more.Goals as goal
 

@@ -2,7 +2,7 @@
 use Rattle.scop_syntax.proofs.Common.{◌≡◌, ◌-◌, map, Some}
 use Rattle.loop_tree.specs.View.{test_of}
 use Rattle.c_printer.specs.Reading.{read_more_tests, with_test}
-use Rattle.c_printer.specs.View.{test_part}
+use Rattle.c_printer.specs.steps.View.{test_part}
 use Rattle.c_printer.proofs.ReadSteps.{parts_before}
 use Rattle.c_printer.proofs.read_tests.with_more.Given as goal
 

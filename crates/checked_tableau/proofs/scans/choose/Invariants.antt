@@ -1,6 +1,6 @@
 use Rattle.whole_numbers.proofs.Common.{◌≡◌, ℕ, ◌-◌, length, None, Some}
 use Rattle.tableau_rows.specs.Moves.{line_row, rows_in, column_run}
-use Rattle.checked_tableau.specs.Leads.{Leads}
+use Rattle.checked_tableau.specs.steps.Leads.{Leads}
 use Rattle.checked_tableau.proofs.scans.choose.Given as goal
 
 abbrev pub invariant-loop-column : goal.invariant-loop-column

@@ -2,7 +2,7 @@
 use Rattle.scop_syntax.proofs.Common.{◌≡◌, ◌≤◌, ◌∙◌, sym, ap₂, subst, length, map, List, arith, ℤ, All, length-map}
 use Rattle.scop_syntax.proofs.Common.{Declaration, program_of, values, layout, size_of, IsDeclaration, narrow_arrays}
 use Rattle.data_lines.specs.Sheets.{given_of}
-use Rattle.data_text.specs.Conditions.{AreParameters, IsLayout}
+use Rattle.data_text.specs.steps.Conditions.{AreParameters, IsLayout}
 use Rattle.data_text.proofs.LayoutLemmas.{are_layouts}
 use Rattle.data_text.proofs.ContentLemmas.{shaped}
 use Rattle.data_text.proofs.case.case_given.Goals as goal

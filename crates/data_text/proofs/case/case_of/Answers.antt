@@ -3,7 +3,7 @@ use Rattle.scop_syntax.proofs.Common.{◌≡◌, ◌≤◌, ◌^◌, ◌∙◌, 
 use Rattle.scop_syntax.proofs.Common.{Declaration, program_of, values, layout, total_cells, size_of, narrow_arrays}
 use Rattle.data_lines.specs.Sheets.{given_of}
 use Rattle.data_text.specs.Cases.{bad_layout, first_miscount, param_of, params_of, too_many}
-use Rattle.data_text.specs.Conditions.{AreParameters}
+use Rattle.data_text.specs.steps.Conditions.{AreParameters}
 use Rattle.data_text.proofs.LayoutLemmas.{are_parameters, good_arrays}
 use Rattle.data_text.proofs.ContentLemmas.{shaped, none_miscounted}
 use Rattle.data_text.proofs.case.case_of.Goals as goal

@@ -1,6 +1,6 @@
 use Rattle.scop_syntax.proofs.Common.{◌∙◌, sym, ap, subst, map, arith, All, Declaration, program_of, values, size_of}
 use Rattle.scop_syntax.proofs.Common.{IsDeclaration}
-use Rattle.data_text.specs.Conditions.{AreLayouts}
+use Rattle.data_text.specs.steps.Conditions.{AreLayouts}
 use Rattle.data_text.proofs.LayoutLemmas.{are_layouts}
 use Rattle.data_text.proofs.extents.layout_said.Goals as goal
 

@@ -2,7 +2,7 @@ use Rattle.dataflow.proofs.Common.{◌≡◌, ◌∙◌, ℕ, List, Some, None, 
 use Rattle.dataflow.proofs.Common.{IsPosed, HeldOver, fitting, turned_back}
 use Rattle.quast_trees.specs.Tree.{named}
 use Rattle.iteration_domains.specs.declared.dep.DepEnd.{DepEnd}
-use Rattle.dataflow.specs.Steps.{tree_held}
+use Rattle.dataflow.specs.steps.Steps.{tree_held}
 use Rattle.dataflow.proofs.CandidateQuasts.{IsBetween, found_told, leaf_told, posed_over, stop_told}
 use Rattle.dataflow.proofs.candidate.solved_between.Goals.{In-Ok}
 use Rattle.dataflow.proofs.candidate.solved_between.Goals as goal

@@ -1,4 +1,4 @@
-use Rattle.dataflow.specs.LeafSteps.{HoldsRows}
+use Rattle.dataflow.specs.steps.LeafSteps.{HoldsRows}
 use Rattle.dataflow.proofs.LeafLoops.{next_binds, next_over, path_ends, path_more, path_starts, turn_has}
 use Rattle.dataflow.proofs.leaf_rows.push_path.Goals as goal
 

@@ -6,7 +6,7 @@ use Rattle.affine_forms.specs.Parts.{variables_of}
 use Rattle.wide_math.specs.declared.Wide.{Wide}
 use Rattle.wide_math.specs.Checked.{difference_of}
 use Rattle.farkas.specs.Matching.{HasEntry, equality_columns_run}
-use Rattle.farkas.specs.Gives.{with_more}
+use Rattle.farkas.specs.steps.Questions.{with_more}
 use Rattle.farkas.proofs.Steps.{with_more-err, equality_stop, equality_more}
 use Rattle.farkas.proofs.matching.append_equalities.Goals as goal
 

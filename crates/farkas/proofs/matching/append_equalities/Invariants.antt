@@ -1,6 +1,6 @@
 use Rattle.whole_numbers.proofs.Common.{◌≡◌, drop}
 use Rattle.farkas.specs.Matching.{equality_columns_run}
-use Rattle.farkas.specs.Gives.{with_more}
+use Rattle.farkas.specs.steps.Questions.{with_more}
 use Rattle.farkas.proofs.matching.append_equalities.Given as goal
 
 abbrev pub invariant-loop-form : goal.invariant-loop-form

@@ -3,7 +3,7 @@ use Rattle.affine_forms.specs.Gives.{Fails}
 use Rattle.iteration_domains.specs.Dependence.{binds_between}
 use Rattle.farkas.specs.Claims.{iterators, linear}
 use Rattle.farkas.specs.Matching.{coefficients_run}
-use Rattle.farkas.specs.Gives.{with_more}
+use Rattle.farkas.specs.steps.Questions.{with_more}
 use Rattle.farkas.proofs.ClaimedForms.{facts}
 use Rattle.farkas.proofs.MatchingParts.{together, source_run, target_run, bound_run, linear_run, fails-same}
 use Rattle.farkas.proofs.MatchingParts.{fails-first, fails-second, gains-together, gains-same}

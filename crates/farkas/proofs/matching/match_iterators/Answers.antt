@@ -3,7 +3,7 @@ use Rattle.whole_numbers.proofs.Common.{FitsSigned, Ok, w128, Affine, to_z-of_z}
 use Rattle.std.proofs.lemmas.List.{append-nil}
 use Rattle.farkas.specs.Claims.{only, iterators}
 use Rattle.farkas.specs.Matching.{coefficients_run}
-use Rattle.farkas.specs.Gives.{with_more}
+use Rattle.farkas.specs.steps.Questions.{with_more}
 use Rattle.farkas.proofs.Steps.{coefficient_more, coefficient_fails}
 use Rattle.farkas.proofs.matching.match_iterators.Goals as goal
 

@@ -1,7 +1,7 @@
 use Rattle.whole_numbers.proofs.Common.{rules, ◌≡◌, ◌+◌, ◌-◌, ◌<◌, ◌++◌, ◌∷◌, [], suc, subst, arith, ℕ, zeros}
 use Rattle.farkas.specs.Claims.{nones}
 use Rattle.farkas.specs.Matching.{coefficients_run}
-use Rattle.farkas.specs.Gives.{with_more}
+use Rattle.farkas.specs.steps.Questions.{with_more}
 use Rattle.farkas.proofs.Steps.{coefficient_more, coefficient_fails}
 use Rattle.farkas.proofs.matching.match_nones.Goals as goal
 

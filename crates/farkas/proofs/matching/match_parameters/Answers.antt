@@ -4,7 +4,7 @@ use Rattle.affine_forms.specs.Gives.{Fails}
 use Rattle.farkas.specs.declared.matching.Entry.TheVariants as entry
 use Rattle.farkas.specs.Claims.{only, parameters}
 use Rattle.farkas.specs.Matching.{matched_run, coefficients_run}
-use Rattle.farkas.specs.Gives.{with_more}
+use Rattle.farkas.specs.steps.Questions.{with_more}
 use Rattle.farkas.proofs.Steps.{coefficient_more, coefficient_fails}
 use Rattle.farkas.proofs.matching.match_parameters.Goals as goal
 

@@ -1,7 +1,7 @@
 use Rattle.whole_numbers.proofs.Common.{◌≡◌, ◌+◌, ◌-◌}
 use Rattle.farkas.specs.Claims.{parameters}
 use Rattle.farkas.specs.Matching.{coefficients_run}
-use Rattle.farkas.specs.Gives.{with_more}
+use Rattle.farkas.specs.steps.Questions.{with_more}
 use Rattle.farkas.proofs.matching.match_parameters.Given as goal
 
 abbrev pub invariant-loop-place : goal.invariant-loop-place

@@ -3,7 +3,7 @@ use Rattle.affine_forms.specs.Gives.{Fails}
 use Rattle.iteration_domains.specs.Dependence.{binds_between}
 use Rattle.farkas.specs.Claims.{bound_factor, nones, parameters}
 use Rattle.farkas.specs.Matching.{coefficients_run}
-use Rattle.farkas.specs.Gives.{with_more, Gains}
+use Rattle.farkas.specs.steps.Questions.{with_more, Gains}
 use Rattle.farkas.proofs.MatchingParts.{both, rest_run, fails-both, gains-both, fails-same, gains-same}
 use Rattle.farkas.proofs.matching.match_rest.Goals as goal
 

@@ -2,7 +2,7 @@ use Rattle.whole_numbers.proofs.Common.{◌++◌, Bool, subst, sym}
 use Rattle.tableau_rows.specs.Run.{run}
 use Rattle.checked_tableau.specs.Nodes.{Counted, answered}
 use Rattle.checked_tableau.specs.Table.{Table}
-use Rattle.pip_solver.specs.Promises.{Tells}
+use Rattle.pip_solver.specs.steps.Promises.{Tells}
 use Rattle.pip_solver.proofs.Questions.{ask-is}
 use Rattle.pip_solver.proofs.asking.ask.Goals as goal
 

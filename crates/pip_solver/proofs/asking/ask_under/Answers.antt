@@ -2,7 +2,7 @@ use Rattle.whole_numbers.proofs.Common.{rules, ◌≡◌, ◌∙◌, ◌+◌, �
 use Rattle.whole_numbers.proofs.Common.{w128, to_z-of_z, Bool, Affine}
 use Rattle.checked_tableau.specs.Nodes.{Counted, ask, formed, under_run, longer_form}
 use Rattle.checked_tableau.proofs.AddedParameters.{speaks-longer, speaks-append}
-use Rattle.pip_solver.specs.Promises.{Tells}
+use Rattle.pip_solver.specs.steps.Promises.{Tells}
 use Rattle.pip_solver.proofs.Decisions.{speaks_at}
 use Rattle.pip_solver.proofs.Questions.{asked-behind}
 use Rattle.pip_solver.proofs.asking.ask_under.Goals as goal

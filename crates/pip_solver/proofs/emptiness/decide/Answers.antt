@@ -1,7 +1,7 @@
 use Rattle.whole_numbers.proofs.Common.{◌≡◌, ◌∙◌, ◌++◌, List, length, ap, subst, sym, refl, Bool, arith, Result, Err}
 use Rattle.whole_numbers.proofs.Common.{All, Affine, all_front, all_back}
 use Rattle.checked_tableau.specs.Nodes.{Counted, ask}
-use Rattle.pip_solver.specs.Promises.{Tells}
+use Rattle.pip_solver.specs.steps.Promises.{Tells}
 use Rattle.pip_solver.specs.declared.question.QuestionStop.{QuestionStop}
 use Rattle.pip_solver.proofs.Decisions.{decided_is, turned}
 use Rattle.pip_solver.proofs.emptiness.decide.Goals as goal

@@ -1,6 +1,6 @@
 use Rattle.whole_numbers.proofs.Common.{◌≡◌, ℕ, suc, length, drop, reverse, Ok}
 use Rattle.quast_trees.specs.Postfix.{standing, top}
-use Rattle.pip_solver.specs.Frames.{under, joins, seconds, AreReady}
+use Rattle.pip_solver.specs.steps.Frames.{under, joins, seconds, AreReady}
 use Rattle.pip_solver.proofs.frames.resume.Given as goal
 
 abbrev pub invariant-loop-form : goal.invariant-loop-form

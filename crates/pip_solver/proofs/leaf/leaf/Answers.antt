@@ -6,7 +6,7 @@ use Rattle.tableau_rows.specs.Moves.{row_at}
 use Rattle.quast_trees.specs.Tree.{Tree}
 use Rattle.quast_trees.specs.Postfix.{standing}
 use Rattle.checked_tableau.specs.Nodes.{leaf_tree}
-use Rattle.pip_solver.specs.Frames.{under}
+use Rattle.pip_solver.specs.steps.Frames.{under}
 use Rattle.pip_solver.proofs.FrameStack.{sides_on, leaf_top, on_ok}
 use Rattle.pip_solver.proofs.leaf.leaf.Goals as goal
 

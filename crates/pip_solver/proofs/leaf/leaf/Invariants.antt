@@ -1,7 +1,7 @@
 use Rattle.whole_numbers.proofs.Common.{◌≡◌, ℕ, ◌+◌, List, [], drop, take, Ok}
 use Rattle.quast_trees.specs.Tree.{Tree}
 use Rattle.checked_tableau.specs.Nodes.{leaf_tree}
-use Rattle.pip_solver.specs.Frames.{under, KeepsSides}
+use Rattle.pip_solver.specs.steps.Frames.{under, KeepsSides}
 use Rattle.pip_solver.proofs.leaf.leaf.Given as goal
 
 abbrev pub invariant-loop-row : goal.invariant-loop-row

@@ -3,7 +3,7 @@ use Rattle.tableau_rows.specs.Rows.{Row}
 use Rattle.checked_tableau.specs.Nodes.{Counted, below_somewhere, part_of}
 use Rattle.pip_solver.specs.declared.node.Tableau.{Tableau}
 use Rattle.pip_solver.specs.Node.{node_of}
-use Rattle.pip_solver.specs.Promises.{Tells}
+use Rattle.pip_solver.specs.steps.Promises.{Tells}
 use Rattle.pip_solver.proofs.Questions.{asks_of, asked-yes, asked-more, asked-stops}
 use Rattle.pip_solver.proofs.looking.first_below.Goals as goal
 

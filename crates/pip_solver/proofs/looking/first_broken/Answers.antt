@@ -5,7 +5,7 @@ use Rattle.tableau_rows.specs.Moves.{row_at}
 use Rattle.checked_tableau.specs.Nodes.{Counted, broken_somewhere, part_of}
 use Rattle.pip_solver.specs.declared.node.Tableau.{Tableau}
 use Rattle.pip_solver.specs.Node.{node_of}
-use Rattle.pip_solver.specs.Promises.{Tells}
+use Rattle.pip_solver.specs.steps.Promises.{Tells}
 use Rattle.pip_solver.proofs.Questions.{asks_of, asked-yes, asked-more, asked-stops}
 use Rattle.pip_solver.proofs.looking.first_broken.Goals as goal
 use Rattle.pip_solver.proofs.looking.first_broken.Goals.{After-broken_somewhere}

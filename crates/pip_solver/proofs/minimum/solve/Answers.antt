@@ -6,10 +6,10 @@ use Rattle.tableau_rows.specs.Problem.{problem_of}
 use Rattle.checked_tableau.specs.Leaves.{IsAnswer}
 use Rattle.checked_tableau.specs.Nodes.{Counted, whole}
 use Rattle.pip_solver.specs.Node.{node_of}
-use Rattle.pip_solver.specs.Frames.{Runs}
+use Rattle.pip_solver.specs.steps.Frames.{Runs}
 use Rattle.checked_tableau.proofs.Trees.{lexmin-right}
 use Rattle.checked_tableau.proofs.KeptSolutions.{lexmin-forms}
-use Rattle.pip_solver.specs.Promises.{Tells}
+use Rattle.pip_solver.specs.steps.Promises.{Tells}
 use Rattle.pip_solver.specs.Solving.{solved}
 use Rattle.pip_solver.specs.declared.question.QuestionStop.{QuestionStop}
 use Rattle.pip_solver.proofs.ProblemRuns.{is_sized, first_ready, first_run, tree_speaks}

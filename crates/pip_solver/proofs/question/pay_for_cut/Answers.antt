@@ -6,7 +6,7 @@ use Rattle.tableau_rows.specs.Run.{run, cuts, next}
 use Rattle.checked_tableau.specs.Table.{Table, Cuts, resumed}
 use Rattle.checked_tableau.specs.declared.stop.TableauStop.TheVariants as moved
 use Rattle.pip_solver.specs.declared.question.QuestionStop.{QuestionStop}
-use Rattle.pip_solver.specs.Promises.{Advances, stop_of}
+use Rattle.pip_solver.specs.steps.Promises.{Advances, stop_of}
 use Rattle.pip_solver.proofs.QuestionRuns.{run_spent, run_cuts, run_cuts-wide}
 use Rattle.pip_solver.proofs.question.pay_for_cut.Goals as goal
 

@@ -3,8 +3,8 @@ use Rattle.quast_trees.specs.Postfix.{standing, top}
 use Rattle.checked_tableau.specs.Nodes.{leaf_tree, step}
 use Rattle.pip_solver.specs.Node.{node_of}
 use Rattle.pip_solver.specs.declared.step.Next.TheVariants as next
-use Rattle.pip_solver.specs.Steps.{Steps}
-use Rattle.pip_solver.specs.Frames.{under}
+use Rattle.pip_solver.specs.steps.Steps.{Steps}
+use Rattle.pip_solver.specs.steps.Frames.{under}
 use Rattle.pip_solver.proofs.FrameSteps.{stops_under, ends_under, initial_ends, goes_under}
 use Rattle.pip_solver.proofs.run.advance.Goals as goal
 

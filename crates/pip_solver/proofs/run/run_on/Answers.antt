@@ -5,8 +5,8 @@ use Rattle.checked_tableau.specs.Nodes.{Counted, whole}
 use Rattle.pip_solver.specs.declared.node.Tableau.{Tableau}
 use Rattle.pip_solver.specs.Node.{node_of}
 use Rattle.pip_solver.specs.declared.run.Progress.TheVariants as progress
-use Rattle.pip_solver.specs.Frames.{under, Proceeds, Resumes}
-use Rattle.pip_solver.specs.Promises.{Tells}
+use Rattle.pip_solver.specs.steps.Frames.{under, Proceeds, Resumes}
+use Rattle.pip_solver.specs.steps.Promises.{Tells}
 use Rattle.pip_solver.proofs.run.run_on.Goals as goal
 use Rattle.pip_solver.proofs.run.run_on.Goals.{In-Ok-Ended}
 

@@ -2,7 +2,7 @@ use Rattle.whole_numbers.proofs.Common.{◌≡◌, ◌≤◌, ◌+◌, length, r
 use Rattle.quast_trees.specs.Postfix.{standing}
 use Rattle.checked_tableau.specs.Nodes.{whole}
 use Rattle.pip_solver.specs.Node.{node_of}
-use Rattle.pip_solver.specs.Frames.{under, joins, seconds, IsReady, AreReady}
+use Rattle.pip_solver.specs.steps.Frames.{under, joins, seconds, IsReady, AreReady}
 use Rattle.pip_solver.proofs.run.run_on.Given as goal
 
 abbrev pub invariant-loop-stop : goal.invariant-loop-stop

@@ -2,8 +2,8 @@ use Rattle.whole_numbers.proofs.Common.{rules, ◌≡◌, ◌∙◌, Bool, true,
 use Rattle.quast_trees.specs.Tree.{initial}
 use Rattle.checked_tableau.specs.Nodes.{Next, Counted, ends, context_holds, looked, chained}
 use Rattle.pip_solver.specs.Node.{node_of}
-use Rattle.pip_solver.specs.Promises.{Tells}
-use Rattle.pip_solver.specs.Steps.{Steps}
+use Rattle.pip_solver.specs.steps.Promises.{Tells}
+use Rattle.pip_solver.specs.steps.Steps.{Steps}
 use Rattle.pip_solver.proofs.Questions.{chained-stops}
 use Rattle.pip_solver.proofs.NodeSteps.{steps_on, step-on, step-begins}
 use Rattle.pip_solver.proofs.step.step.Goals as goal

@@ -1,6 +1,7 @@
 use Rattle.whole_numbers.proofs.Common.{rules, subst, refl, List, Err, Affine}
 use Rattle.affine_forms.specs.declared.stop.FormStop.{FormStop}
-use Rattle.pip_solver.specs.Promises.{Forms, FormedUntil}
+use Rattle.pip_solver.specs.Promises.{FormedUntil}
+use Rattle.pip_solver.specs.steps.Promises.{Forms}
 use Rattle.pip_solver.proofs.Decisions.{unposed}
 use Rattle.pip_solver.proofs.system_rows.equality_rows.Goals as goal
 

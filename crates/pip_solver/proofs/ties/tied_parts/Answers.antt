@@ -3,7 +3,7 @@ use Rattle.wide_math.specs.declared.Wide.{Wide}
 use Rattle.affine_forms.specs.Gives.{Fails}
 use Rattle.affine_forms.specs.declared.stop.FormStop.{FormStop}
 use Rattle.checked_tableau.specs.Moves.{row_at}
-use Rattle.pip_solver.specs.Node.{ties_run}
+use Rattle.pip_solver.specs.steps.Cuts.{ties_run}
 use Rattle.pip_solver.proofs.NodeMoves.{parts-err, tied-run}
 use Rattle.pip_solver.proofs.ties.tied_parts.Goals as goal
 

@@ -1,5 +1,5 @@
 use Rattle.scop_syntax.proofs.Common.{ℤ, pos, ◌≤ℤ◌, List, ◌≤◌, ◌^◌, IfSome, unsigned_abs, form_of, value_of}
-use Rattle.plain_scan.specs.Hulls.{Hold}
+use Rattle.plain_scan.specs.steps.Pieces.{Hold}
 use Rattle.plain_scan.proofs.hull.least_constant.Given as goal
 
 abbrev pub invariant-loop-row : goal.invariant-loop-row

@@ -4,7 +4,8 @@ use Rattle.affine_forms.specs.Parts.{variables_of}
 use Rattle.plain_scan.specs.declared.outline.Shadow.{Shadow}
 use Rattle.plain_scan.specs.declared.set_outline.Outline.{Outline}
 use Rattle.plain_scan.specs.Outlines.{IsRowBefore}
-use Rattle.plain_scan.specs.Hulls.{Hold, HoldsAt, IsAlike}
+use Rattle.plain_scan.specs.Hulls.{HoldsAt, IsAlike}
+use Rattle.plain_scan.specs.steps.Pieces.{Hold}
 use Rattle.plain_scan.proofs.HullRows.{weaker, next_at, own_row}
 use Rattle.plain_scan.proofs.hull.weakest.Goals as goal
 use Rattle.plain_scan.proofs.hull.weakest.Goals.{After-as_slice}

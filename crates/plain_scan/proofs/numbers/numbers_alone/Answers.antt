@@ -1,6 +1,6 @@
 use Rattle.scop_syntax.proofs.Common.{◌≡◌, ◌∙◌, pos, All, subst, ◌≤ℤ◌, Affine, all_next}
 use Rattle.fractions.specs.Elimination.{coefficient_of}
-use Rattle.plain_scan.specs.Outlines.{IsEquality}
+use Rattle.plain_scan.specs.steps.Shadows.{IsEquality}
 use Rattle.plain_scan.proofs.AppendedRows.{equality_at, row_holds_at}
 use Rattle.plain_scan.proofs.CodeBounds.{take_all}
 use Rattle.plain_scan.proofs.ConstraintNumbers.{all_none, large_equality, large_row}

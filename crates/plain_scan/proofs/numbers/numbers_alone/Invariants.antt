@@ -1,7 +1,8 @@
 use Rattle.scop_syntax.proofs.Common.{◌≡◌, [], ◌∷◌, ℤ, pos, take, All, ◌≤ℤ◌, None, IfSome}
 use Rattle.fractions.specs.Elimination.{coefficient_of}
 use Rattle.integer_sets.specs.Points.{Satisfies}
-use Rattle.plain_scan.specs.Between.{AreSmall, IsLargeOf, LiesBetween}
+use Rattle.plain_scan.specs.Between.{IsLargeOf}
+use Rattle.plain_scan.specs.steps.Numbers.{AreSmall, LiesBetween}
 use Rattle.plain_scan.proofs.numbers.numbers_alone.Given as goal
 
 abbrev pub invariant-loop-form : goal.invariant-loop-form

@@ -2,7 +2,8 @@ use Rattle.scop_syntax.proofs.Common.{rules, ◌≡◌, subst, IfErr, IfOk, Matc
 use Rattle.integer_sets.specs.Constraints.{IsSized, variables_in}
 use Rattle.fm_projection.specs.declared.stop.FmStop.{FmStop}
 use Rattle.traced_projections.specs.declared.projections.Projection.TheVariants as projection
-use Rattle.plain_scan.specs.Outlines.{AreShadows, IsOpenFrom, IsOpenSomewhere, StopsBy}
+use Rattle.plain_scan.specs.Outlines.{AreShadows, IsOpenFrom, StopsBy}
+use Rattle.plain_scan.specs.steps.Shadows.{IsOpenSomewhere}
 use Rattle.plain_scan.proofs.ShadowStops.{exact_open}
 use Rattle.plain_scan.proofs.outline.exact_outline.Goals as goal
 

@@ -4,8 +4,8 @@ use Rattle.integer_sets.specs.Constraints.{Constraints}
 use Rattle.traced_projections.specs.declared.projections.Projection.{Projection}
 use Rattle.traced_projections.specs.Projections.{LastFollows, PassesAlone, alone_of, system_in}
 use Rattle.plain_scan.specs.Between.{IsLargeOf}
-use Rattle.plain_scan.specs.Shadows.{IsShadow}
-use Rattle.plain_scan.specs.Outlines.{IsLargeAt, IsLargeOwn, IsOpen, IsShadowIn, IsShadowOf}
+use Rattle.plain_scan.specs.steps.Shadows.{IsShadow, IsShadowIn}
+use Rattle.plain_scan.specs.Outlines.{IsLargeAt, IsLargeOwn, IsOpen, IsShadowOf}
 use Rattle.plain_scan.proofs.Shadows.{whole_shadow}
 use Rattle.plain_scan.proofs.ShadowStops.{next_reached, next_shadow, next_stops, none_found, one_found, own_stops}
 use Rattle.plain_scan.proofs.ShadowStops.{shadow_stops}

@@ -1,7 +1,7 @@
 use Rattle.scop_syntax.proofs.Common.{◌≡◌, ◌+◌, ◌-◌, ◌<◌, ℕ, length, get_or}
 use Rattle.traced_projections.specs.Projections.{system_in}
 use Rattle.plain_scan.specs.declared.outline.Shadow.{Shadow}
-use Rattle.plain_scan.specs.Shadows.{IsShadow}
+use Rattle.plain_scan.specs.steps.Shadows.{IsShadow}
 use Rattle.plain_scan.specs.Outlines.{IsShadowOf}
 use Rattle.plain_scan.proofs.ShadowStops.{AreFound}
 use Rattle.plain_scan.proofs.outline.outline_by.Given as goal

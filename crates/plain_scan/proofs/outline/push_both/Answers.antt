@@ -1,6 +1,6 @@
 use Rattle.scop_syntax.proofs.Common.{◌≡◌, sym, subst, negsuc, on_ok_weaker, multiple_of_form}
 use Rattle.plain_scan.specs.Between.{HasSmallNumbers}
-use Rattle.plain_scan.specs.Outlines.{IsRow}
+use Rattle.plain_scan.specs.steps.Shadows.{IsRow}
 use Rattle.plain_scan.proofs.AppendedRows.{row_of_equality, other_of_equality}
 use Rattle.plain_scan.proofs.outline.push_both.Goals as goal
 

@@ -1,4 +1,4 @@
-use Rattle.plain_scan.specs.Outlines.{IsEquality}
+use Rattle.plain_scan.specs.steps.Shadows.{IsEquality}
 use Rattle.plain_scan.proofs.AppendedRows.{equality_at, row_at}
 use Rattle.plain_scan.proofs.outline.rows_of.Goals as goal
 

@@ -2,7 +2,7 @@ use Rattle.scop_syntax.proofs.Common.{rules, refl, subst, sym, member_at}
 use Rattle.integer_sets.specs.Scanned.{Scanned}
 use Rattle.fm_projection.specs.Alone.{IsBounded}
 use Rattle.plain_scan.specs.Hulls.{sets_in}
-use Rattle.plain_scan.specs.Outlines.{IsOpenSomewhere}
+use Rattle.plain_scan.specs.steps.Shadows.{IsOpenSomewhere}
 use Rattle.plain_scan.proofs.OpenProjections.{open_has_none}
 use Rattle.plain_scan.proofs.ShadowStops.{scan_stops}
 use Rattle.plain_scan.proofs.WholeScans.{kept_next, left_next}

@@ -2,8 +2,8 @@ use Rattle.scop_syntax.proofs.Common.{◌≡◌, zero, suc, ◌+◌, ◌-◌, �
 use Rattle.integer_sets.specs.Constraints.{variables_in}
 use Rattle.loop_tree.specs.View.{nodes_of}
 use Rattle.plain_scan.specs.Hulls.{IsAlike, IsHull, own_leaf, sets_in}
-use Rattle.plain_scan.specs.Nodes.{IsNode, IsShaped}
-use Rattle.plain_scan.specs.Sets.{leaves}
+use Rattle.plain_scan.specs.steps.Nodes.{IsNode}
+use Rattle.plain_scan.specs.Sets.{IsShaped, leaves}
 use Rattle.plain_scan.proofs.HullLoops.{alike_of}
 use Rattle.plain_scan.proofs.HullNodes.{dimensions_are, few_variables, next_node, node_end, over_outlines}
 use Rattle.plain_scan.proofs.tree_of_sets.scan_outlines.Goals as goal

@@ -1,7 +1,7 @@
 use Rattle.scop_syntax.proofs.Common.{◌+◌, ◌-◌, []}
 use Rattle.loop_tree.specs.View.{nodes_of}
 use Rattle.plain_scan.specs.Hulls.{sets_in}
-use Rattle.plain_scan.specs.Nodes.{IsNode}
+use Rattle.plain_scan.specs.steps.Nodes.{IsNode}
 use Rattle.plain_scan.proofs.tree_of_sets.scan_outlines.Given as goal
 
 abbrev pub invariant-loop-depth : goal.invariant-loop-depth

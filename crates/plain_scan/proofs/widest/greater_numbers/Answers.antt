@@ -1,7 +1,7 @@
 use Rattle.scop_syntax.proofs.Common.{rules, ◌≡◌, ◌∙◌, ℕ, ◌+◌, suc, List, ℤ, ◌++◌, ◌∷◌, [], take, ap, ap₂, sym, arith}
 use Rattle.scop_syntax.proofs.Common.{get_or, pos, FitsSigned, w128, to_z-of_z, take_all}
 use Rattle.loop_tree.specs.Walk.{max_z}
-use Rattle.plain_scan.specs.Weaker.{greater_numbers}
+use Rattle.plain_scan.specs.steps.Weaker.{greater_numbers}
 use Rattle.plain_scan.proofs.WeakerRows.{greater_more}
 use Rattle.plain_scan.proofs.widest.greater_numbers.Goals as goal
 

@@ -1,5 +1,5 @@
 use Rattle.scop_syntax.proofs.Common.{◌≡◌, take}
-use Rattle.plain_scan.specs.Weaker.{greater_numbers}
+use Rattle.plain_scan.specs.steps.Weaker.{greater_numbers}
 use Rattle.plain_scan.proofs.widest.greater_numbers.Given as goal
 
 abbrev pub invariant-loop-at : goal.invariant-loop-at

@@ -1,6 +1,6 @@
 use Rattle.scop_syntax.proofs.Common.{rules, ◌≡◌, ◌∙◌, ℕ, suc, ◌+◌, sym, subst, arith, FitsSigned, w128, IfSome_then}
 use Rattle.scop_syntax.proofs.Common.{IfOk-weaker, multiple_of_form}
-use Rattle.plain_scan.specs.Weaker.{IsAbove}
+use Rattle.plain_scan.specs.steps.Weaker.{IsAbove}
 use Rattle.plain_scan.proofs.WeakerRows.{multiple_size, multiples_above}
 use Rattle.plain_scan.proofs.widest.joined.Goals as goal
 use Rattle.plain_scan.proofs.widest.joined.Goals.{In-Some-2}

@@ -4,7 +4,7 @@ use Rattle.plain_scan.specs.declared.outline.Shadow.{Shadow}
 use Rattle.plain_scan.specs.declared.set_outline.Outline.{Outline}
 use Rattle.plain_scan.specs.Outlines.{IsRowBefore}
 use Rattle.plain_scan.specs.Hulls.{HoldsAt, IsAlike}
-use Rattle.plain_scan.specs.Weaker.{IsAboveSome}
+use Rattle.plain_scan.specs.steps.Weaker.{IsAboveSome}
 use Rattle.plain_scan.proofs.HullRows.{next_at}
 use Rattle.plain_scan.proofs.WeakerRows.{weaker_holds, following_holds}
 use Rattle.plain_scan.proofs.widest.widest.Goals as goal

@@ -5,11 +5,12 @@ use Rattle.schedule_rows.specs.Schedule.{IsScheduled, loops_in}
 use Rattle.report_text.specs.ScheduleText.{IsTextOf}
 use Rattle.plan_check.specs.Goals.{goals_in}
 use Rattle.plan_check.specs.PlanView.{plan_of}
-use Rattle.plan_check.specs.steps.Walks.{AreAll}
+use Rattle.plan_check.specs.GoalList.{AreAll}
 use Rattle.plan_certificate.specs.SchedulePlan.{plan_of_blocks}
 use Rattle.plan_certificate.specs.View.{uncertified_in}
 use Rattle.plan_certificate.specs.steps.ItemPlans.{IsPlanned}
-use Rattle.plan_certificate.specs.steps.Narrow.{HasNarrow, IsNarrow}
+use Rattle.plan_certificate.specs.steps.Narrow.{HasNarrow}
+use Rattle.plan_certificate.specs.Certificates.{IsNarrow}
 use Rattle.plan_certificate.proofs.GoalTexts.{certificate_is, gives_same, goals_are}
 use Rattle.plan_certificate.proofs.Narrow.{goals_narrow, if_narrow, items_narrow, rows_narrow, scalars_narrow}
 use Rattle.plan_certificate.proofs.certifying.certified.Goals as goal

@@ -1,7 +1,7 @@
 -- One goal more, and at the end all of them.
 use Rattle.scop_syntax.proofs.Common.{rules, ◌≡◌, ◌+◌, All, List, sym, subst, All-cons, All-nil}
 use Rattle.iteration_domains.specs.Dependence.{Dependence}
-use Rattle.plan_check.specs.steps.Taking.{Takes}
+use Rattle.plan_check.specs.Taking.{Takes}
 use Rattle.plan_certificate.proofs.GoalTexts.{proofs_next}
 use Rattle.plan_certificate.specs.steps.Narrow.{HasNarrow}
 use Rattle.plan_certificate.proofs.certifying.with_proofs.Goals as goal

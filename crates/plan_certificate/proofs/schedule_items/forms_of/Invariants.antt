@@ -1,6 +1,6 @@
 -- The forms so far and those of the parts to come are all forms.
 use Rattle.scop_syntax.proofs.Common.{◌≡◌, ◌++◌, drop, map}
-use Rattle.report_text.specs.ScheduleLines.{part_view}
+use Rattle.report_text.specs.steps.ScheduleLines.{part_view}
 use Rattle.plan_certificate.specs.SchedulePlan.{form_of_part}
 use Rattle.plan_certificate.proofs.schedule_items.forms_of.Given as goal
 

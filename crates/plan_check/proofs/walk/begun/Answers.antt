@@ -2,7 +2,7 @@ use Rattle.scop_syntax.proofs.Common.{◌∙◌, ap, subst, sym}
 use Rattle.iteration_domains.specs.Dependence.{Dependence}
 use Rattle.plan_check.specs.Goals.{band_goals, leading_goals}
 use Rattle.plan_check.specs.PlanView.{plan_of}
-use Rattle.plan_check.specs.steps.Walks.{CanGo}
+use Rattle.plan_check.specs.GoalList.{CanGo}
 use Rattle.plan_check.proofs.Walks.{can_bounded}
 use Rattle.plan_check.proofs.walk.begun.Goals as goal
 

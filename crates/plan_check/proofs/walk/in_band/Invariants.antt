@@ -1,7 +1,7 @@
 use Rattle.scop_syntax.proofs.Common.{◌≡◌, drop}
 use Rattle.plan_check.specs.Goals.{restricted}
 use Rattle.plan_check.specs.PlanView.{plan_of}
-use Rattle.plan_check.specs.steps.Walks.{CanGo}
+use Rattle.plan_check.specs.GoalList.{CanGo}
 use Rattle.plan_check.proofs.walk.in_band.Given as goal
 
 abbrev pub invariant-loop-at : goal.invariant-loop-at

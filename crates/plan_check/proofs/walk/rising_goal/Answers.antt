@@ -1,7 +1,7 @@
 use Rattle.scop_syntax.proofs.Common.{◌≡◌, ◌∙◌, Some, ap, sym, slice_get, IfOk-weaker}
 use Rattle.plan_check.specs.PlanView.{plan_of, row_of}
 use Rattle.iteration_domains.specs.Dependence.{Dependence}
-use Rattle.plan_check.specs.steps.Walks.{band_goals_at}
+use Rattle.plan_check.specs.GoalList.{band_goals_at}
 use Rattle.plan_check.proofs.Walks.{band_fits, get_mapped, if_finds, rest_of_row}
 use Rattle.plan_check.proofs.walk.rising_goal.Goals as goal
 

@@ -3,8 +3,7 @@ use Rattle.loop_tree.specs.Fits.{AreSmallTrees}
 use Rattle.loop_tree.specs.Marks.{MarksAll}
 use Rattle.loop_tree.specs.Shape.{NestAllTo, TreesAreOver}
 use Rattle.loop_tree.specs.View.{trees_in}
-use Rattle.plain_scan.specs.Hulls.{flags}
-use Rattle.plain_scan.specs.Scanning.{mark_of}
+use Rattle.plain_scan.specs.Scanning.{flags, mark_of}
 use Rattle.planner_callers.proofs.scans.scanned_tree.Goals as goal
 
 pub returns-clause-exact : goal.returns-clause-exact

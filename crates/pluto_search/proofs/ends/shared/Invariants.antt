@@ -1,4 +1,4 @@
-use Rattle.pluto_search.specs.Shared.{FindsBelow}
+use Rattle.pluto_search.specs.steps.Shared.{FindsBelow}
 use Rattle.pluto_search.proofs.ends.shared.Given as goal
 
 abbrev pub invariant-loop-a : goal.invariant-loop-a

@@ -1,5 +1,5 @@
 use Rattle.scop_syntax.proofs.Common.{length}
-use Rattle.pluto_search.specs.StepParts.{AreWithin}
+use Rattle.pluto_search.specs.steps.StepParts.{AreWithin}
 use Rattle.pluto_search.proofs.CutDependences.{Passes}
 use Rattle.pluto_search.proofs.ends.uncut.Given as goal
 

@@ -4,7 +4,7 @@ use Rattle.schedule_rows.specs.declared.item.Marked as code
 use Rattle.schedule_rows.specs.Items.{Marked}
 use Rattle.schedule_rows.specs.Schedule.{marked_of}
 use Rattle.pluto_search.specs.Questions.{AnswersRestricted}
-use Rattle.pluto_search.specs.Sizes.{CanTell}
+use Rattle.pluto_search.specs.steps.Sizes.{CanTell}
 use Rattle.pluto_search.proofs.next.close_band.Goals as goal
 
 pub restrict_all-requires-clause-tells : goal.restrict_all-requires-clause-tells

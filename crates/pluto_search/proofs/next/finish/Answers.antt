@@ -5,9 +5,10 @@ use Rattle.schedule_rows.specs.Items.{Marked}
 use Rattle.schedule_rows.specs.Next.{Restricts}
 use Rattle.schedule_rows.specs.Schedule.{block_of, marked_of}
 use Rattle.pluto_search.specs.Questions.{AnswersRestricted, StopsRestricted}
-use Rattle.pluto_search.specs.Sizes.{CanTell}
-use Rattle.pluto_search.specs.Steps.{state_of, AreBetween}
-use Rattle.pluto_search.specs.Stopping.{IsStop}
+use Rattle.pluto_search.specs.steps.Sizes.{CanTell}
+use Rattle.pluto_search.specs.steps.Steps.{state_of}
+use Rattle.pluto_search.specs.Searching.{AreBetween}
+use Rattle.pluto_search.specs.steps.Stopping.{IsStop}
 use Rattle.pluto_search.proofs.Counts.{all_can_tell}
 use Rattle.pluto_search.proofs.RestrictedDependences.{restricts_between}
 use Rattle.pluto_search.proofs.NextStates.{are_within, end_steps, full_stops}

@@ -2,7 +2,8 @@ use Rattle.scop_syntax.proofs.Common.{rules, ◌≡◌, List, length, map, sym, 
 use Rattle.iteration_domains.specs.Dependence.{Dependence}
 use Rattle.schedule_rows.specs.declared.item.Marked as code
 use Rattle.schedule_rows.specs.Schedule.{marked_of}
-use Rattle.pluto_search.specs.Steps.{state_of, Steps, AreBetween}
+use Rattle.pluto_search.specs.steps.Steps.{state_of, Steps}
+use Rattle.pluto_search.specs.Searching.{AreBetween}
 use Rattle.pluto_search.proofs.Counts.{all_can_tell}
 use Rattle.pluto_search.proofs.NextStates.{are_within, cut_steps, band_steps}
 use Rattle.pluto_search.proofs.next.lack.Goals as goal

@@ -3,7 +3,7 @@ use Rattle.schedule_rows.specs.Next.{State, rows_of}
 use Rattle.schedule_rows.specs.Posed.{IsFull}
 use Rattle.pluto_systems.specs.Posing.{dep_of}
 use Rattle.pluto_search.specs.Questions.{IsRuledBy, StopsAt, StopsRows, StopsRowsOf}
-use Rattle.pluto_search.specs.Steps.{state_of, Steps}
+use Rattle.pluto_search.specs.steps.Steps.{state_of, Steps}
 use Rattle.pluto_search.proofs.Firsts.{first_behind}
 use Rattle.pluto_search.proofs.GoodStates.{Vectors, full_is, not_full_is, good_ruled, all_ruled}
 use Rattle.pluto_search.proofs.QuestionStops.{stop_of, stop_at}

@@ -14,7 +14,7 @@ use Rattle.pluto_systems.proofs.Rows.{least_row, no_row}
 use Rattle.pluto_search.specs.declared.state.Progress.{Progress}
 use Rattle.pluto_search.specs.declared.kept.Kept.TheVariants as kept
 use Rattle.pluto_search.specs.Questions.{IsPosedAt, StopsAt, StopsMinimum}
-use Rattle.pluto_search.specs.Steps.{state_of, IsGood, Steps}
+use Rattle.pluto_search.specs.steps.Steps.{state_of, IsGood, Steps}
 use Rattle.pluto_search.proofs.GoodStates.{Vectors, shown, small_vectors, are_between, remains, posed_at}
 use Rattle.pluto_search.proofs.QuestionStops.{stop_of, stop_at, minimum_stops}
 use Rattle.pluto_search.proofs.next.next_row.Goals as goal

@@ -4,8 +4,8 @@ use Rattle.iteration_domains.specs.Dependence.{Dependence}
 use Rattle.pluto_systems.specs.Posing.{RuledDep, dep_of, ruled_run}
 use Rattle.pluto_search.specs.declared.kept.Kept.TheVariants as kept
 use Rattle.pluto_search.specs.Questions.{AreRuledBy, StopsRows, StopsRowsOf}
-use Rattle.pluto_search.specs.Steps.{AllRuled}
-use Rattle.pluto_search.specs.Stopping.{IsStop}
+use Rattle.pluto_search.specs.steps.Steps.{AllRuled}
+use Rattle.pluto_search.specs.steps.Stopping.{IsStop}
 use Rattle.pluto_search.proofs.GoodStates.{ruled_more}
 use Rattle.pluto_search.proofs.QuestionStops.{stop_of, rows_stop}
 use Rattle.pluto_search.proofs.next.rule_all.Goals as goal

@@ -2,7 +2,7 @@ use Rattle.scop_syntax.proofs.Common.{◌≡◌, ◌++◌, map}
 use Rattle.pluto_systems.specs.Stuck.TheVariants as stuck
 use Rattle.pluto_systems.specs.Posing.{dep_of}
 use Rattle.pluto_search.specs.Questions.{AreRuledBy, StopsRowsOf}
-use Rattle.pluto_search.specs.Steps.{AllRuled}
+use Rattle.pluto_search.specs.steps.Steps.{AllRuled}
 use Rattle.pluto_search.proofs.next.rule_all.Given as goal
 
 abbrev pub invariant-loop-dep : goal.invariant-loop-dep

@@ -8,7 +8,7 @@ use Rattle.schedule_rows.specs.Schedule.{row_of, block_of, marked_of}
 use Rattle.pluto_systems.specs.Placing.{row_from}
 use Rattle.pluto_systems.specs.Posing.{RuledDep, dep_of}
 use Rattle.pluto_search.specs.Questions.{AnswersMarks, FindsRow, StopsAt, StopsMarks}
-use Rattle.pluto_search.specs.Steps.{state_of}
+use Rattle.pluto_search.specs.steps.Steps.{state_of}
 use Rattle.pluto_search.proofs.Counts.{can_tell}
 use Rattle.pluto_search.proofs.GoodStates.{ruled_remains, remains}
 use Rattle.pluto_search.proofs.QuestionStops.{stop_of, stop_at, large_keeps}

@@ -2,7 +2,7 @@ use Rattle.scop_syntax.proofs.Common.{rules, ◌∙◌, FitsSigned, subst, sym, 
 use Rattle.iteration_domains.specs.Dependence.{Dependence}
 use Rattle.schedule_rows.specs.Items.{part_of}
 use Rattle.schedule_rows.specs.Schedule.{row_of}
-use Rattle.pluto_search.specs.Sizes.{AreCounts, IsCount}
+use Rattle.pluto_search.specs.steps.Sizes.{AreCounts, IsCount}
 use Rattle.pluto_search.proofs.restricting.difference_and.Goals as goal
 
 pub difference_numbers-requires : goal.difference_numbers-requires

@@ -4,7 +4,7 @@ use Rattle.iteration_domains.specs.Dependence.{Dependence}
 use Rattle.schedule_rows.specs.Next.{restricted}
 use Rattle.schedule_rows.specs.Schedule.{marked_of}
 use Rattle.pluto_search.specs.Questions.{AnswersRestricted, IsAnswered, StopsEmptiness, StopsRestricted}
-use Rattle.pluto_search.specs.Stopping.{Restrictions}
+use Rattle.pluto_search.specs.steps.Stopping.{Restrictions}
 use Rattle.pluto_search.proofs.Firsts.{first_next, taken_more}
 use Rattle.pluto_search.proofs.QuestionStops.{stop_of}
 use Rattle.pluto_search.proofs.RestrictedDependences.{Leads, dropped, held_back, leads_last, next_of, is_among}

@@ -4,7 +4,7 @@ use Rattle.schedule_rows.specs.declared.item.Marked as code
 use Rattle.schedule_rows.specs.Items.{Marked}
 use Rattle.schedule_rows.specs.Next.{restricted}
 use Rattle.schedule_rows.specs.Schedule.{row_of, marked_of}
-use Rattle.pluto_search.specs.Sizes.{CanTell}
+use Rattle.pluto_search.specs.steps.Sizes.{CanTell}
 use Rattle.pluto_search.proofs.RestrictedDependences.{next_of, is_among, all_tell_more, all_among}
 use Rattle.pluto_search.proofs.restricting.restricted.Goals as goal
 use Rattle.pluto_search.proofs.restricting.restricted.Goals.{After-marked-item}

@@ -1,7 +1,7 @@
 use Rattle.scop_syntax.proofs.Common.{◌≡◌, drop, map, All}
 use Rattle.schedule_rows.specs.Next.{restricted}
 use Rattle.schedule_rows.specs.Schedule.{marked_of}
-use Rattle.pluto_search.specs.Sizes.{CanTell}
+use Rattle.pluto_search.specs.steps.Sizes.{CanTell}
 use Rattle.pluto_search.proofs.restricting.restricted.Given as goal
 
 abbrev pub invariant-loop-marked : goal.invariant-loop-marked

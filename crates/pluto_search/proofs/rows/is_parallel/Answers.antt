@@ -5,7 +5,7 @@ use Rattle.schedule_rows.specs.Dependences.{IsEmptyDep, above_at}
 use Rattle.schedule_rows.specs.Schedule.{row_of}
 use Rattle.pluto_systems.specs.Posing.{RuledDep, dep_of}
 use Rattle.pluto_search.specs.Questions.{IsFirst, AnswersMark, StopsEmptiness, StopsMarks}
-use Rattle.pluto_search.specs.Sizes.{CanTell}
+use Rattle.pluto_search.specs.steps.Sizes.{CanTell}
 use Rattle.pluto_search.proofs.Firsts.{first_next, first_mapped, taken_more}
 use Rattle.pluto_search.proofs.QuestionStops.{stop_of}
 use Rattle.pluto_search.proofs.RestrictedDependences.{next_of, is_among}

@@ -3,7 +3,7 @@ use Rattle.scop_syntax.proofs.Common.{ap₂, subst, append_assoc, length-map, ma
 use Rattle.std.specs.Vec.{vec_len}
 use Rattle.std.proofs.lemmas.List.{append-nil}
 use Rattle.schedule_rows.specs.declared.item.Part as code_part
-use Rattle.pluto_search.specs.Sizes.{CanNarrow, CanNarrowEach, narrowed_each}
+use Rattle.pluto_search.specs.steps.Sizes.{CanNarrow, CanNarrowEach, narrowed_each}
 use Rattle.pluto_search.proofs.Counts.{narrow_lengths}
 use Rattle.pluto_search.proofs.GoodStates.{Vectors, shown}
 use Rattle.pluto_search.proofs.RestrictedDependences.{mapped_next}

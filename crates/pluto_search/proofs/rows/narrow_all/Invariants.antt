@@ -1,5 +1,5 @@
 use Rattle.scop_syntax.proofs.Common.{◌≡◌, ◌++◌, drop, map}
-use Rattle.pluto_search.specs.Sizes.{narrowed_each, CanNarrowEach}
+use Rattle.pluto_search.specs.steps.Sizes.{narrowed_each, CanNarrowEach}
 use Rattle.pluto_search.proofs.rows.narrow_all.Given as goal
 
 abbrev pub invariant-loop-at : goal.invariant-loop-at

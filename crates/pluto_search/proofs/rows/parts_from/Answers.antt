@@ -1,7 +1,7 @@
 use Rattle.scop_syntax.proofs.Common.{◌<◌, ◌+◌, ◌++◌, ◌∙◌, ℕ, List, ap, append-nil, arith, drop_all, get_or, length}
 use Rattle.scop_syntax.proofs.Common.{length-drop, sym}
 use Rattle.pluto_systems.specs.Placing.{parts_from}
-use Rattle.pluto_search.specs.StepParts.{parts_of}
+use Rattle.pluto_search.specs.steps.StepParts.{parts_of}
 use Rattle.pluto_search.proofs.ReadParts.{columns_ahead, part_more}
 use Rattle.pluto_search.proofs.rows.parts_from.Goals as goal
 

@@ -1,6 +1,6 @@
 use Rattle.scop_syntax.proofs.Common.{◌≡◌, ◌++◌, drop, length}
 use Rattle.pluto_systems.specs.Placing.{columns_in, parts_from}
-use Rattle.pluto_search.specs.StepParts.{parts_of}
+use Rattle.pluto_search.specs.steps.StepParts.{parts_of}
 use Rattle.pluto_search.proofs.rows.parts_from.Given as goal
 
 abbrev pub invariant-loop-s : goal.invariant-loop-s

@@ -1,6 +1,6 @@
 use Rattle.scop_syntax.proofs.Common.{◌∙◌, ap, subst, Ok}
 use Rattle.pluto_search.specs.declared.state.Step.TheVariants as step
-use Rattle.pluto_search.specs.Steps.{state_of, Steps}
+use Rattle.pluto_search.specs.steps.Steps.{state_of, Steps}
 use Rattle.pluto_search.proofs.QuestionStops.{stop_first, keeps}
 use Rattle.pluto_search.proofs.RunSteps.{falls, answered_more}
 use Rattle.pluto_search.proofs.searching.run.Goals as goal

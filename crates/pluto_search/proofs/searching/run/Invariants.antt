@@ -1,6 +1,6 @@
 use Rattle.schedule_rows.specs.Measure.{measure}
 use Rattle.pluto_search.specs.Questions.{Answered}
-use Rattle.pluto_search.specs.Steps.{state_of, IsGood}
+use Rattle.pluto_search.specs.steps.Steps.{state_of, IsGood}
 use Rattle.pluto_search.proofs.searching.run.Given as goal
 
 abbrev pub invariant-loop-kept : goal.invariant-loop-kept

@@ -2,7 +2,7 @@ use Rattle.scop_syntax.proofs.Common.{◌∙◌, ℕ, List, map, sym, subst}
 use Rattle.schedule_rows.specs.Outcomes.{ends}
 use Rattle.pluto_search.specs.Questions.{ComesAnswered}
 use Rattle.schedule_rows.specs.Schedule.{block_of, loops_in}
-use Rattle.pluto_search.specs.Steps.{AreBetween}
+use Rattle.pluto_search.specs.Searching.{AreBetween}
 use Rattle.pluto_search.proofs.RunSteps.{comes_schedule, comes_found}
 use Rattle.pluto_search.proofs.searching.search.Goals as goal
 use Rattle.pluto_search.proofs.searching.search.Goals.{In-Ok-run}

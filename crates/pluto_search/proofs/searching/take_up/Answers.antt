@@ -1,5 +1,5 @@
 use Rattle.scop_syntax.proofs.Common.{[]}
-use Rattle.pluto_search.specs.Steps.{state_of}
+use Rattle.pluto_search.specs.steps.Steps.{state_of}
 use Rattle.pluto_search.proofs.RunSteps.{answered_first}
 use Rattle.pluto_search.proofs.RestrictedDependences.{restricts_between}
 use Rattle.pluto_search.proofs.searching.take_up.Goals as goal

@@ -1,6 +1,6 @@
 -- The line stands behind what the call answered.
 use Rattle.scop_syntax.proofs.Common.{subst}
-use Rattle.polypar.specs.Promises.{TellsStatus}
+use Rattle.polypar.specs.steps.Promises.{TellsStatus}
 use Rattle.polypar.proofs.AnswerLemmas.{answered, lent_program}
 use Rattle.polypar.proofs.call.command_by.Goals as goal
 

@@ -1,6 +1,6 @@
 -- The kernel was read from the input's text, and what the command answers of it is the input's answer.
 use Rattle.scop_syntax.proofs.Common.{subst, sym, rules}
-use Rattle.polypar.specs.Promises.{AnswersFor}
+use Rattle.polypar.specs.steps.Promises.{AnswersFor}
 use Rattle.polypar.proofs.RunLemmas.{command_answers, refused_answers, untouched}
 use Rattle.polypar.proofs.input.run_input.Goals as goal
 

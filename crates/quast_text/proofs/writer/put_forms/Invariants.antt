@@ -1,7 +1,6 @@
 -- What was put so far and the forms to come are all forms.
 use Rattle.whole_numbers.proofs.Common.{◌≡◌, ◌++◌, drop}
-use Rattle.quast_text.specs.Text.{forms_from}
-use Rattle.quast_text.specs.Waiting.{texts_of}
+use Rattle.quast_text.specs.Text.{forms_from, texts_of}
 use Rattle.quast_text.proofs.writer.put_forms.Given as goal
 
 abbrev pub invariant-loop-at : goal.invariant-loop-at

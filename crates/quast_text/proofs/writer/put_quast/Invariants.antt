@@ -1,8 +1,8 @@
 -- What is written and what waits are the text of the quast.
 use Rattle.whole_numbers.proofs.Common.{◌≡◌, ◌++◌, reverse}
 use Rattle.quast_trees.specs.Postfix.{tree_of}
-use Rattle.quast_text.specs.Text.{names_within, quast_text}
-use Rattle.quast_text.specs.Waiting.{texts_of, lets_in, waiting_text, weights}
+use Rattle.quast_text.specs.Text.{names_within, quast_text, texts_of}
+use Rattle.quast_text.specs.steps.Waiting.{lets_in, waiting_text, weights}
 use Rattle.quast_text.proofs.writer.put_quast.Given as goal
 
 abbrev pub invariant-loop-stack : goal.invariant-loop-stack

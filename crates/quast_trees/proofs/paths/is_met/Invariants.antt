@@ -1,5 +1,6 @@
 use Rattle.whole_numbers.proofs.Common.{◌≡◌, drop, false}
-use Rattle.quast_trees.specs.steps.Ways.{met, turn_held, turns_held}
+use Rattle.quast_trees.specs.steps.Ways.{met}
+use Rattle.quast_trees.specs.PathView.{turn_held, turns_held}
 use Rattle.quast_trees.proofs.paths.is_met.Given as goal
 
 abbrev pub invariant-loop-passed : goal.invariant-loop-passed

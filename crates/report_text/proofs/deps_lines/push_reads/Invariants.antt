@@ -1,7 +1,7 @@
 -- The lines so far and those of the reads to come are all lines of the statement's reads.
 use Rattle.scop_syntax.proofs.Common.{◌≡◌, ◌++◌, ◌-◌, ◌≤◌, drop, length, program_of}
 use Rattle.dataflow.specs.ReadSources.{reads_from, reads_of_statement}
-use Rattle.quast_text.specs.Waiting.{texts_of}
+use Rattle.quast_text.specs.Text.{texts_of}
 use Rattle.report_text.specs.DepsText.{lines_of, names_at}
 use Rattle.report_text.proofs.deps_lines.push_reads.Given as goal
 

@@ -1,6 +1,6 @@
 -- One name more, and at the end all of them.
 use Rattle.scop_syntax.proofs.Common.{◌∙◌, ◌∷◌, [], ◌+◌, ◌++◌, ap, drop, get_or, drop_of_length-le}
-use Rattle.quast_text.specs.Waiting.{texts_of}
+use Rattle.quast_text.specs.Text.{texts_of}
 use Rattle.report_text.proofs.AppendedTexts.{next_appended, last_appended}
 use Rattle.report_text.proofs.DepsLemmas.{texts_next}
 use Rattle.report_text.proofs.deps_names.push_copies.Goals as goal

@@ -1,6 +1,6 @@
 -- One name more, and at the end those of all loops.
 use Rattle.scop_syntax.proofs.Common.{◌∙◌, ◌≡◌, ◌++◌, ap, arith}
-use Rattle.quast_text.specs.Waiting.{texts_of}
+use Rattle.quast_text.specs.Text.{texts_of}
 use Rattle.report_text.specs.DepsText.{turn_names}
 use Rattle.report_text.proofs.DepsLemmas.{turns_next}
 use Rattle.report_text.proofs.deps_names.push_turns.Goals as goal

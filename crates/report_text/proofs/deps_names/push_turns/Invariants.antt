@@ -1,6 +1,6 @@
 -- The names of as many turns as the loop has made.
 use Rattle.scop_syntax.proofs.Common.{◌≡◌, ◌++◌}
-use Rattle.quast_text.specs.Waiting.{texts_of}
+use Rattle.quast_text.specs.Text.{texts_of}
 use Rattle.report_text.specs.DepsText.{turn_names}
 use Rattle.report_text.proofs.deps_names.push_turns.Given as goal
 

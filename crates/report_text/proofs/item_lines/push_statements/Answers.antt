@@ -1,7 +1,7 @@
 -- One statement more, and at the end all of them.
 use Rattle.scop_syntax.proofs.Common.{◌∙◌, ◌+◌, ◌++◌, ap, drop, get_or, drop_of_length-le, map}
 use Rattle.report_text.specs.ScheduleText.{statement_text, statements_from}
-use Rattle.report_text.specs.ScheduleLines.{part_view}
+use Rattle.report_text.specs.steps.ScheduleLines.{part_view}
 use Rattle.report_text.proofs.AppendedTexts.{next_appended, last_appended}
 use Rattle.report_text.proofs.ScheduleLemmas.{statements_next}
 use Rattle.report_text.proofs.item_lines.push_statements.Goals as goal

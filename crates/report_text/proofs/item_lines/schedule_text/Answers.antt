@@ -2,7 +2,7 @@
 use Rattle.scop_syntax.proofs.Common.{◌∙◌, ◌+◌, ◌++◌, ◌<◌, ◌≤◌, sym, subst, ap, arith, length, drop, get_or, length-map}
 use Rattle.scop_syntax.proofs.Common.{get_or-map}
 use Rattle.schedule_rows.specs.Schedule.{item_of}
-use Rattle.report_text.specs.ScheduleLines.{item_text, items_text}
+use Rattle.report_text.specs.steps.ScheduleLines.{item_text, items_text}
 use Rattle.report_text.proofs.AppendedTexts.{next_appended}
 use Rattle.report_text.proofs.ScheduleLemmas.{lines_next, schedule_lines}
 use Rattle.report_text.proofs.item_lines.schedule_text.Goals as goal

@@ -1,6 +1,6 @@
 -- The text so far and the lines of the items to come are all lines.
 use Rattle.scop_syntax.proofs.Common.{◌≡◌, ◌++◌, ◌≤◌, drop, length}
-use Rattle.report_text.specs.ScheduleLines.{items_text}
+use Rattle.report_text.specs.steps.ScheduleLines.{items_text}
 use Rattle.report_text.proofs.item_lines.schedule_text.Given as goal
 
 abbrev pub invariant-loop-at : goal.invariant-loop-at

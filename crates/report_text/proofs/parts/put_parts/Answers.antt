@@ -1,7 +1,7 @@
 use Rattle.scop_syntax.proofs.Common.{◌∙◌, ◌++◌, ◌+◌, ap, drop, get_or}
 use Rattle.io_ports.proofs.PutTexts.{next_put, next_piece_cut}
 use Rattle.report_text.specs.declared.parts.Part.TheVariants as part
-use Rattle.report_text.specs.Parts.{part_text, parts_text}
+use Rattle.report_text.specs.steps.Parts.{part_text, parts_text}
 use Rattle.report_text.proofs.Lines.{parts_next}
 use Rattle.report_text.proofs.parts.put_parts.Goals as goal
 

@@ -1,6 +1,6 @@
 -- One piece more, and at the end all of them.
 use Rattle.scop_syntax.proofs.Common.{◌∙◌, ◌+◌, ◌++◌, ap, drop, drop_of_length-le}
-use Rattle.report_text.specs.Pieces.{pieces_text}
+use Rattle.report_text.specs.steps.Pieces.{pieces_text}
 use Rattle.report_text.proofs.AppendedTexts.{next_appended, last_appended}
 use Rattle.report_text.proofs.Lines.{pieces_next}
 use Rattle.report_text.proofs.pieces.push_pieces.Goals as goal

@@ -1,6 +1,6 @@
 -- What was appended so far and the pieces to come are all pieces.
 use Rattle.scop_syntax.proofs.Common.{◌≡◌, ◌++◌, drop}
-use Rattle.report_text.specs.Pieces.{pieces_text}
+use Rattle.report_text.specs.steps.Pieces.{pieces_text}
 use Rattle.report_text.proofs.pieces.push_pieces.Given as goal
 
 abbrev pub invariant-loop-piece : goal.invariant-loop-piece

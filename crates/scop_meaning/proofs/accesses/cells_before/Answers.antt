@@ -1,5 +1,5 @@
 use Rattle.scop_syntax.proofs.Common.{◌+◌, ◌<◌, ◌^◌, ℕ, length, ap, ap₂, subst, sym, ◌∙◌, arith, rules, cell_count}
-use Rattle.scop_meaning.specs.Instances.{AreExtents}
+use Rattle.scop_meaning.specs.steps.Conditions.{AreExtents}
 use Rattle.scop_meaning.proofs.Numbering.{total_step, total_front, extents_at}
 use Rattle.scop_meaning.proofs.accesses.cells_before.Goals as goal
 

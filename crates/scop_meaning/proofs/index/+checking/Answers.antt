@@ -1,7 +1,8 @@
 use Rattle.scop_syntax.proofs.Common.{◌≡◌, ◌+◌, ◌<◌, List, length, drop, ap, ap₂, subst, sym, ◌∙◌, arith, rules, to_z}
 use Rattle.scop_syntax.proofs.Common.{of_z, ℤ, pos, FitsSigned, w64, to_z-of_z, Affine, value_of, Trees, Head, more}
 use Rattle.scop_syntax.proofs.Common.{none, items_of, tree_of, turn_point, weight, weight_all, item_weight, item_here}
-use Rattle.scop_meaning.specs.Conditions.{CanCheck, CanTurn}
+use Rattle.scop_meaning.specs.Conditions.{CanTurn}
+use Rattle.scop_meaning.specs.steps.Conditions.{CanCheck}
 use Rattle.scop_syntax.specs.declared.limits.TheConstants.{MOST_ENTRIES}
 use Rattle.scop_meaning.proofs.WalkSteps.{can_turn, first_turn_fits}
 use Rattle.scop_meaning.proofs.Turns.{first_fits}

@@ -1,6 +1,6 @@
 use Rattle.scop_syntax.proofs.Common.{ℕ, List, sym, subst, ℤ, program_of, items_of, layout, has_parameters}
 use Rattle.scop_syntax.specs.declared.tree.Item.{Item}
-use Rattle.scop_meaning.specs.Conditions.{CanCheck}
+use Rattle.scop_meaning.specs.steps.Conditions.{CanCheck}
 use Rattle.scop_meaning.proofs.Kernels.{kernel_checks}
 use Rattle.scop_meaning.proofs.index.first_outside.Goals as goal
 

@@ -20,7 +20,7 @@ use Rattle.std.proofs.Common.{
 use Rattle.scop_syntax.proofs.Common.{ℤ, pos, FitsSigned, w64, to_z-of_z, length-map, value_of, values}
 use Rattle.scop_syntax.specs.Failures.{is_within}
 use Rattle.scop_meaning.specs.declared.index.Outside.{Outside}
-use Rattle.scop_meaning.specs.Outside.{first_of}
+use Rattle.scop_meaning.specs.steps.Conditions.{first_of}
 use Rattle.scop_meaning.proofs.Offsets.{subscript_at}
 use Rattle.scop_meaning.proofs.Checks.{dimension_passes, dimension_fails}
 use Rattle.scop_meaning.proofs.index.outside_dimension.Goals as goal

@@ -1,6 +1,6 @@
 use Rattle.scop_syntax.proofs.Common.{◌≡◌, ◌+◌, drop, values, Visit}
 use Rattle.scop_syntax.specs.Failures.{outside_dimensions}
-use Rattle.scop_meaning.specs.Outside.{first_of}
+use Rattle.scop_meaning.specs.steps.Conditions.{first_of}
 use Rattle.scop_meaning.proofs.index.outside_dimension.Given as goal
 
 abbrev pub invariant-loop-at : goal.invariant-loop-at

@@ -2,7 +2,7 @@ use Rattle.scop_syntax.proofs.Common.{◌+◌, ◌∙◌, ◌≤◌, [], accesse
 use Rattle.scop_syntax.proofs.Common.{in_from_place, length, map, statement_of, sym, values, List, Access}
 use Rattle.scop_syntax.proofs.Bounds.{access_is}
 use Rattle.scop_syntax.specs.Failures.{outside_accesses, outside_dimensions}
-use Rattle.scop_meaning.specs.Outside.{first_of}
+use Rattle.scop_meaning.specs.steps.Conditions.{first_of}
 use Rattle.scop_meaning.proofs.Checks.{accesses_from, first_behind, first_here}
 use Rattle.scop_meaning.proofs.FittingReads.{FitsAt, accesses_fit}
 use Rattle.scop_meaning.proofs.index.outside_statement.Goals as goal

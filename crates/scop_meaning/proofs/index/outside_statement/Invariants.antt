@@ -1,6 +1,6 @@
 use Rattle.scop_syntax.proofs.Common.{◌≡◌, Visit, accesses, drop, statement_of}
 use Rattle.scop_syntax.specs.Failures.{outside_accesses}
-use Rattle.scop_meaning.specs.Outside.{IsAt, first_of}
+use Rattle.scop_meaning.specs.steps.Conditions.{IsAt, first_of}
 use Rattle.scop_meaning.proofs.index.outside_statement.Given as goal
 
 abbrev pub invariant-loop-number : goal.invariant-loop-number

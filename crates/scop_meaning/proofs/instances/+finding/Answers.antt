@@ -3,7 +3,7 @@ use Rattle.scop_syntax.proofs.Common.{rules, ℤ, pos, ◌+ℤ◌, ◌*ℤ◌, F
 use Rattle.scop_syntax.proofs.Common.{none, items_of, tree_of, turn_point, weight, weight_all}
 use Rattle.scop_syntax.specs.declared.tree.Item.{Item}
 use Rattle.scop_syntax.proofs.Views.{tree_loop}
-use Rattle.scop_meaning.specs.Instances.{CanFind, act_at, act_at_all}
+use Rattle.scop_meaning.specs.steps.Conditions.{CanFind, act_at, act_at_all}
 use Rattle.scop_syntax.specs.declared.limits.TheConstants.{MOST_ENTRIES}
 use Rattle.scop_meaning.proofs.StatementSearch.{can_enter, is_entered}
 use Rattle.scop_meaning.proofs.instances.+finding.Goals as goal

@@ -2,7 +2,7 @@ use Rattle.scop_syntax.proofs.Common.{◌≤◌, List, length, ap, subst, sym, r
 use Rattle.scop_syntax.proofs.Common.{program_of, Instance, Visit, instance, walk_of, has_parameters, in_map_from}
 use Rattle.scop_syntax.specs.Cells.{reads as reads_by}
 use Rattle.scop_syntax.specs.declared.tree.Item.{Item}
-use Rattle.scop_meaning.specs.Instances.{CanFind}
+use Rattle.scop_meaning.specs.steps.Conditions.{CanFind}
 use Rattle.scop_meaning.proofs.StatementSearch.{can_find, found_visit}
 use Rattle.scop_meaning.proofs.instances.find.Goals as goal
 

@@ -6,7 +6,8 @@ use Rattle.scop_syntax.specs.declared.tree.Item.{Item}
 use Rattle.scop_syntax.specs.declared.tree.Item.TheVariants as variant
 use Rattle.scop_syntax.specs.declared.tree.Stmt.{Stmt}
 use Rattle.scop_syntax.proofs.Views.{tree_statement}
-use Rattle.scop_meaning.specs.Conditions.{CanRun, CanTurn, AreCells}
+use Rattle.scop_meaning.specs.Conditions.{CanTurn}
+use Rattle.scop_meaning.specs.steps.Conditions.{CanRun, AreCells}
 use Rattle.scop_syntax.specs.declared.limits.TheConstants.{MOST_ENTRIES}
 use Rattle.scop_meaning.proofs.WalkSteps.{can_turn, first_turn_fits, loop_head, loop_space}
 use Rattle.scop_meaning.proofs.Turns.{first_fits}

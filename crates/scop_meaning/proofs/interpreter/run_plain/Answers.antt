@@ -1,7 +1,7 @@
 use Rattle.scop_syntax.proofs.Common.{List, ap, sym, subst, ◌∙◌, arith, ℤ, ℕ, program_of, items_of, IsShaped, held}
 use Rattle.scop_syntax.proofs.Common.{layout, acts_all, has_parameters}
 use Rattle.scop_syntax.specs.declared.tree.Item.{Item}
-use Rattle.scop_meaning.specs.Conditions.{CanRun, ran}
+use Rattle.scop_meaning.specs.steps.Conditions.{CanRun, ran}
 use Rattle.scop_meaning.proofs.Kernels.{kernel_runs, exec_is}
 use Rattle.scop_meaning.proofs.interpreter.run_plain.Goals as goal
 

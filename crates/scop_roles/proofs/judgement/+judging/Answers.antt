@@ -1,6 +1,6 @@
 use Rattle.scop_syntax.proofs.Common.{map, fold, ap, sym, subst, ◌∙◌, refl, arith, IfOk}
 use Rattle.scop_roles.specs.Formula.{argument_of, binary, cast, index, formula_of, unary, with_argument}
-use Rattle.scop_roles.specs.Judgement.{IsJudgement}
+use Rattle.scop_roles.specs.steps.Judgement.{IsJudgement}
 use Rattle.scop_roles.proofs.Views.{formula_index, formula_bare_call, formula_unary, formula_cast, formula_commas}
 use Rattle.scop_roles.proofs.Views.{formula_binary}
 use Rattle.scop_roles.proofs.Chains.{makes_next, makes_whole}

@@ -1,6 +1,6 @@
 use Rattle.scop_syntax.proofs.Common.{map, drop, fold, IfOk}
 use Rattle.scop_roles.specs.Formula.{Formula, argument_of, formula_of, index, with_argument}
-use Rattle.scop_roles.specs.Judgement.{HasForm, IsJudgement}
+use Rattle.scop_roles.specs.steps.Judgement.{HasForm, IsJudgement}
 use Rattle.scop_roles.proofs.Chains.{Makes}
 use Rattle.scop_roles.proofs.judgement.+judging.Given as goal
 

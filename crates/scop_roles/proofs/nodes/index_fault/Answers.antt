@@ -1,6 +1,6 @@
 use Rattle.scop_syntax.proofs.Common.{ap, ◌∙◌}
 use Rattle.scop_roles.specs.Formula.{index}
-use Rattle.scop_roles.specs.Judgement.{is_zero, one_less}
+use Rattle.scop_roles.specs.steps.Judgement.{is_zero, one_less}
 use Rattle.scop_roles.proofs.NodeFaults.{index_first, lacks_none}
 use Rattle.scop_roles.proofs.nodes.index_fault.Goals as goal
 

@@ -3,7 +3,7 @@ use Rattle.scop_roles.specs.declared.kinds.Kind.TheVariants as kind
 use Rattle.scop_roles.specs.declared.formula.Role.TheVariants as role
 use Rattle.scop_roles.specs.Formula.{place}
 use Rattle.scop_roles.specs.Faults.{faults, place_faults}
-use Rattle.scop_roles.specs.Judgement.{one_less}
+use Rattle.scop_roles.specs.steps.Judgement.{one_less}
 use Rattle.scop_roles.proofs.Firsts.{first-append}
 use Rattle.scop_roles.proofs.NodeForms.{refused}
 use Rattle.scop_roles.proofs.nodes.indexed.Goals as goal

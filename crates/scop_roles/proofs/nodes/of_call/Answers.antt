@@ -1,6 +1,6 @@
 use Rattle.scop_syntax.proofs.Common.{ap, ap₂, subst, ◌∙◌, IfOk}
 use Rattle.scop_roles.specs.Faults.{first, first_of, told}
-use Rattle.scop_roles.specs.Judgement.{IsJudgement}
+use Rattle.scop_roles.specs.steps.Judgement.{IsJudgement}
 use Rattle.scop_roles.proofs.nodes.of_call.Goals as goal
 
 pub returns-in-Ok : goal.returns-in-Ok

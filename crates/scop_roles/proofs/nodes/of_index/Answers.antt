@@ -1,5 +1,5 @@
 use Rattle.scop_syntax.proofs.Common.{subst, IfOk}
-use Rattle.scop_roles.specs.Judgement.{IsJudgement}
+use Rattle.scop_roles.specs.steps.Judgement.{IsJudgement}
 use Rattle.scop_roles.proofs.nodes.of_index.Goals as goal
 
 pub returns-in-Ok : goal.returns-in-Ok

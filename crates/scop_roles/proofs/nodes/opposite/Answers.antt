@@ -3,7 +3,7 @@ use Rattle.scop_roles.specs.declared.kinds.Kind.TheVariants as kind
 use Rattle.scop_roles.specs.declared.formula.Role.TheVariants as role
 use Rattle.scop_roles.specs.Formula.{unary}
 use Rattle.scop_roles.specs.Faults.{first, faults}
-use Rattle.scop_roles.specs.Judgement.{IsFormOf, HasForm}
+use Rattle.scop_roles.specs.steps.Judgement.{IsFormOf, HasForm}
 use Rattle.scop_roles.proofs.Sizes.{opposite_affine}
 use Rattle.scop_roles.proofs.NodeForms.{refused, opposite_refused}
 use Rattle.scop_roles.proofs.nodes.opposite.Goals as goal

@@ -1,5 +1,5 @@
 use Rattle.scop_syntax.proofs.Common.{subst, IfOk}
-use Rattle.scop_roles.specs.Judgement.{HasForm, IsJudgement}
+use Rattle.scop_roles.specs.steps.Judgement.{HasForm, IsJudgement}
 use Rattle.scop_roles.proofs.FormulaValues.{if_ok}
 use Rattle.scop_roles.proofs.sides.of_binary.Goals as goal
 

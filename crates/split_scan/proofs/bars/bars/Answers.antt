@@ -1,5 +1,5 @@
 use Rattle.scop_syntax.proofs.Common.{◌∙◌, ap, IfOk-weaker}
-use Rattle.split_scan.specs.Copies.{bounding_in}
+use Rattle.split_scan.specs.steps.Copies.{bounding_in}
 use Rattle.split_scan.proofs.HullBounds.{hull_bars}
 use Rattle.split_scan.proofs.bars.bars.Goals as goal
 

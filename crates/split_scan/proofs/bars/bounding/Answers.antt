@@ -1,6 +1,6 @@
 use Rattle.scop_syntax.proofs.Common.{◌∙◌, ap}
 use Rattle.plain_scan.proofs.CodeBounds.{take_all}
-use Rattle.split_scan.specs.Copies.{bounding_in}
+use Rattle.split_scan.specs.steps.Copies.{bounding_in}
 use Rattle.split_scan.proofs.HullBounds.{bounding_next}
 use Rattle.split_scan.proofs.bars.bounding.Goals as goal
 

@@ -2,7 +2,7 @@ use Rattle.scop_syntax.proofs.Common.{◌≡◌, ◌+◌, ◌++◌, ◌∙◌, a
 use Rattle.scop_syntax.proofs.Common.{Affine, widened}
 use Rattle.affine_forms.specs.Parts.{variables_of}
 use Rattle.fm_projection.specs.Alone.{place_form}
-use Rattle.split_scan.specs.Questions.{AreNatural}
+use Rattle.split_scan.specs.steps.Questions.{AreNatural}
 use Rattle.split_scan.proofs.HullBounds.{natural_inside}
 use Rattle.split_scan.proofs.Values.{widened_sized}
 use Rattle.split_scan.proofs.bars.level_of.Goals as goal

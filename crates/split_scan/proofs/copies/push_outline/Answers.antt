@@ -2,7 +2,7 @@ use Rattle.scop_syntax.proofs.Common.{◌≡◌, ◌++◌, [], ◌∷◌, ◌∙
 use Rattle.integer_sets.specs.Scanned.{Scanned}
 use Rattle.plain_scan.specs.Hulls.{sets_in}
 use Rattle.plain_scan.proofs.WholeScans.{sets_more}
-use Rattle.split_scan.specs.Copies.{AreCopies}
+use Rattle.split_scan.specs.steps.Copies.{AreCopies}
 use Rattle.split_scan.proofs.OutlineCopies.{copied_shadows}
 use Rattle.split_scan.proofs.copies.push_outline.Goals as goal
 

@@ -1,5 +1,5 @@
 use Rattle.scop_syntax.proofs.Common.{take}
-use Rattle.split_scan.specs.Copies.{AreCopies}
+use Rattle.split_scan.specs.steps.Copies.{AreCopies}
 use Rattle.split_scan.proofs.copies.shadows_again.Given as goal
 
 abbrev pub invariant-loop-shadow : goal.invariant-loop-shadow

@@ -1,5 +1,5 @@
 use Rattle.scop_syntax.proofs.Common.{◌+◌, All, subst, sym}
-use Rattle.split_scan.specs.Questions.{IsCut}
+use Rattle.split_scan.specs.steps.Questions.{IsCut}
 use Rattle.split_scan.proofs.NodeParts.{near_goes, one_cell}
 use Rattle.split_scan.proofs.cutting.cut.Goals as goal
 

@@ -1,5 +1,5 @@
 use Rattle.scop_syntax.proofs.Common.{◌+◌, subst, sym}
-use Rattle.split_scan.specs.Parts.{IsCell}
+use Rattle.split_scan.specs.steps.Parts.{IsCell}
 use Rattle.split_scan.proofs.NodeParts.{held_next}
 use Rattle.split_scan.proofs.cutting.cut_all.Goals as goal
 

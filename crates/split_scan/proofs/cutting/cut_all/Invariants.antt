@@ -1,6 +1,6 @@
 use Rattle.scop_syntax.proofs.Common.{◌+◌, ◌++◌, ◌∷◌, ℤ, List, All, take}
-use Rattle.split_scan.specs.Questions.{IsIn}
-use Rattle.split_scan.specs.Parts.{InPart, IsCell}
+use Rattle.split_scan.specs.steps.Questions.{IsIn}
+use Rattle.split_scan.specs.steps.Parts.{InPart, IsCell}
 use Rattle.split_scan.proofs.cutting.cut_all.Given as goal
 
 abbrev pub invariant-loop-cell : goal.invariant-loop-cell

@@ -3,7 +3,7 @@ use Rattle.scop_syntax.proofs.Common.{All-append, All-cons, All-nil, Affine, com
 use Rattle.affine_forms.specs.Parts.{variables_of}
 use Rattle.fractions.specs.Elimination.{coefficient_of}
 use Rattle.plain_scan.specs.Between.{HasSmallNumbers}
-use Rattle.split_scan.specs.Questions.{IsCut}
+use Rattle.split_scan.specs.steps.Questions.{IsCut}
 use Rattle.split_scan.proofs.NodeParts.{cell_more, goes_more}
 use Rattle.split_scan.proofs.cutting.cut_by.Goals as goal
 use Rattle.split_scan.proofs.cutting.cut_by.Goals.{After-deref-3}

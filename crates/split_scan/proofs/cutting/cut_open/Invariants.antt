@@ -1,7 +1,7 @@
 use Rattle.scop_syntax.proofs.Common.{◌≡◌, ◌+◌, All}
 use Rattle.affine_forms.specs.Parts.{variables_of}
-use Rattle.split_scan.specs.Questions.{IsCut}
-use Rattle.split_scan.specs.Parts.{Goes, IsCell}
+use Rattle.split_scan.specs.steps.Questions.{IsCut}
+use Rattle.split_scan.specs.steps.Parts.{Goes, IsCell}
 use Rattle.split_scan.proofs.cutting.cut_open.Given as goal
 
 abbrev pub invariant-loop-row : goal.invariant-loop-row

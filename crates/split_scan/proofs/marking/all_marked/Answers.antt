@@ -1,6 +1,6 @@
 use Rattle.scop_syntax.proofs.Common.{◌≡◌, ◌+◌, ◌++◌, [], ◌∷◌, subst, sym, rules, length}
 use Rattle.plain_scan.specs.Hulls.{sets_in}
-use Rattle.split_scan.specs.Parts.{IsCell}
+use Rattle.split_scan.specs.steps.Parts.{IsCell}
 use Rattle.split_scan.proofs.NodeParts.{held_next, marks_more, near_goes, part_more}
 use Rattle.split_scan.proofs.marking.all_marked.Goals as goal
 

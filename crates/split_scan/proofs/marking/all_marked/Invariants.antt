@@ -1,6 +1,6 @@
 use Rattle.scop_syntax.proofs.Common.{◌+◌, ℤ, List, All, length, take}
 use Rattle.plain_scan.specs.Hulls.{sets_in}
-use Rattle.split_scan.specs.Parts.{HasMarks, InPart, IsPart}
+use Rattle.split_scan.specs.steps.Parts.{HasMarks, InPart, IsPart}
 use Rattle.split_scan.proofs.marking.all_marked.Given as goal
 
 abbrev pub invariant-loop-cell : goal.invariant-loop-cell

@@ -1,6 +1,6 @@
 use Rattle.scop_syntax.proofs.Common.{◌∙◌, ap, length, subst, sym}
 use Rattle.plain_scan.specs.Hulls.{sets_in}
-use Rattle.split_scan.specs.Parts.{Keeps}
+use Rattle.split_scan.specs.steps.Parts.{Keeps}
 use Rattle.split_scan.proofs.marking.marked.Goals as goal
 
 pub returns-clause-keeps : goal.returns-clause-keeps

@@ -3,7 +3,7 @@ use Rattle.scop_syntax.proofs.Common.{not}
 use Rattle.plain_scan.specs.Hulls.{IsAlike, sets_in}
 use Rattle.plain_scan.specs.declared.outline.Shadow.{Shadow}
 use Rattle.plain_scan.specs.declared.set_outline.Outline.{Outline}
-use Rattle.split_scan.specs.Parts.{Keeps}
+use Rattle.split_scan.specs.steps.Parts.{Keeps}
 use Rattle.split_scan.proofs.NodeParts.{implied_rows, keeps_mark, next_at}
 use Rattle.split_scan.proofs.marking.marks_of.Goals as goal
 

@@ -1,6 +1,6 @@
 use Rattle.scop_syntax.proofs.Common.{◌≡◌, length}
 use Rattle.plain_scan.specs.Hulls.{sets_in}
-use Rattle.split_scan.specs.Parts.{Keeps}
+use Rattle.split_scan.specs.steps.Parts.{Keeps}
 use Rattle.split_scan.proofs.marking.marks_of.Given as goal
 
 abbrev pub invariant-loop-outline : goal.invariant-loop-outline

@@ -1,5 +1,5 @@
 use Rattle.scop_syntax.proofs.Common.{◌+◌, ◌++◌, ◌∷◌, All, subst, sym, IfOk-weaker}
-use Rattle.split_scan.specs.Parts.{IsCell}
+use Rattle.split_scan.specs.steps.Parts.{IsCell}
 use Rattle.split_scan.proofs.marking.separated.Goals as goal
 
 pub all_marked-requires-clause-cells : goal.all_marked-requires-clause-cells

@@ -3,7 +3,7 @@ use Rattle.scop_syntax.proofs.Common.{All-cons, All-nil, Affine, complement, len
 use Rattle.affine_forms.specs.Parts.{variables_of}
 use Rattle.fractions.specs.Elimination.{coefficient_of}
 use Rattle.plain_scan.specs.Hulls.{sets_in}
-use Rattle.split_scan.specs.Questions.{IsCut}
+use Rattle.split_scan.specs.steps.Questions.{IsCut}
 use Rattle.split_scan.proofs.NarrowedNodes.{hold_more}
 use Rattle.split_scan.proofs.narrowing.narrow_by.Goals as goal
 

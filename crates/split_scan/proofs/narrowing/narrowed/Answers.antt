@@ -1,6 +1,6 @@
 use Rattle.scop_syntax.proofs.Common.{◌+◌, subst, sym, All}
 use Rattle.plain_scan.specs.Hulls.{sets_in}
-use Rattle.split_scan.specs.Questions.{IsCut}
+use Rattle.split_scan.specs.steps.Questions.{IsCut}
 use Rattle.split_scan.specs.steps.Narrowing.{HoldAtKeys}
 use Rattle.split_scan.proofs.narrowing.narrowed.Goals as goal
 

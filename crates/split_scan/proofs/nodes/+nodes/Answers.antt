@@ -4,14 +4,14 @@ use Rattle.affine_forms.specs.Parts.{variables_of}
 use Rattle.integer_sets.specs.Scanned.{Scanned}
 use Rattle.loop_tree.specs.View.{nodes_of, tree_of, trees_of}
 use Rattle.plain_scan.specs.Hulls.{IsAlike, sets_in}
-use Rattle.plain_scan.specs.Sets.{NumbersRise}
-use Rattle.plain_scan.specs.Pieces.{loops_of}
+use Rattle.plain_scan.specs.Sets.{NumbersRise, IsShaped}
+use Rattle.plain_scan.specs.steps.Pieces.{loops_of}
 use Rattle.plain_scan.proofs.CodeBounds.{take_all}
 use Rattle.plain_scan.proofs.HullNodes.{few_variables, node_end}
-use Rattle.split_scan.specs.Questions.{AreNatural, IsCut}
-use Rattle.split_scan.specs.Ordering.{AreParts}
-use Rattle.plain_scan.specs.Nodes.{IsNode, IsShaped}
-use Rattle.split_scan.specs.Parts.{IsPart, staying}
+use Rattle.split_scan.specs.steps.Questions.{AreNatural, IsCut}
+use Rattle.split_scan.specs.steps.Ordering.{AreParts}
+use Rattle.plain_scan.specs.steps.Nodes.{IsNode}
+use Rattle.split_scan.specs.steps.Parts.{IsPart, staying}
 use Rattle.split_scan.specs.declared.part.Part.{Part}
 use Rattle.split_scan.specs.steps.Frames.{HasBodies, frame_of, inside_of, pieces_of}
 use Rattle.split_scan.proofs.PartLoops.{node_of}

@@ -1,7 +1,7 @@
 use Rattle.scop_syntax.proofs.Common.{sym, subst, All, IfOk-weaker}
 use Rattle.plain_scan.specs.Hulls.{sets_in}
 use Rattle.split_scan.proofs.OutlineCopies.{sets_count}
-use Rattle.split_scan.specs.Parts.{HasMarks}
+use Rattle.split_scan.specs.steps.Parts.{HasMarks}
 use Rattle.split_scan.proofs.nodes.separated_in_order.Goals as goal
 
 pub ordered-requires : goal.ordered-requires

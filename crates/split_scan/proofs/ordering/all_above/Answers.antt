@@ -1,6 +1,6 @@
 use Rattle.scop_syntax.proofs.Common.{take, subst, sym, rules, IsTrue}
 use Rattle.plain_scan.proofs.CodeBounds.{take_next}
-use Rattle.split_scan.specs.Ordering.{AreBelow, IsBelowAll}
+use Rattle.split_scan.specs.steps.Ordering.{AreBelow, IsBelowAll}
 use Rattle.split_scan.proofs.PartOrder.{below_more}
 use Rattle.split_scan.proofs.ordering.all_above.Goals as goal
 

@@ -1,5 +1,5 @@
 use Rattle.scop_syntax.proofs.Common.{ℕ, ◌<◌, get_or}
-use Rattle.split_scan.specs.Ordering.{AreBelow}
+use Rattle.split_scan.specs.steps.Ordering.{AreBelow}
 use Rattle.split_scan.specs.declared.part.Part.{Part}
 use Rattle.split_scan.proofs.ordering.below.Given as goal
 

@@ -1,7 +1,7 @@
 use Rattle.scop_syntax.proofs.Common.{◌≡◌, ◌-◌, ◌++◌, ◌∷◌, take, drop, length, subst, sym, rules, arith}
 use Rattle.std.proofs.Common.{length-drop}
 use Rattle.plain_scan.proofs.CodeBounds.{take_all}
-use Rattle.split_scan.specs.Ordering.{IsBelowAll, Rise}
+use Rattle.split_scan.specs.steps.Ordering.{IsBelowAll, Rise}
 use Rattle.split_scan.proofs.PartOrder.{rise_put}
 use Rattle.split_scan.proofs.ordering.insert.Goals as goal
 

@@ -1,8 +1,8 @@
 use Rattle.scop_syntax.proofs.Common.{◌≡◌, ◌+◌, ◌++◌, [], ◌∷◌, rules, ap, ap₂, subst, sym, ◌∙◌, List, All, arith, map}
 use Rattle.scop_syntax.proofs.Common.{IsTrue, IfOk-weaker, Affine, widened}
 use Rattle.affine_forms.specs.Parts.{variables_of}
-use Rattle.split_scan.specs.Questions.{HasNone}
-use Rattle.split_scan.specs.Ordering.{turned}
+use Rattle.split_scan.specs.steps.Questions.{HasNone}
+use Rattle.split_scan.specs.steps.Ordering.{turned}
 use Rattle.split_scan.proofs.PartOrder.{below_of, turned_sized}
 use Rattle.split_scan.proofs.ordering.is_below.Goals as goal
 use Rattle.split_scan.proofs.ordering.is_below.Goals.{In_ok-push}

@@ -1,7 +1,7 @@
 use Rattle.scop_syntax.proofs.Common.{◌≡◌, ◌+◌, [], List, All, length}
 use Rattle.affine_forms.specs.Parts.{variables_of}
 use Rattle.integer_sets.specs.Scanned.{Scanned}
-use Rattle.split_scan.specs.Ordering.{Rise}
+use Rattle.split_scan.specs.steps.Ordering.{Rise}
 use Rattle.split_scan.specs.steps.Picking.{IsPicking}
 use Rattle.split_scan.proofs.ordering.ordered.Given as goal
 

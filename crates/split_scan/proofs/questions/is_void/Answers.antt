@@ -1,5 +1,5 @@
 use Rattle.scop_syntax.proofs.Common.{◌≡◌, ◌+◌, ◌++◌, rules, ap, subst, ◌∙◌, List, IsTrue, IfOk-weaker, Affine}
-use Rattle.split_scan.specs.Questions.{HasNone}
+use Rattle.split_scan.specs.steps.Questions.{HasNone}
 use Rattle.split_scan.proofs.EmptinessAnswers.{void_of}
 use Rattle.split_scan.proofs.questions.is_void.Goals as goal
 

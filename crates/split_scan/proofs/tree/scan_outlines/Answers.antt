@@ -1,8 +1,8 @@
 use Rattle.scop_syntax.proofs.Common.{◌≡◌, zero, ◌+◌, ◌<◌, [], length, sym, subst, All, arith}
 use Rattle.loop_tree.specs.View.{nodes_of}
 use Rattle.plain_scan.specs.Hulls.{sets_in}
-use Rattle.plain_scan.specs.Nodes.{IsNode, IsShaped}
-use Rattle.plain_scan.specs.Sets.{NumbersRise}
+use Rattle.plain_scan.specs.steps.Nodes.{IsNode}
+use Rattle.plain_scan.specs.Sets.{IsShaped, NumbersRise}
 use Rattle.split_scan.proofs.tree.scan_outlines.Goals as goal
 
 pub nodes-requires-clause-some : goal.nodes-requires-clause-some

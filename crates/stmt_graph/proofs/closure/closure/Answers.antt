@@ -1,7 +1,7 @@
 use Rattle.scop_syntax.proofs.Common.{ℕ, Bool, List, [], ◌∷◌, map, Vec, Global, get_or, length, sym, ◌∙◌, ap, subst}
 use Rattle.scop_syntax.proofs.Common.{inl, inr, arith, map-append, length-map}
 use Rattle.std.proofs.lemmas.List.{length-append}
-use Rattle.stmt_graph.specs.Closure.{IsReached}
+use Rattle.stmt_graph.specs.steps.Closure.{IsReached}
 use Rattle.stmt_graph.proofs.Counts.{lt_or_eq}
 use Rattle.stmt_graph.proofs.Reachability.{get_or_append, get_or_last}
 use Rattle.stmt_graph.proofs.closure.closure.Goals as goal

@@ -1,5 +1,5 @@
 use Rattle.scop_syntax.proofs.Common.{◌≡◌, ◌<◌, ℕ, length, true, get_or, arith, sym, ◌∙◌, false≢true, in_at}
-use Rattle.stmt_graph.specs.Closure.{at}
+use Rattle.stmt_graph.specs.steps.Closure.{at}
 use Rattle.stmt_graph.proofs.Reachability.{in_all, all_from}
 use Rattle.stmt_graph.proofs.closure.next_reached.Goals as goal
 use Rattle.stmt_graph.proofs.closure.next_reached.Goals.{else-reached-source-via-then-reached-source+else-not-reached-target}

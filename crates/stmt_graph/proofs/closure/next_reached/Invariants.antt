@@ -1,5 +1,5 @@
 use Rattle.scop_syntax.proofs.Common.{◌≡◌, true, All, drop}
-use Rattle.stmt_graph.specs.Closure.{at}
+use Rattle.stmt_graph.specs.steps.Closure.{at}
 use Rattle.stmt_graph.proofs.closure.next_reached.Given as goal
 
 abbrev pub invariant-loop-at : goal.invariant-loop-at

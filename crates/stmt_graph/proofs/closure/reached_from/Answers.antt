@@ -1,5 +1,5 @@
 use Rattle.scop_syntax.proofs.Common.{List, Bool, subst, None, Some}
-use Rattle.stmt_graph.specs.Closure.{Leads}
+use Rattle.stmt_graph.specs.steps.Closure.{Leads}
 use Rattle.stmt_graph.proofs.Reachability.{grown, grows, unreached_falls}
 use Rattle.stmt_graph.proofs.closure.reached_from.Goals as goal
 

@@ -1,6 +1,6 @@
 use Rattle.scop_syntax.proofs.Common.{◌≡◌, ℕ, Bool, List, map, Vec, Global, get_or, length, sym, ◌∙◌, ap, subst, arith}
 use Rattle.scop_syntax.proofs.Common.{None, Some, length-map, length-replicate, get_or-replicate, nat_eq, add-one}
-use Rattle.stmt_graph.specs.Closure.{AreSquare, IsClosure, IsNext, IsGiven}
+use Rattle.stmt_graph.specs.steps.Closure.{AreSquare, IsClosure, IsNext, IsGiven}
 use Rattle.stmt_graph.proofs.Counts.{count_within}
 use Rattle.stmt_graph.proofs.Reachability.{square}
 use Rattle.stmt_graph.proofs.ComponentNumbers.{IsPartial, given, none_given, none_next, none_unnumbered}

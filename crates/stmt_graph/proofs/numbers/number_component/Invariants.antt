@@ -1,6 +1,6 @@
 use Rattle.scop_syntax.proofs.Common.{◌≡◌, ℕ, ◌<◌, ◌≤◌, map, length, if◌then◌else◌}
 use Rattle.stmt_graph.specs.Graph.{number_in}
-use Rattle.stmt_graph.specs.Closure.{joined}
+use Rattle.stmt_graph.specs.steps.Closure.{joined}
 use Rattle.stmt_graph.proofs.numbers.number_component.Given as goal
 
 abbrev pub invariant-loop-b : goal.invariant-loop-b

@@ -2,7 +2,7 @@ use Rattle.scop_syntax.proofs.Common.{◌+◌, ◌-◌, []}
 use Rattle.array_words.specs.Seats.{IsSeat}
 use Rattle.tile_core.specs.Views.{done_at, tile_at}
 use Rattle.tile_core.specs.declared.worker.Stage.TheVariants.{Working}
-use Rattle.tile_runner.specs.Laid.{AreJoined}
+use Rattle.tile_runner.specs.steps.Laid.{AreJoined}
 use Rattle.tile_runner.proofs.joins.do_joins.Given as goal
 
 abbrev pub invariant-loop : goal.invariant-loop

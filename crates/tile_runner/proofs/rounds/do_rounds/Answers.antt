@@ -5,7 +5,7 @@ use Rattle.tile_core.specs.Views.{done_at, tile_at}
 use Rattle.tile_core.specs.declared.worker.Stage.TheVariants.{Working}
 use Rattle.tile_core.specs.declared.worker.Worker.{Worker}
 use Rattle.tile_core.proofs.Strands.{rows_there}
-use Rattle.tile_runner.specs.Laid.{AreStrandsNext}
+use Rattle.tile_runner.specs.steps.Laid.{AreStrandsNext}
 use Rattle.tile_runner.proofs.Laid.{seat_past}
 use Rattle.tile_runner.proofs.StrandsNext.{round_next}
 use Rattle.tile_runner.proofs.rounds.do_rounds.Goals as goal

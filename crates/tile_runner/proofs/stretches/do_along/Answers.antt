@@ -3,7 +3,7 @@ use Rattle.array_words.specs.Seats.{IsSeat}
 use Rattle.tile_core.specs.Views.{done_at, tile_at}
 use Rattle.tile_core.specs.declared.worker.Stage.{Stage}
 use Rattle.tile_core.specs.declared.worker.Stage.TheVariants.{Working}
-use Rattle.tile_runner.specs.Laid.{AreJoined}
+use Rattle.tile_runner.specs.steps.Laid.{AreJoined}
 use Rattle.tile_runner.proofs.stretches.do_along.Goals as goal
 
 pub do_joins-requires-clause-seat : goal.do_joins-requires-clause-seat

@@ -6,7 +6,7 @@ use Rattle.array_words.specs.Stores.{IsNextLast}
 use Rattle.tile_table.specs.Codes.{value_by}
 use Rattle.tile_core.specs.Passes.{walk_in}
 use Rattle.tile_core.specs.declared.worker.Stage.{Stage}
-use Rattle.tile_runner.specs.Laid.{IsOnDesk}
+use Rattle.tile_runner.specs.steps.Laid.{IsOnDesk}
 use Rattle.tile_runner.proofs.Laid.{first_tells, next_last, next_read}
 use Rattle.tile_runner.proofs.JoinsNext.{seat_read}
 use Rattle.tile_runner.proofs.stretches.do_laid.Goals as goal

@@ -3,7 +3,7 @@ use Rattle.array_words.specs.Seats.{IsSeat}
 use Rattle.tile_core.specs.Views.{done_at, tile_at}
 use Rattle.tile_core.specs.declared.worker.Stage.{Stage}
 use Rattle.tile_core.specs.declared.worker.Worker.{Worker}
-use Rattle.tile_runner.specs.Laid.{IsOnDesk}
+use Rattle.tile_runner.specs.steps.Laid.{IsOnDesk}
 use Rattle.tile_runner.proofs.Laid.{desk_on, here_laid, laid_at_first, laid_on, seat_on, stands, worker_kept}
 use Rattle.tile_runner.proofs.stretches.do_on_desk.Goals as goal
 

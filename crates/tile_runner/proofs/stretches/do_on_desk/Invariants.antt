@@ -3,7 +3,7 @@ use Rattle.array_words.specs.Seats.{IsSeat}
 use Rattle.tile_core.specs.Views.{done_at, tile_at}
 use Rattle.tile_core.specs.Workers.{IsWorker}
 use Rattle.tile_core.specs.declared.worker.Stage.TheVariants.{Working}
-use Rattle.tile_runner.specs.Laid.{AreOnDesk}
+use Rattle.tile_runner.specs.steps.Laid.{AreOnDesk}
 use Rattle.tile_runner.proofs.stretches.do_on_desk.Given as goal
 
 abbrev pub invariant-loop : goal.invariant-loop

@@ -1,7 +1,7 @@
 use Rattle.scop_syntax.proofs.Common.{List, ℤ, subst, take}
 use Rattle.tile_table.specs.Desks.{IsLaid}
 use Rattle.tile_table.proofs.Desks.{room_stays}
-use Rattle.tile_runner.specs.Laid.{IsOnDesk}
+use Rattle.tile_runner.specs.steps.Laid.{IsOnDesk}
 use Rattle.tile_runner.proofs.Laid.{ahead_laid}
 use Rattle.tile_runner.proofs.stretches.lay_next.Goals as goal
 

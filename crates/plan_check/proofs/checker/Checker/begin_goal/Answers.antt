@@ -1,5 +1,5 @@
 use Rattle.scop_syntax.proofs.Common.{subst}
-use Rattle.plan_check.specs.steps.Taking.{Takes}
+use Rattle.plan_check.specs.Taking.{Takes}
 use Rattle.plan_check.proofs.Progresses.{next_as}
 use Rattle.plan_check.proofs.checker.Checker.begin_goal.Goals as goal
 

@@ -1,6 +1,6 @@
 use Rattle.scop_syntax.proofs.Common.{◌∙◌, sym, ap, subst}
 use Rattle.plan_check.specs.Progress.{IsProgress, Progress}
-use Rattle.plan_check.specs.steps.Taking.{Takes}
+use Rattle.plan_check.specs.Taking.{Takes}
 use Rattle.plan_check.proofs.Progresses.{none_has}
 use Rattle.plan_check.proofs.checker.Checker.end_of_goals.Goals as goal
 

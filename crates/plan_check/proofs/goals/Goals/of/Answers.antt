@@ -1,7 +1,7 @@
 use Rattle.scop_syntax.proofs.Common.{ℕ, List, All, sym, subst}
 use Rattle.iteration_domains.specs.Dependence.{Dependence}
 use Rattle.plan_check.specs.PlanView.{plan_of}
-use Rattle.plan_check.specs.steps.Walks.{CanGo}
+use Rattle.plan_check.specs.GoalList.{CanGo}
 use Rattle.plan_check.proofs.Walks.{all_can}
 use Rattle.plan_check.proofs.goals.Goals.of.Goals as goal
 

@@ -1,0 +1,5 @@
+-- What only proofs and private contracts need.
+pub mod Cuts
+pub mod Frames
+pub mod Promises
+pub mod Steps

@@ -1,0 +1,6 @@
+-- What only proofs and private contracts need.
+pub mod Shared
+pub mod Sizes
+pub mod StepParts
+pub mod Steps
+pub mod Stopping
