@@ -72,8 +72,8 @@ fn split(words: &Words, rest: &mut Seat<(), View>) -> Seat<(), View>
 
 /// One pass more, of a seat that stands for one worker.
 fn push_pass(
-    passes: &mut Vec<Pass>,
     alloc: Global,
+    passes: &mut Vec<Pass>,
     words: &Words,
     seat: Seat<(), View>,
 ) -> Result<(), AllocError>
@@ -101,9 +101,9 @@ fn deal(
     let mut passes = Vec::with_capacity(alloc, workers)?;
     for _ in 1..workers {
         let seat = split(words, &mut rest);
-        push_pass(&mut passes, alloc, words, seat)?;
+        push_pass(alloc, &mut passes, words, seat)?;
     }
-    push_pass(&mut passes, alloc, words, rest)?;
+    push_pass(alloc, &mut passes, words, rest)?;
     Ok(passes)
 }
 

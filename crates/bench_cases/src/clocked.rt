@@ -44,7 +44,7 @@ pub fn clocked<R: Threads + Wait + Sync + Clock + Eprint, S: Source, O: Sink, E:
         ensures unchanged { IfErr result (λ _. cells.new.items ≡ cells.old.items) }
     {
         let _told = tell(rt, "begun", &begun);
-        let done = run_on_threads(rt, &OpenGate, alloc, plan, cells, workers);
+        let done = run_on_threads(rt, alloc, &OpenGate, plan, cells, workers);
         let _told = tell(rt, "done", &begun);
         done
     };

@@ -119,8 +119,8 @@ fn put_opening(
 #[cycle(printing)]
 #[tactic(auto, using(crate::proofs::PutTexts::putting))]
 fn put_nodes(
-    nodes: &[Node],
     alloc: Global,
+    nodes: &[Node],
     out: &mut Vec<u8>,
     place: &Place,
 ) -> Result<(), AllocError>
@@ -132,7 +132,7 @@ fn put_nodes(
             Ok(()) => {}
             Err(_) => return Err(AllocError),
         }
-        match put_node(node, alloc, out, place) {
+        match put_node(alloc, node, out, place) {
             Ok(()) => {}
             Err(_) => return Err(AllocError),
         }
@@ -143,7 +143,7 @@ fn put_nodes(
 /// Puts a node behind its indentation.
 #[cycle(printing)]
 #[tactic(auto, using(crate::proofs::PutTexts::putting))]
-fn put_node(node: &Node, alloc: Global, out: &mut Vec<u8>, place: &Place) -> Result<(), AllocError>
+fn put_node(alloc: Global, node: &Node, out: &mut Vec<u8>, place: &Place) -> Result<(), AllocError>
     ensures { OnOk result (out.new.items ≡ out.old.items
         ++ node_text (program_of place.now.source.now) place.now.level place.now.loops (tree_of node.now)) }
 {
@@ -151,12 +151,12 @@ fn put_node(node: &Node, alloc: Global, out: &mut Vec<u8>, place: &Place) -> Res
         Node::Loop(head, body) => {
             put_opening(alloc, out, place, head)?;
             let inner = within_loop(alloc, place)?;
-            put_body(body, alloc, out, &inner, place.level)
+            put_body(alloc, body, out, &inner, place.level)
         }
         Node::Guard(guarded, body) => {
             put_condition(alloc, out, place, guarded)?;
             let inner = within_guard(alloc, place)?;
-            put_body(body, alloc, out, &inner, place.level)
+            put_body(alloc, body, out, &inner, place.level)
         }
         Node::Instance(leaf) => put_instance(alloc, out, place, leaf),
     }
@@ -166,8 +166,8 @@ fn put_node(node: &Node, alloc: Global, out: &mut Vec<u8>, place: &Place) -> Res
 #[cycle(printing)]
 #[tactic(auto, using(crate::proofs::PutTexts::putting))]
 fn put_body(
-    body: &[Node],
     alloc: Global,
+    body: &[Node],
     out: &mut Vec<u8>,
     inner: &Place,
     level: usize,
@@ -176,7 +176,7 @@ fn put_body(
         ++ (nodes_text (program_of inner.now.source.now) inner.now.level inner.now.loops (nodes_of body.now)
         ++ closing_text level)) }
 {
-    put_nodes(body, alloc, out, inner)?;
+    put_nodes(alloc, body, out, inner)?;
     put_closing(out, level)
 }
 
@@ -215,7 +215,7 @@ pub fn print(alloc: Global, kernel: &Kernel, tree: &Tree) -> Result<Vec<u8>, All
     };
     let mut out = Vec::new(alloc);
     put_front(&mut out, kernel)?;
-    put_nodes(&tree.nodes, alloc, &mut out, &place)?;
+    put_nodes(alloc, &tree.nodes, &mut out, &place)?;
     put_bytes(&mut out, b"}\n")?;
     Ok(out)
 }

@@ -175,8 +175,8 @@ fn closed_guard<'a>(condition: Guard, body: Option<Read<'a, Vec<Node>>>) -> Opti
 /// The nodes at a place, in so many steps.
 #[cycle(reading)]
 fn read_nodes<'a>(
-    steps: usize,
     alloc: Global,
+    steps: usize,
     place: &Place,
     text: &'a [u8],
 ) -> Result<Option<Read<'a, Vec<Node>>>, AllocError>
@@ -189,7 +189,7 @@ fn read_nodes<'a>(
         let Some(behind) = strip_repeated(rest, b"  ", place.level) else {
             return Ok(Some(Read { part: nodes, rest }));
         };
-        match read_node(steps - (at + 1), alloc, place, behind) {
+        match read_node(alloc, steps - (at + 1), place, behind) {
             Ok(Some(node)) => {
                 match push(&mut nodes, node.part) {
                     Ok(()) => {}
@@ -207,8 +207,8 @@ fn read_nodes<'a>(
 /// The node behind its indentation.
 #[cycle(reading)]
 fn read_node<'a>(
-    steps: usize,
     alloc: Global,
+    steps: usize,
     place: &Place,
     text: &'a [u8],
 ) -> Result<Option<Read<'a, Node>>, AllocError>
@@ -217,13 +217,13 @@ fn read_node<'a>(
         place.now.level place.now.loops text.now) }
 {
     if let Some(behind) = strip(text, b"#pragma omp parallel for\n") {
-        return read_parallel(steps, alloc, place, behind);
+        return read_parallel(alloc, steps, place, behind);
     }
     if let Some(behind) = strip(text, b"for (int64_t ") {
-        return read_loop(steps, alloc, place, false, behind);
+        return read_loop(alloc, steps, place, false, behind);
     }
     if let Some(behind) = strip(text, b"if (") {
-        return read_guard(steps, alloc, place, behind);
+        return read_guard(alloc, steps, place, behind);
     }
     match strip(text, b"{ /* S") {
         Some(behind) => read_instance(alloc, place, behind),
@@ -235,8 +235,8 @@ fn read_node<'a>(
 #[cycle(reading)]
 #[tactic(auto, unfolding(crate::specs::steps::Reading::parallel_from))]
 fn read_parallel<'a>(
-    steps: usize,
     alloc: Global,
+    steps: usize,
     place: &Place,
     text: &'a [u8],
 ) -> Result<Option<Read<'a, Node>>, AllocError>
@@ -248,7 +248,7 @@ fn read_parallel<'a>(
         return Ok(None);
     };
     match strip(indented, b"for (int64_t ") {
-        Some(behind) => read_loop(steps, alloc, place, true, behind),
+        Some(behind) => read_loop(alloc, steps, place, true, behind),
         None => Ok(None),
     }
 }
@@ -257,8 +257,8 @@ fn read_parallel<'a>(
 #[cycle(reading)]
 #[tactic(auto, unfolding(crate::specs::steps::Reading::loop_from))]
 fn read_loop<'a>(
-    steps: usize,
     alloc: Global,
+    steps: usize,
     place: &Place,
     parallel: bool,
     text: &'a [u8],
@@ -277,7 +277,7 @@ fn read_loop<'a>(
         Ok(None) => return Ok(None),
         Err(_) => return Err(AllocError),
     };
-    match read_nodes(steps, alloc, &inner, line.rest) {
+    match read_nodes(alloc, steps, &inner, line.rest) {
         Ok(body) => Ok(closed_loop(line.part, closed_body(place.level, body))),
         Err(_) => Err(AllocError),
     }
@@ -287,8 +287,8 @@ fn read_loop<'a>(
 #[cycle(reading)]
 #[tactic(auto, unfolding(crate::specs::steps::Reading::guard_from))]
 fn read_guard<'a>(
-    steps: usize,
     alloc: Global,
+    steps: usize,
     place: &Place,
     text: &'a [u8],
 ) -> Result<Option<Read<'a, Node>>, AllocError>
@@ -305,7 +305,7 @@ fn read_guard<'a>(
         Ok(None) => return Ok(None),
         Err(_) => return Err(AllocError),
     };
-    match read_nodes(steps, alloc, &inner, condition.rest) {
+    match read_nodes(alloc, steps, &inner, condition.rest) {
         Ok(body) => Ok(closed_guard(condition.part, closed_body(place.level, body))),
         Err(_) => Err(AllocError),
     }
@@ -328,7 +328,7 @@ fn read_all<'a>(
         level: 1,
         loops: 0,
     };
-    read_nodes(steps, alloc, &place, text)
+    read_nodes(alloc, steps, &place, text)
 }
 
 /// The tree of nodes that were read, where it prints as the text.

@@ -71,28 +71,28 @@ fn both_domains(alloc: Global, pair: &Pair) -> Result<PairRows, AllocError>
     let mut equalities = Vec::new(alloc);
     let mut rows = Vec::new(alloc);
     push_sources(
-        &mut equalities,
         alloc,
+        &mut equalities,
         first.equalities(),
         pair.loops,
         pair.others,
     )?;
-    push_targets(&mut equalities, alloc, second.equalities(), pair.loops)?;
-    push_sources(&mut rows, alloc, first.rows(), pair.loops, pair.others)?;
-    push_targets(&mut rows, alloc, second.rows(), pair.loops)?;
+    push_targets(alloc, &mut equalities, second.equalities(), pair.loops)?;
+    push_sources(alloc, &mut rows, first.rows(), pair.loops, pair.others)?;
+    push_targets(alloc, &mut rows, second.rows(), pair.loops)?;
     Ok(PairRows { equalities, rows })
 }
 
 /// And touch one cell.
-fn push_cell(rows: &mut PairRows, alloc: Global, pair: &Pair) -> Result<(), AllocError>
+fn push_cell(alloc: Global, rows: &mut PairRows, pair: &Pair) -> Result<(), AllocError>
     ensures { OnOk result (GainsTests (width_of pair.now) rows.old rows.new
         (cell_rows (source_of pair.now) (target_of pair.now))) }
 {
     let first = pair.source.access;
     let second = pair.target.access;
     push_subscripts(
-        &mut rows.equalities,
         alloc,
+        &mut rows.equalities,
         first.subscripts.as_slice(),
         second.subscripts.as_slice(),
         pair.loops,
@@ -105,8 +105,8 @@ fn push_cell(rows: &mut PairRows, alloc: Global, pair: &Pair) -> Result<(), Allo
 /// And the turns of the outermost `equal` loops are equal, where the source has `loops` turns, and of the next loop the
 /// target's is later, if `later`.
 fn push_order(
-    rows: &mut PairRows,
     alloc: Global,
+    rows: &mut PairRows,
     variables: usize,
     loops: usize,
     equal: usize,
@@ -116,22 +116,22 @@ fn push_order(
     requires later { IsTrue later → loops + equal < variables }
     ensures { OnOk result (GainsTests variables rows.old rows.new (order_at variables loops equal later).rows) }
 {
-    push_equal_turns(&mut rows.equalities, alloc, variables, loops, equal)?;
+    push_equal_turns(alloc, &mut rows.equalities, variables, loops, equal)?;
     if later {
-        push_later_turn(&mut rows.rows, alloc, variables, loops, equal)?;
+        push_later_turn(alloc, &mut rows.rows, variables, loops, equal)?;
     }
     Ok(())
 }
 
 /// And no parameter is negative.
-fn push_up(rows: &mut PairRows, alloc: Global, pair: &Pair) -> Result<(), AllocError>
+fn push_up(alloc: Global, rows: &mut PairRows, pair: &Pair) -> Result<(), AllocError>
     ensures { OnOk result (GainsTests (width_of pair.now) rows.old rows.new
         (parameter_rows pair.now.parameters (source_of pair.now) (target_of pair.now))) }
 {
     let before = pair.loops + pair.others;
     push_variables(
-        &mut rows.rows,
         alloc,
+        &mut rows.rows,
         before + pair.parameters,
         before,
         pair.parameters,
@@ -159,16 +159,16 @@ fn dep_between(alloc: Global, pair: &Pair, equal: usize, later: bool) -> Result<
 {
     let dimensions = pair.loops + pair.others;
     let mut rows = both_domains(alloc, pair)?;
-    push_cell(&mut rows, alloc, pair)?;
+    push_cell(alloc, &mut rows, pair)?;
     push_order(
-        &mut rows,
         alloc,
+        &mut rows,
         dimensions + pair.parameters,
         pair.loops,
         equal,
         later,
     )?;
-    push_up(&mut rows, alloc, pair)?;
+    push_up(alloc, &mut rows, pair)?;
     let system = System::from_parts(dimensions, pair.parameters, rows.equalities, rows.rows);
     Ok(Dep {
         source: end(pair.source),
@@ -180,8 +180,8 @@ fn dep_between(alloc: Global, pair: &Pair, equal: usize, later: bool) -> Result<
 
 /// Appends that dependence.
 fn push_dep(
-    deps: &mut Vec<Dep>,
     alloc: Global,
+    deps: &mut Vec<Dep>,
     pair: &Pair,
     equal: usize,
     later: bool,
@@ -197,7 +197,7 @@ fn push_dep(
 }
 
 /// Appends the dependences from one access to another, by depth.
-fn push_depths(deps: &mut Vec<Dep>, alloc: Global, pair: &Pair) -> Result<(), AllocError>
+fn push_depths(alloc: Global, deps: &mut Vec<Dep>, pair: &Pair) -> Result<(), AllocError>
     ensures { OnOk result (deps.new.items ≡ deps.old.items
         ++ map (dep_of pair.now.parameters (source_of pair.now) (target_of pair.now))
         (afters_of pair.now.parameters (source_of pair.now) (target_of pair.now))) }
@@ -206,21 +206,21 @@ fn push_depths(deps: &mut Vec<Dep>, alloc: Global, pair: &Pair) -> Result<(), Al
     let target = pair.target.statement;
     let common = common_loops(source.loops(), target.loops());
     for equal in 0..common {
-        push_dep(deps, alloc, pair, equal, true)?;
+        push_dep(alloc, deps, pair, equal, true)?;
     }
     if source.number() < target.number() {
-        push_dep(deps, alloc, pair, common, false)?;
+        push_dep(alloc, deps, pair, common, false)?;
     }
     Ok(())
 }
 
 /// Appends the dependences from one access to another, if one of them writes what the other touches.
-fn push_between(deps: &mut Vec<Dep>, alloc: Global, pair: &Pair) -> Result<(), AllocError>
+fn push_between(alloc: Global, deps: &mut Vec<Dep>, pair: &Pair) -> Result<(), AllocError>
     ensures { OnOk result (deps.new.items ≡ deps.old.items
         ++ deps_between pair.now.parameters (source_of pair.now) (target_of pair.now)) }
 {
     if can_conflict(pair) {
-        push_depths(deps, alloc, pair)
+        push_depths(alloc, deps, pair)
     } else {
         Ok(())
     }
@@ -228,8 +228,8 @@ fn push_between(deps: &mut Vec<Dep>, alloc: Global, pair: &Pair) -> Result<(), A
 
 /// Appends the dependences from an access to those of a statement.
 fn push_to_statement(
-    deps: &mut Vec<Dep>,
     alloc: Global,
+    deps: &mut Vec<Dep>,
     parameters: usize,
     source: &AccessOf,
     statement: &StatementModel,
@@ -257,15 +257,15 @@ fn push_to_statement(
             loops,
             others,
         };
-        push_between(deps, alloc, &pair)?;
+        push_between(alloc, deps, &pair)?;
     }
     Ok(())
 }
 
 /// Appends the dependences from an access to all.
 fn push_from_access(
-    deps: &mut Vec<Dep>,
     alloc: Global,
+    deps: &mut Vec<Dep>,
     model: &Model,
     source: &AccessOf,
 ) -> Result<(), AllocError>
@@ -276,15 +276,15 @@ fn push_from_access(
 {
     let parameters = model.parameters();
     for statement in model.statements() {
-        push_to_statement(deps, alloc, parameters, source, statement)?;
+        push_to_statement(alloc, deps, parameters, source, statement)?;
     }
     Ok(())
 }
 
 /// Appends the dependences from an access to all, but none where its array is marked.
 fn push_unmarked(
-    deps: &mut Vec<Dep>,
     alloc: Global,
+    deps: &mut Vec<Dep>,
     model: &Model,
     source: &AccessOf,
     marked: &[usize],
@@ -298,14 +298,14 @@ fn push_unmarked(
     if is_marked(marked, access.array) {
         Ok(())
     } else {
-        push_from_access(deps, alloc, model, source)
+        push_from_access(alloc, deps, model, source)
     }
 }
 
 /// Appends the dependences from the accesses of a statement.
 fn push_from_statement(
-    deps: &mut Vec<Dep>,
     alloc: Global,
+    deps: &mut Vec<Dep>,
     model: &Model,
     statement: &StatementModel,
     marked: &[usize],
@@ -322,7 +322,7 @@ fn push_from_statement(
             number,
             access: &accesses[number],
         };
-        push_unmarked(deps, alloc, model, &source, marked)?;
+        push_unmarked(alloc, deps, model, &source, marked)?;
     }
     Ok(())
 }
@@ -342,7 +342,7 @@ pub fn conflicts_without(
 {
     let mut deps = Vec::new(alloc);
     for statement in model.statements() {
-        push_from_statement(&mut deps, alloc, model, statement, marked)?;
+        push_from_statement(alloc, &mut deps, model, statement, marked)?;
     }
     Ok(deps)
 }

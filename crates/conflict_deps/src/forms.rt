@@ -54,8 +54,8 @@ fn shift_target(alloc: Global, form: &Form, loops: usize) -> Result<Form, AllocE
 
 /// Appends forms of the source.
 pub fn push_sources(
-    out: &mut Vec<Form>,
     alloc: Global,
+    out: &mut Vec<Form>,
     forms: &[Form],
     loops: usize,
     others: usize,
@@ -72,8 +72,8 @@ pub fn push_sources(
 
 /// Appends forms of the target.
 pub fn push_targets(
-    out: &mut Vec<Form>,
     alloc: Global,
+    out: &mut Vec<Form>,
     forms: &[Form],
     loops: usize,
 ) -> Result<(), AllocError>
@@ -107,8 +107,8 @@ fn subscript_difference(
 
 /// Appends that the subscripts are equal.
 pub fn push_subscripts(
-    out: &mut Vec<Form>,
     alloc: Global,
+    out: &mut Vec<Form>,
     first: &[Form],
     second: &[Form],
     loops: usize,
@@ -154,8 +154,8 @@ fn turn_difference(
 
 /// Appends that the turns of the outermost `count` loops are equal.
 pub fn push_equal_turns(
-    out: &mut Vec<Form>,
     alloc: Global,
+    out: &mut Vec<Form>,
     variables: usize,
     loops: usize,
     count: usize,
@@ -182,8 +182,8 @@ fn later_turn(alloc: Global, variables: usize, loops: usize, at: usize) -> Resul
 
 /// Appends that the target's turn of loop `at` is later.
 pub fn push_later_turn(
-    out: &mut Vec<Form>,
     alloc: Global,
+    out: &mut Vec<Form>,
     variables: usize,
     loops: usize,
     at: usize,

@@ -101,7 +101,7 @@ fn greatest_of(alloc: Global, unknowns: usize, least: &Quast) -> Result<Option<Q
     ensures parameters { IfOk result (HeldOver least.now.parameters) }
 {
     let mut forms = Vec::new(alloc);
-    push_below(&mut forms, alloc, TOP, unknowns, 0, unknowns)?;
+    push_below(alloc, &mut forms, TOP, unknowns, 0, unknowns)?;
     match least.map(&forms) {
         Err(FormStop::NoMemory) => Err(AllocError),
         Err(FormStop::Wide(_)) => Ok(None),

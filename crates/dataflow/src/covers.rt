@@ -47,8 +47,8 @@ fn writer_of<'a>(model: &'a Model, path: &Path) -> Option<AccessOf<'a>>
 
 // Appends the dependence of a leaf, where it names a statement.
 fn push_leaf(
-    out: &mut Vec<Dep>,
     alloc: Global,
+    out: &mut Vec<Dep>,
     way: Way,
     model: &Model,
     reader: &AccessOf,
@@ -71,8 +71,8 @@ fn push_leaf(
 /// # Errors
 /// `AllocError` alone.
 pub(crate) fn push_leaves(
-    out: &mut Vec<Dep>,
     alloc: Global,
+    out: &mut Vec<Dep>,
     way: Way,
     model: &Model,
     reader: &AccessOf,
@@ -85,7 +85,7 @@ pub(crate) fn push_leaves(
 {
     let paths = quast.live_paths()?;
     for path in &paths {
-        push_leaf(out, alloc, way, model, reader, path)?;
+        push_leaf(alloc, out, way, model, reader, path)?;
     }
     Ok(())
 }
@@ -100,8 +100,8 @@ fn is_in_role(way: Way, dep: &Dep, statement: usize, access: usize) -> bool
 
 // Appends a copy of a conflict, where it has the access in that role.
 fn push_conflict(
-    out: &mut Vec<Dep>,
     alloc: Global,
+    out: &mut Vec<Dep>,
     way: Way,
     dep: &Dep,
     statement: usize,
@@ -119,8 +119,8 @@ fn push_conflict(
 
 // Appends copies of the conflicts with an access in that role.
 fn push_conflicts(
-    out: &mut Vec<Dep>,
     alloc: Global,
+    out: &mut Vec<Dep>,
     way: Way,
     deps: &[Dep],
     statement: usize,
@@ -130,15 +130,15 @@ fn push_conflicts(
         (out.new.items ≡ out.old.items ++ chosen_deps (is_in_role way statement access) deps.now) }
 {
     for dep in deps {
-        push_conflict(out, alloc, way, dep, statement, access)?;
+        push_conflict(alloc, out, way, dep, statement, access)?;
     }
     Ok(())
 }
 
 // Appends the dependences of an access with its last writers, or its next.
 fn push_role(
-    out: &mut Vec<Dep>,
     alloc: Global,
+    out: &mut Vec<Dep>,
     way: Way,
     model: &Model,
     conflicts: &[Dep],
@@ -164,10 +164,10 @@ fn push_role(
         budget,
     )?;
     match source {
-        ReadSource::Resolved(quast) => push_leaves(out, alloc, way, model, reader, &quast),
+        ReadSource::Resolved(quast) => push_leaves(alloc, out, way, model, reader, &quast),
         ReadSource::Unresolved(_) => push_conflicts(
-            out,
             alloc,
+            out,
             way,
             conflicts,
             statement.number(),
@@ -178,8 +178,8 @@ fn push_role(
 
 // Appends the dependences of an access with its last writers, and behind them, where it is a read, its next.
 fn push_roles(
-    out: &mut Vec<Dep>,
     alloc: Global,
+    out: &mut Vec<Dep>,
     model: &Model,
     conflicts: &[Dep],
     reader: &AccessOf,
@@ -191,17 +191,17 @@ fn push_roles(
     requires reader { IsReader model.now (side_of reader.now) }
     ensures { OnOk result (out.new.items ≡ out.old.items ++ roles_at budget model.now (side_of reader.now)) }
 {
-    push_role(out, alloc, Way::Later, model, conflicts, reader, budget)?;
+    push_role(alloc, out, Way::Later, model, conflicts, reader, budget)?;
     if reader.number == 0 {
         return Ok(());
     }
-    push_role(out, alloc, Way::Earlier, model, conflicts, reader, budget)
+    push_role(alloc, out, Way::Earlier, model, conflicts, reader, budget)
 }
 
 // Appends those of an access, but none where its array is marked.
 fn push_access(
-    out: &mut Vec<Dep>,
     alloc: Global,
+    out: &mut Vec<Dep>,
     model: &Model,
     conflicts: &[Dep],
     reader: &AccessOf,
@@ -221,14 +221,14 @@ fn push_access(
     if is_marked(marked, access.array) {
         Ok(())
     } else {
-        push_roles(out, alloc, model, conflicts, reader, budget)
+        push_roles(alloc, out, model, conflicts, reader, budget)
     }
 }
 
 // Appends those of a statement's accesses.
 fn push_statement(
-    out: &mut Vec<Dep>,
     alloc: Global,
+    out: &mut Vec<Dep>,
     model: &Model,
     conflicts: &[Dep],
     statement: &StatementModel,
@@ -249,7 +249,7 @@ fn push_statement(
             number,
             access: &accesses[number],
         };
-        push_access(out, alloc, model, conflicts, &reader, marked, budget)?;
+        push_access(alloc, out, model, conflicts, &reader, marked, budget)?;
     }
     Ok(())
 }
@@ -274,7 +274,7 @@ pub fn covering(
     let mut deps = Vec::new(alloc);
     for statement in model.statements() {
         push_statement(
-            &mut deps, alloc, model, conflicts, statement, marked, budget,
+            alloc, &mut deps, model, conflicts, statement, marked, budget,
         )?;
     }
     Ok(deps)

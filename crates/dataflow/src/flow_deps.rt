@@ -21,8 +21,8 @@ use std::alloc::{AllocError, Global};
 
 // Appends the dependences of a read with its last writers.
 fn push_source(
-    out: &mut Vec<Dep>,
     alloc: Global,
+    out: &mut Vec<Dep>,
     model: &Model,
     reader: &AccessOf,
     source: &ReadSource,
@@ -38,7 +38,7 @@ fn push_source(
     match source {
         ReadSource::Resolved(quast) => {
             look_at_numbers(quast);
-            push_leaves(out, alloc, Way::Later, model, reader, quast)
+            push_leaves(alloc, out, Way::Later, model, reader, quast)
         }
         ReadSource::Unresolved(_) => unreachable!(),
     }
@@ -46,8 +46,8 @@ fn push_source(
 
 // Appends those of a statement's reads.
 fn push_reads(
-    out: &mut Vec<Dep>,
     alloc: Global,
+    out: &mut Vec<Dep>,
     model: &Model,
     statement: &StatementModel,
     sources: &[ReadSource],
@@ -68,7 +68,7 @@ fn push_reads(
             number,
             access: &accesses[number],
         };
-        push_source(out, alloc, model, &reader, &sources[index])?;
+        push_source(alloc, out, model, &reader, &sources[index])?;
     }
     Ok(())
 }
@@ -95,7 +95,7 @@ pub fn flow(alloc: Global, model: &Model, sources: &[ReadSource]) -> Result<Vec<
     let mut rest = sources;
     for statement in model.statements() {
         let (own, others) = rest.split_at(reads_in(statement));
-        push_reads(&mut deps, alloc, model, statement, own)?;
+        push_reads(alloc, &mut deps, model, statement, own)?;
         rest = others;
     }
     Ok(deps)

@@ -19,8 +19,8 @@ fn below_form(alloc: Global, most: u64, of: usize, at: usize) -> Result<Form, Al
 
 /// Appends a number less each of `count` variables from `from` on.
 pub fn push_below(
-    out: &mut Vec<Form>,
     alloc: Global,
+    out: &mut Vec<Form>,
     most: u64,
     of: usize,
     from: usize,

@@ -65,14 +65,14 @@ fn bound_forms(
     ensures { IfOk result (λ v. v.items ≡ map (source_form loops binds) forms.now) }
 {
     let mut all = Vec::new(alloc);
-    push_sources(&mut all, alloc, forms, loops, binds)?;
+    push_sources(alloc, &mut all, forms, loops, binds)?;
     Ok(all)
 }
 
 // Appends forms of the source, and forms of the target, over the turns of both, so many binds and the parameters.
 fn push_both(
-    out: &mut Vec<Form>,
     alloc: Global,
+    out: &mut Vec<Form>,
     first: &[Form],
     second: &[Form],
     loops: usize,
@@ -87,15 +87,15 @@ fn push_both(
         ≡ out.old.items ++ (map (source_form loops (others + binds)) first.now
         ++ map (λ f. target_form loops (source_form others binds f)) second.now)) }
 {
-    push_sources(out, alloc, first, loops, others + binds)?;
+    push_sources(alloc, out, first, loops, others + binds)?;
     let wide = bound_forms(alloc, second, others, binds)?;
-    push_targets(out, alloc, &wide, loops)
+    push_targets(alloc, out, &wide, loops)
 }
 
 // Appends equal subscripts over them.
 fn push_cells(
-    out: &mut Vec<Form>,
     alloc: Global,
+    out: &mut Vec<Form>,
     parameters: usize,
     binds: usize,
     source: &AccessOf,
@@ -113,8 +113,8 @@ fn push_cells(
     let second = target.access;
     let wide = bound_forms(alloc, second.subscripts.as_slice(), others, binds)?;
     push_subscripts(
-        out,
         alloc,
+        out,
         first.subscripts.as_slice(),
         &wide,
         loops,
@@ -142,8 +142,8 @@ fn leaf_equalities(
     let second = target.statement.domain();
     let mut all = Vec::new(alloc);
     push_both(
-        &mut all,
         alloc,
+        &mut all,
         first.equalities(),
         second.equalities(),
         first.dimensions(),
@@ -151,10 +151,10 @@ fn leaf_equalities(
         layout.binds,
     )?;
     let leaf = path.leaf;
-    push_turn_equalities(&mut all, alloc, layout, from, &leaf.forms)?;
+    push_turn_equalities(alloc, &mut all, layout, from, &leaf.forms)?;
     push_cells(
-        &mut all,
         alloc,
+        &mut all,
         layout.parameters,
         layout.binds,
         source,
@@ -182,18 +182,18 @@ fn leaf_rows(
     let before = first.dimensions() + second.dimensions() + layout.binds;
     let mut all = Vec::new(alloc);
     push_both(
-        &mut all,
         alloc,
+        &mut all,
         first.rows(),
         second.rows(),
         first.dimensions(),
         second.dimensions(),
         layout.binds,
     )?;
-    push_path(&mut all, alloc, layout, &path.turns)?;
+    push_path(alloc, &mut all, layout, &path.turns)?;
     push_variables(
-        &mut all,
         alloc,
+        &mut all,
         before + layout.parameters,
         before,
         layout.parameters,

@@ -58,8 +58,8 @@ fn placed_numbers(alloc: Global, layout: Layout, numbers: &[i128]) -> Result<Num
 
 // Appends the form with these numbers at their variables.
 fn push_placed(
-    out: &mut Vec<Form>,
     alloc: Global,
+    out: &mut Vec<Form>,
     layout: Layout,
     numbers: &[i128],
     constant: i128,
@@ -92,8 +92,8 @@ fn tied_numbers(
 
 // Appends the form with these numbers at their variables, and a factor at one more.
 fn push_tied(
-    out: &mut Vec<Form>,
     alloc: Global,
+    out: &mut Vec<Form>,
     layout: Layout,
     numbers: &[i128],
     at: usize,
@@ -112,8 +112,8 @@ fn push_tied(
 
 // Appends that a test is passed on its second side.
 fn push_complement(
-    out: &mut Vec<Form>,
     alloc: Global,
+    out: &mut Vec<Form>,
     layout: Layout,
     form: &Form,
 ) -> Result<(), AllocError>
@@ -123,8 +123,8 @@ fn push_complement(
 {
     let opposite = opposites(alloc, form.coefficients())?;
     push_placed(
-        out,
         alloc,
+        out,
         layout,
         opposite.as_slice(),
         -1 - form.constant(),
@@ -133,8 +133,8 @@ fn push_complement(
 
 // Appends that a quotient, bound behind so many, times its divisor is at most the form.
 fn push_begin(
-    out: &mut Vec<Form>,
     alloc: Global,
+    out: &mut Vec<Form>,
     layout: Layout,
     bound: usize,
     form: &Form,
@@ -148,8 +148,8 @@ fn push_begin(
 {
     let at = layout.before + (layout.turns + (layout.behind + bound));
     push_tied(
-        out,
         alloc,
+        out,
         layout,
         form.coefficients(),
         at,
@@ -160,8 +160,8 @@ fn push_begin(
 
 // Appends that the form is less than the next multiple.
 fn push_end(
-    out: &mut Vec<Form>,
     alloc: Global,
+    out: &mut Vec<Form>,
     layout: Layout,
     bound: usize,
     form: &Form,
@@ -178,8 +178,8 @@ fn push_end(
     let opposite = opposites(alloc, form.coefficients())?;
     let constant = divisor - 1 - form.constant();
     push_tied(
-        out,
         alloc,
+        out,
         layout,
         opposite.as_slice(),
         at,
@@ -190,8 +190,8 @@ fn push_end(
 
 // Appends both.
 fn push_bound(
-    out: &mut Vec<Form>,
     alloc: Global,
+    out: &mut Vec<Form>,
     layout: Layout,
     bound: usize,
     form: &Form,
@@ -205,14 +205,14 @@ fn push_bound(
     ensures { OnOk result (out.new.items
         ≡ out.old.items ++ bind_begins layout bound form.now divisor ∷ bind_ends layout bound form.now divisor ∷ []) }
 {
-    push_begin(out, alloc, layout, bound, form, divisor)?;
-    push_end(out, alloc, layout, bound, form, divisor)
+    push_begin(alloc, out, layout, bound, form, divisor)?;
+    push_end(alloc, out, layout, bound, form, divisor)
 }
 
 // Appends the rows of something passed, behind so many binds.
 fn push_turn(
-    out: &mut Vec<Form>,
     alloc: Global,
+    out: &mut Vec<Form>,
     layout: Layout,
     bound: usize,
     turn: &Turn,
@@ -224,9 +224,9 @@ fn push_turn(
     ensures { OnOk result (out.new.items ≡ out.old.items ++ path_rows layout bound ((turn_held turn.now) ∷ [])) }
 {
     match turn {
-        Turn::Up(form) => push_placed(out, alloc, layout, form.coefficients(), form.constant()),
-        Turn::Down(form) => push_complement(out, alloc, layout, form),
-        Turn::Bound { form, divisor } => push_bound(out, alloc, layout, bound, form, *divisor),
+        Turn::Up(form) => push_placed(alloc, out, layout, form.coefficients(), form.constant()),
+        Turn::Down(form) => push_complement(alloc, out, layout, form),
+        Turn::Bound { form, divisor } => push_bound(alloc, out, layout, bound, form, *divisor),
     }
 }
 
@@ -254,8 +254,8 @@ pub fn binds_in(turns: &[Turn]) -> usize
 
 /// Appends the rows of what is passed.
 pub fn push_path(
-    out: &mut Vec<Form>,
     alloc: Global,
+    out: &mut Vec<Form>,
     layout: Layout,
     turns: &[Turn],
 ) -> Result<(), AllocError>
@@ -267,7 +267,7 @@ pub fn push_path(
 {
     let mut bound = 0;
     for turn in turns {
-        push_turn(out, alloc, layout, bound, turn)?;
+        push_turn(alloc, out, layout, bound, turn)?;
         bound += binds_of(turn);
     }
     Ok(())
@@ -275,8 +275,8 @@ pub fn push_path(
 
 // Appends that a turn of the writer, the variable `at`, is a form.
 fn push_turn_equality(
-    out: &mut Vec<Form>,
     alloc: Global,
+    out: &mut Vec<Form>,
     layout: Layout,
     at: usize,
     form: &Form,
@@ -289,8 +289,8 @@ fn push_turn_equality(
 {
     let opposite = opposites(alloc, form.coefficients())?;
     push_tied(
-        out,
         alloc,
+        out,
         layout,
         opposite.as_slice(),
         at,
@@ -301,8 +301,8 @@ fn push_turn_equality(
 
 /// Appends that the turns of the writer, from the variable `from` on, are the forms.
 pub fn push_turn_equalities(
-    out: &mut Vec<Form>,
     alloc: Global,
+    out: &mut Vec<Form>,
     layout: Layout,
     from: usize,
     forms: &[Form],
@@ -315,7 +315,7 @@ pub fn push_turn_equalities(
     ensures { OnOk result (out.new.items ≡ out.old.items ++ turn_equalities layout from forms.now) }
 {
     for step in 0..forms.len() {
-        push_turn_equality(out, alloc, layout, from + step, &forms[step])?;
+        push_turn_equality(alloc, out, layout, from + step, &forms[step])?;
     }
     Ok(())
 }

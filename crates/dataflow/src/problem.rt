@@ -32,9 +32,9 @@ fn pair_behind(
 {
     let all = unknowns + (parameters + turns);
     let mut inner = Vec::new(alloc);
-    push_below(&mut inner, alloc, TOP, all, 0, unknowns)?;
-    push_variables(&mut inner, alloc, all, unknowns + parameters, turns)?;
-    push_variables(&mut inner, alloc, all, unknowns, parameters)?;
+    push_below(alloc, &mut inner, TOP, all, 0, unknowns)?;
+    push_variables(alloc, &mut inner, all, unknowns + parameters, turns)?;
+    push_variables(alloc, &mut inner, all, unknowns, parameters)?;
     Ok(inner)
 }
 
@@ -52,9 +52,9 @@ fn pair_ahead(
 {
     let all = unknowns + (parameters + turns);
     let mut inner = Vec::new(alloc);
-    push_variables(&mut inner, alloc, all, unknowns + parameters, turns)?;
-    push_variables(&mut inner, alloc, all, 0, unknowns)?;
-    push_variables(&mut inner, alloc, all, unknowns, parameters)?;
+    push_variables(alloc, &mut inner, all, unknowns + parameters, turns)?;
+    push_variables(alloc, &mut inner, all, 0, unknowns)?;
+    push_variables(alloc, &mut inner, all, unknowns, parameters)?;
     Ok(inner)
 }
 
@@ -96,8 +96,8 @@ fn moved_forms(alloc: Global, parameters: usize, turns: usize) -> Result<Vec<For
 {
     let outer = parameters + turns;
     let mut inner = Vec::new(alloc);
-    push_variables(&mut inner, alloc, outer, parameters, turns)?;
-    push_variables(&mut inner, alloc, outer, 0, parameters)?;
+    push_variables(alloc, &mut inner, outer, parameters, turns)?;
+    push_variables(alloc, &mut inner, outer, 0, parameters)?;
     Ok(inner)
 }
 
@@ -198,8 +198,8 @@ fn context_of(
     push_flat(&mut context, domain.equalities(), &inner, outer)?;
     push_composed(&mut context, domain.rows(), &inner, outer)?;
     push_below(
-        &mut context,
         alloc,
+        &mut context,
         MOST_PARAMETER_VALUE,
         outer,
         0,

@@ -155,8 +155,8 @@ pub fn source_of(
 
 // Appends the sources of a statement's reads.
 fn push_reads(
-    sources: &mut Vec<ReadSource>,
     alloc: Global,
+    sources: &mut Vec<ReadSource>,
     way: Way,
     model: &Model,
     deps: &[Dep],
@@ -192,7 +192,7 @@ fn sources_of(
     let deps = conflicts(alloc, model)?;
     let mut sources = Vec::new(alloc);
     for statement in model.statements() {
-        push_reads(&mut sources, alloc, way, model, &deps, statement, budget)?;
+        push_reads(alloc, &mut sources, way, model, &deps, statement, budget)?;
     }
     Ok(sources)
 }

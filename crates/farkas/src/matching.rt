@@ -127,12 +127,12 @@ fn only_at(alloc: Global, count: usize, place: usize, factor: i128) -> Result<Ve
 
 /// The equality of a coefficient that is a factor times the unknown at a place.
 fn match_coefficient(
+    alloc: Global,
     system: &System,
     unknowns: usize,
     place: usize,
     factor: i128,
     variable: usize,
-    alloc: Global,
 ) -> Result<Form, FormStop>
     requires place { place < unknowns }
     requires variable { variable < variables_in system.now }
@@ -147,10 +147,10 @@ fn match_coefficient(
 
 /// The equality of a coefficient in which no unknown stands.
 fn match_none(
+    alloc: Global,
     system: &System,
     unknowns: usize,
     variable: usize,
-    alloc: Global,
 ) -> Result<Form, FormStop>
     requires variable { variable < variables_in system.now }
     ensures { Gives (λ f. f) result (matched_run (Coefficient variable) (zeros unknowns) (pos 0) system.now) }
@@ -180,7 +180,7 @@ fn match_iterators(
     let alloc = *equalities.allocator();
     for depth in 0..loops {
         let place = first + (loops - 1 - depth);
-        match match_coefficient(system, unknowns, place, factor, variable + depth, alloc) {
+        match match_coefficient(alloc, system, unknowns, place, factor, variable + depth) {
             Err(stop) => return Err(stop),
             Ok(form) => match equalities.push(form) {
                 Err(_) => return Err(FormStop::NoMemory),
@@ -206,7 +206,7 @@ fn match_parameters(
     let alloc = *equalities.allocator();
     let variable = system.dimensions();
     for place in 0..system.parameters() {
-        match match_coefficient(system, unknowns, place, factor, variable + place, alloc) {
+        match match_coefficient(alloc, system, unknowns, place, factor, variable + place) {
             Err(stop) => return Err(stop),
             Ok(form) => match equalities.push(form) {
                 Err(_) => return Err(FormStop::NoMemory),
@@ -258,7 +258,7 @@ fn match_nones(
 {
     let alloc = *equalities.allocator();
     for at in 0..count {
-        match match_none(system, unknowns, variable + at, alloc) {
+        match match_none(alloc, system, unknowns, variable + at) {
             Err(stop) => return Err(stop),
             Ok(form) => match equalities.push(form) {
                 Err(_) => return Err(FormStop::NoMemory),

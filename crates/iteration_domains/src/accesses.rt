@@ -26,15 +26,15 @@ fn subscripts_within(
 {
     let mut composed = Vec::new(alloc);
     for subscript in subscripts {
-        push_composed(&mut composed, alloc, subscript, forms, variables)?;
+        push_composed(alloc, &mut composed, subscript, forms, variables)?;
     }
     Ok(composed)
 }
 
 /// Appends an access.
 fn push_access(
-    accesses: &mut Vec<AccessForms>,
     alloc: Global,
+    accesses: &mut Vec<AccessForms>,
     access: &Access,
     forms: &[Form],
     variables: usize,
@@ -63,7 +63,7 @@ pub fn accesses_within(
     let mut found = Vec::new(alloc);
     for number in 0..read_count(statement) + 1 {
         let access = access_at(statement, number);
-        push_access(&mut found, alloc, access, forms, variables)?;
+        push_access(alloc, &mut found, access, forms, variables)?;
     }
     Ok(found)
 }

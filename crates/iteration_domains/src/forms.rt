@@ -111,8 +111,8 @@ pub fn variable_form(alloc: Global, variables: usize, at: usize) -> Result<Form,
 /// # Errors
 /// `AllocError` alone.
 pub fn push_variables(
-    out: &mut Vec<Form>,
     alloc: Global,
+    out: &mut Vec<Form>,
     of: usize,
     from: usize,
     count: usize,
@@ -173,8 +173,8 @@ pub fn compose(
 
 /// Appends that form.
 pub fn push_composed(
-    out: &mut Vec<Form>,
     alloc: Global,
+    out: &mut Vec<Form>,
     aff: &Aff,
     forms: &[Form],
     variables: usize,

@@ -97,7 +97,7 @@ impl Model {
         cells_lie_within_22_bits();
         let mut systems = Vec::new(alloc);
         for statement in &self.statements {
-            push_statement(&mut systems, alloc, statement, kernel, params)?;
+            push_statement(alloc, &mut systems, statement, kernel, params)?;
         }
         Ok(systems)
     }

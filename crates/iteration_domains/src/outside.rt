@@ -26,7 +26,7 @@ fn fixed_forms(alloc: Global, turns: usize, params: &[i64]) -> Result<Vec<Form>,
     ensures { IfOk result (λ v. v.items ≡ fixed_forms turns params.now) }
 {
     let mut forms = Vec::new(alloc);
-    push_variables(&mut forms, alloc, turns, 0, turns)?;
+    push_variables(alloc, &mut forms, turns, 0, turns)?;
     for param in params {
         let form = constant_form(alloc, turns, *param as i128)?;
         push(&mut forms, form)?;
@@ -78,8 +78,8 @@ fn shifted(alloc: Global, form: &Form, factor: i128, constant: i128) -> Result<F
 
 /// Appends a domain over turns with the row `constant + factor * form` behind it.
 fn push_shifted(
-    out: &mut Vec<System>,
     alloc: Global,
+    out: &mut Vec<System>,
     domain: &System,
     form: &Form,
     factor: i128,
@@ -100,8 +100,8 @@ fn push_shifted(
 
 /// Appends the two systems of a subscript over turns.
 fn push_sides(
-    out: &mut Vec<System>,
     alloc: Global,
+    out: &mut Vec<System>,
     domain: &System,
     form: &Form,
     extent: u64,
@@ -112,14 +112,14 @@ fn push_sides(
     ensures { OnOk result (out.new.items ≡ out.old.items
         ++ outside_system domain.now form.now extent below ∷ outside_system domain.now form.now extent past ∷ []) }
 {
-    push_shifted(out, alloc, domain, form, -1, -1)?;
-    push_shifted(out, alloc, domain, form, 1, -(extent as i128))
+    push_shifted(alloc, out, domain, form, -1, -1)?;
+    push_shifted(alloc, out, domain, form, 1, -(extent as i128))
 }
 
 /// Appends the two systems of a subscript, where `forms` stand for its variables.
 fn push_subscript(
-    out: &mut Vec<System>,
     alloc: Global,
+    out: &mut Vec<System>,
     domain: &System,
     forms: &[Form],
     subscript: &Form,
@@ -133,13 +133,13 @@ fn push_subscript(
         ∷ outside_system domain.now (fixed domain.now.dimensions forms.now subscript.now) extent past ∷ []) }
 {
     let form = compose_form(subscript, forms, domain.dimensions())?;
-    push_sides(out, alloc, domain, &form, extent)
+    push_sides(alloc, out, domain, &form, extent)
 }
 
 /// Appends the systems of an access's subscripts.
 fn push_subscripts(
-    out: &mut Vec<System>,
     alloc: Global,
+    out: &mut Vec<System>,
     domain: &System,
     forms: &[Form],
     subscripts: &[Form],
@@ -156,15 +156,15 @@ fn push_subscripts(
 {
     for at in 0..subscripts.len() {
         let extent = wrapped_at(&extents[at], params);
-        push_subscript(out, alloc, domain, forms, &subscripts[at], extent)?;
+        push_subscript(alloc, out, domain, forms, &subscripts[at], extent)?;
     }
     Ok(())
 }
 
 /// Appends the systems of a statement's accesses.
 fn push_accesses(
-    out: &mut Vec<System>,
     alloc: Global,
+    out: &mut Vec<System>,
     domain: &System,
     forms: &[Form],
     accesses: &[AccessForms],
@@ -181,8 +181,8 @@ fn push_accesses(
     for access in accesses {
         let extents = &kernel.arrays[access.array].extents;
         push_subscripts(
-            out,
             alloc,
+            out,
             domain,
             forms,
             &access.subscripts,
@@ -195,8 +195,8 @@ fn push_accesses(
 
 /// Appends the systems of a statement, where `forms` stand for its variables.
 fn push_fixed(
-    out: &mut Vec<System>,
     alloc: Global,
+    out: &mut Vec<System>,
     statement: &StatementModel,
     forms: &[Form],
     kernel: &Kernel,
@@ -209,8 +209,8 @@ fn push_fixed(
 {
     let domain = fixed_domain(alloc, statement.domain(), forms)?;
     push_accesses(
-        out,
         alloc,
+        out,
         &domain,
         forms,
         statement.accesses(),
@@ -221,8 +221,8 @@ fn push_fixed(
 
 /// Appends the systems of a statement.
 pub fn push_statement(
-    out: &mut Vec<System>,
     alloc: Global,
+    out: &mut Vec<System>,
     statement: &StatementModel,
     kernel: &Kernel,
     params: &[i64],
@@ -233,5 +233,5 @@ pub fn push_statement(
 {
     let turns = statement.domain().dimensions();
     let forms = fixed_forms(alloc, turns, params)?;
-    push_fixed(out, alloc, statement, forms.as_slice(), kernel, params)
+    push_fixed(alloc, out, statement, forms.as_slice(), kernel, params)
 }

@@ -39,7 +39,7 @@ fn start(alloc: Global, parameters: usize, loops: usize) -> Result<StatementRows
 {
     let variables = loops + parameters;
     let mut forms = Vec::new(alloc);
-    push_variables(&mut forms, alloc, variables, loops, parameters)?;
+    push_variables(alloc, &mut forms, variables, loops, parameters)?;
     Ok(StatementRows {
         variables,
         loops: 0,
@@ -79,12 +79,12 @@ impl StatementRows {
     {
         let at = self.loops;
         let variables = self.variables;
-        push_variables(&mut self.rows, alloc, variables, at, 1)?;
+        push_variables(alloc, &mut self.rows, variables, at, 1)?;
         let iterator = iterator_form(alloc, head, self.forms.as_slice(), at, variables)?;
         push(&mut self.forms, iterator)?;
         push_composed(
-            &mut self.rows,
             alloc,
+            &mut self.rows,
             &head.condition,
             self.forms.as_slice(),
             variables,
@@ -102,9 +102,9 @@ impl StatementRows {
     {
         let forms = self.forms.as_slice();
         match test {
-            Test::AtLeast(row) => push_composed(&mut self.rows, alloc, row, forms, self.variables),
+            Test::AtLeast(row) => push_composed(alloc, &mut self.rows, row, forms, self.variables),
             Test::Equal(row) => {
-                push_composed(&mut self.equalities, alloc, row, forms, self.variables)
+                push_composed(alloc, &mut self.equalities, row, forms, self.variables)
             }
         }
     }

@@ -68,7 +68,7 @@ pub fn polypar<R: Threads + Wait + Sync, S: Source, O: Sink, E: Sink, G: Gate>(
         requires few { workers ≤ 64 }
         ensures arrays { IfOk result (λ _. AreExecuted plan.entry cells.old.items cells.new.items) }
         ensures unchanged { IfErr result (λ _. cells.new.items ≡ cells.old.items) }
-    { run_on_threads(rt, gate, alloc, plan, cells, workers) };
+    { run_on_threads(rt, alloc, gate, plan, cells, workers) };
     command_by(&By { run }, alloc, words, source, out, err)
 }
 

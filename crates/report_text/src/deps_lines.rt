@@ -123,8 +123,8 @@ fn push_read(
 
 /// Appends the lines of a statement's reads, as far as there are sources.
 fn push_reads(
-    out: &mut Vec<u8>,
     alloc: Global,
+    out: &mut Vec<u8>,
     kernel: &Kernel,
     statement: &StatementModel,
     sources: &[ReadSource],
@@ -168,7 +168,7 @@ pub fn deps_text(
     let mut text = Vec::new(alloc);
     let mut rest = sources;
     for statement in model.statements() {
-        push_reads(&mut text, alloc, kernel, statement, rest)?;
+        push_reads(alloc, &mut text, kernel, statement, rest)?;
         rest = behind(rest, statement.accesses().len());
     }
     Ok(text)

@@ -21,7 +21,7 @@ fn push_name(names: &mut Vec<Name>, name: Name) -> Result<(), AllocError>
 }
 
 /// Appends copies of names.
-fn push_copies(names: &mut Vec<Name>, alloc: Global, copied: &[Name]) -> Result<(), AllocError>
+fn push_copies(alloc: Global, names: &mut Vec<Name>, copied: &[Name]) -> Result<(), AllocError>
     ensures { OnOk result
         (texts_of names.new.items ≡ texts_of names.old.items ++ texts_of copied.now) }
 {
@@ -42,7 +42,7 @@ fn turn_name(alloc: Global, number: u128) -> Result<Name, AllocError>
 }
 
 /// Appends the names of the turns of so many loops.
-fn push_turns(names: &mut Vec<Name>, alloc: Global, loops: usize) -> Result<(), AllocError>
+fn push_turns(alloc: Global, names: &mut Vec<Name>, loops: usize) -> Result<(), AllocError>
     ensures { OnOk result (texts_of names.new.items ≡ texts_of names.old.items ++ turn_names loops) }
 {
     for at in 0..loops {
@@ -62,7 +62,7 @@ pub(crate) fn names_within(
         (λ names. texts_of names.items ≡ (program_of kernel.now).parameters ++ turn_names loops) }
 {
     let mut names = Vec::new(alloc);
-    push_copies(&mut names, alloc, &kernel.parameters)?;
-    push_turns(&mut names, alloc, loops)?;
+    push_copies(alloc, &mut names, &kernel.parameters)?;
+    push_turns(alloc, &mut names, loops)?;
     Ok(names)
 }

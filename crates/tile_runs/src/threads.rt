@@ -45,8 +45,8 @@ impl<F: Fn(Global, Plan, &mut Vec<u64>, usize) -> Result<(), AllocError>> Worker
 /// `AllocError`; the cells are then as they were.
 pub fn run_on_threads<R: Threads + Wait + Sync, G: Gate>(
     rt: &R,
-    gate: &G,
     alloc: Global,
+    gate: &G,
     plan: Plan,
     cells: &mut Vec<u64>,
     workers: usize,

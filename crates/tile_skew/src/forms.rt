@@ -97,8 +97,8 @@ pub fn carried_form(
 
 /// Appends that dimension `at` has the value of the form.
 pub fn push_value(
-    out: &mut Vec<Form>,
     alloc: Global,
+    out: &mut Vec<Form>,
     layout: Layout,
     at: usize,
     form: &Form,
@@ -164,8 +164,8 @@ fn tile_ends(
 
 /// Appends that dimension `at` is the tile coordinate of the row.
 pub fn push_coordinate(
-    out: &mut Vec<Form>,
     alloc: Global,
+    out: &mut Vec<Form>,
     layout: Layout,
     size: u64,
     at: usize,

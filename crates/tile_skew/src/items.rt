@@ -76,8 +76,8 @@ fn leading(alloc: Global, items: &[Item], k: usize) -> Result<Vec<usize>, AllocE
 
 /// Appends the item's row of the first band at statement `k`.
 fn push_row(
-    rows: &mut Vec<TileRow>,
     alloc: Global,
+    rows: &mut Vec<TileRow>,
     item: &Item,
     parallel: bool,
     k: usize,
@@ -111,7 +111,7 @@ fn first_band(
     let items = schedule.items();
     let mut rows = Vec::new(alloc);
     for at in first..behind {
-        match push_row(&mut rows, alloc, &items[at], schedule.is_parallel(at), k) {
+        match push_row(alloc, &mut rows, &items[at], schedule.is_parallel(at), k) {
             Err(_) => return Err(AllocError),
             Ok(()) => {}
         }

@@ -17,8 +17,8 @@ use std::alloc::{AllocError, Global};
 
 /// Appends the domain's forms over all variables.
 fn push_domain(
-    out: &mut Vec<Form>,
     alloc: Global,
+    out: &mut Vec<Form>,
     layout: Layout,
     forms: &[Form],
 ) -> Result<(), AllocError>
@@ -33,8 +33,8 @@ fn push_domain(
 
 /// Appends that the dimensions from `first` on are the scalars.
 fn push_leading(
-    out: &mut Vec<Form>,
     alloc: Global,
+    out: &mut Vec<Form>,
     layout: Layout,
     first: usize,
     leading: &[usize],
@@ -46,15 +46,15 @@ fn push_leading(
 {
     for at in 0..leading.len() {
         let form = number_form(alloc, layout, leading[at] as i128)?;
-        push_value(out, alloc, layout, first + at, &form)?;
+        push_value(alloc, out, layout, first + at, &form)?;
     }
     Ok(())
 }
 
 /// Appends that the leading dimensions are the scalars and the wave sum.
 fn push_waves(
-    out: &mut Vec<Form>,
     alloc: Global,
+    out: &mut Vec<Form>,
     layout: Layout,
     items: &TileItems,
 ) -> Result<(), AllocError>
@@ -63,16 +63,16 @@ fn push_waves(
     ensures { OnOk result (out.new.items ≡ out.old.items ++ wave_equalities layout (items_of items.now)) }
 {
     let at = items.leading.len();
-    push_leading(out, alloc, layout, 0, items.leading.as_slice())?;
+    push_leading(alloc, out, layout, 0, items.leading.as_slice())?;
     let sum = carried_form(alloc, layout, at + 1, items.band.as_slice())?;
-    push_value(out, alloc, layout, at, &sum)?;
+    push_value(alloc, out, layout, at, &sum)?;
     Ok(())
 }
 
 /// Appends that the dimensions from `first` on are the rows of the first band.
 fn push_rows(
-    out: &mut Vec<Form>,
     alloc: Global,
+    out: &mut Vec<Form>,
     layout: Layout,
     first: usize,
     rows: &[TileRow],
@@ -86,15 +86,15 @@ fn push_rows(
     for at in 0..rows.len() {
         let row = &rows[at];
         let form = row_form(alloc, layout, &row.form)?;
-        push_value(out, alloc, layout, first + at, &form)?;
+        push_value(alloc, out, layout, first + at, &form)?;
     }
     Ok(())
 }
 
 /// Appends that dimension `at` is the item.
 fn push_item(
-    out: &mut Vec<Form>,
     alloc: Global,
+    out: &mut Vec<Form>,
     layout: Layout,
     at: usize,
     item: &TileItem,
@@ -108,19 +108,19 @@ fn push_item(
     match item {
         TileItem::Row(form) => {
             let row = row_form(alloc, layout, form)?;
-            push_value(out, alloc, layout, at, &row)
+            push_value(alloc, out, layout, at, &row)
         }
         TileItem::Scalar(number) => {
             let scalar = number_form(alloc, layout, *number as i128)?;
-            push_value(out, alloc, layout, at, &scalar)
+            push_value(alloc, out, layout, at, &scalar)
         }
     }
 }
 
 /// Appends that the dimensions from `first` on are the items.
 fn push_items(
-    out: &mut Vec<Form>,
     alloc: Global,
+    out: &mut Vec<Form>,
     layout: Layout,
     first: usize,
     items: &[TileItem],
@@ -132,15 +132,15 @@ fn push_items(
         ≡ out.old.items ++ have_values layout first (map (item_form layout) (map item_of items.now))) }
 {
     for at in 0..items.len() {
-        push_item(out, alloc, layout, first + at, &items[at])?;
+        push_item(alloc, out, layout, first + at, &items[at])?;
     }
     Ok(())
 }
 
 /// Appends that the dimensions behind the tile coordinates are the items.
 fn push_item_values(
-    out: &mut Vec<Form>,
     alloc: Global,
+    out: &mut Vec<Form>,
     layout: Layout,
     items: &TileItems,
 ) -> Result<(), AllocError>
@@ -153,11 +153,11 @@ fn push_item_values(
     let leading = items.leading.len();
     let band = items.band.len();
     let scalars = leading + (1 + band);
-    push_leading(out, alloc, layout, scalars, items.leading.as_slice())?;
-    push_rows(out, alloc, layout, scalars + leading, items.band.as_slice())?;
+    push_leading(alloc, out, layout, scalars, items.leading.as_slice())?;
+    push_rows(alloc, out, layout, scalars + leading, items.band.as_slice())?;
     push_items(
-        out,
         alloc,
+        out,
         layout,
         scalars + leading + band,
         items.behind.as_slice(),
@@ -166,18 +166,18 @@ fn push_item_values(
 }
 
 /// Appends that the dimensions of missing iterators are 0.
-fn push_missing(out: &mut Vec<Form>, alloc: Global, layout: Layout) -> Result<(), AllocError>
+fn push_missing(alloc: Global, out: &mut Vec<Form>, layout: Layout) -> Result<(), AllocError>
     requires fits { width layout < 2 ^ 64 }
     ensures { OnOk result (out.new.items ≡ out.old.items ++ missing_equalities layout) }
 {
     let first = layout.front + layout.turns;
-    push_variables(out, alloc, layout.width(), first, layout.missing)
+    push_variables(alloc, out, layout.width(), first, layout.missing)
 }
 
 /// Appends that the dimensions from `first` on are the tile coordinates of the rows.
 fn push_coordinates(
-    out: &mut Vec<Form>,
     alloc: Global,
+    out: &mut Vec<Form>,
     layout: Layout,
     size: u64,
     first: usize,
@@ -192,7 +192,7 @@ fn push_coordinates(
     for at in 0..rows.len() {
         let row = &rows[at];
         let form = row_form(alloc, layout, &row.form)?;
-        push_coordinate(out, alloc, layout, size, first + at, &form)?;
+        push_coordinate(alloc, out, layout, size, first + at, &form)?;
     }
     Ok(())
 }
@@ -215,10 +215,10 @@ pub fn equalities(
     ensures sized { IfOk result (λ fs. All (λ f. variables_of f ≡ width layout) fs.items) }
 {
     let mut out = Vec::new(alloc);
-    push_domain(&mut out, alloc, layout, statement.domain().equalities())?;
-    push_waves(&mut out, alloc, layout, items)?;
-    push_item_values(&mut out, alloc, layout, items)?;
-    push_missing(&mut out, alloc, layout)?;
+    push_domain(alloc, &mut out, layout, statement.domain().equalities())?;
+    push_waves(alloc, &mut out, layout, items)?;
+    push_item_values(alloc, &mut out, layout, items)?;
+    push_missing(alloc, &mut out, layout)?;
     Ok(out)
 }
 
@@ -242,12 +242,12 @@ pub fn rows(
     ensures sized { IfOk result (λ fs. All (λ f. variables_of f ≡ width layout) fs.items) }
 {
     let mut out = Vec::new(alloc);
-    push_domain(&mut out, alloc, layout, statement.domain().rows())?;
+    push_domain(alloc, &mut out, layout, statement.domain().rows())?;
     let wave = items.leading.len();
     push(&mut out, variable_form(alloc, layout.width(), wave)?)?;
     push_coordinates(
-        &mut out,
         alloc,
+        &mut out,
         layout,
         size,
         wave + 1,

@@ -103,8 +103,8 @@ fn count_pairings(equality: &Option<Form>, pairings: usize) -> usize
 
 /// Also what is left of the rows with the dimension, each with an equality.
 fn add_reduced(
-    out: &mut Vec<Row>,
     alloc: Global,
+    out: &mut Vec<Row>,
     traced: &Traced,
     dimension: usize,
     equality: &Form,
@@ -121,14 +121,14 @@ fn add_reduced(
     }
     match chosen(alloc, traced, dimension, Sign::NotZero) {
         Err(_) => Err(FmStop::NoMemory),
-        Ok(rows) => add_singles(out, alloc, traced, dimension, &own, &rows),
+        Ok(rows) => add_singles(alloc, out, traced, dimension, &own, &rows),
     }
 }
 
 /// Also what is left of the rows with the dimension in pairs.
 fn add_paired(
-    out: &mut Vec<Row>,
     alloc: Global,
+    out: &mut Vec<Row>,
     traced: &Traced,
     dimension: usize,
 ) -> Result<(), FmStop>
@@ -141,8 +141,8 @@ fn add_paired(
         Ok(positive) => match chosen(alloc, traced, dimension, Sign::Negative) {
             Err(_) => Err(FmStop::NoMemory),
             Ok(negative) => add_pairs(
-                out,
                 alloc,
+                out,
                 traced,
                 dimension,
                 traced.pairings + 2,
@@ -155,8 +155,8 @@ fn add_paired(
 
 /// Also what is left of all rows, those without the dimension first.
 fn add_all(
-    out: &mut Vec<Row>,
     alloc: Global,
+    out: &mut Vec<Row>,
     traced: &Traced,
     dimension: usize,
     equality: &Option<Form>,
@@ -168,14 +168,14 @@ fn add_all(
 {
     match chosen(alloc, traced, dimension, Sign::Zero) {
         Err(_) => return Err(FmStop::NoMemory),
-        Ok(rows) => match add_singles(out, alloc, traced, dimension, &[], &rows) {
+        Ok(rows) => match add_singles(alloc, out, traced, dimension, &[], &rows) {
             Err(stop) => return Err(stop),
             Ok(()) => {}
         },
     }
     match equality {
-        Some(equality) => add_reduced(out, alloc, traced, dimension, equality),
-        None => add_paired(out, alloc, traced, dimension),
+        Some(equality) => add_reduced(alloc, out, traced, dimension, equality),
+        None => add_paired(alloc, out, traced, dimension),
     }
 }
 
@@ -225,7 +225,7 @@ impl Traced {
             Ok(equalities) => equalities,
         };
         let mut rows = Vec::new(alloc);
-        match add_all(&mut rows, alloc, self, dimension, &equality) {
+        match add_all(alloc, &mut rows, self, dimension, &equality) {
             Err(stop) => return Err(stop),
             Ok(()) => {}
         }

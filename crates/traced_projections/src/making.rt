@@ -13,8 +13,8 @@ use std::alloc::{AllocError, Global};
 
 /// Also the row that the elimination of a dimension leaves of constraints, if there is one.
 fn add(
-    rows: &mut Vec<Row>,
     alloc: Global,
+    rows: &mut Vec<Row>,
     source: &System,
     dimension: usize,
     history: u128,
@@ -66,8 +66,8 @@ fn pair(alloc: Global, traced: &Traced, row: &Row, other: &Row) -> Result<System
 
 /// Also what is left of each row with some of the equalities.
 pub fn add_singles(
-    out: &mut Vec<Row>,
     alloc: Global,
+    out: &mut Vec<Row>,
     traced: &Traced,
     dimension: usize,
     equalities: &[Form],
@@ -81,7 +81,7 @@ pub fn add_singles(
     for row in rows {
         match single(alloc, traced, equalities, row) {
             Err(_) => return Err(FmStop::NoMemory),
-            Ok(source) => match add(out, alloc, &source, dimension, row.history) {
+            Ok(source) => match add(alloc, out, &source, dimension, row.history) {
                 Err(stop) => return Err(stop),
                 Ok(()) => {}
             },
@@ -92,8 +92,8 @@ pub fn add_singles(
 
 /// Also what is left of two rows, if they are made of so many first rows at most.
 fn add_pair(
-    out: &mut Vec<Row>,
     alloc: Global,
+    out: &mut Vec<Row>,
     traced: &Traced,
     dimension: usize,
     most: usize,
@@ -111,14 +111,14 @@ fn add_pair(
     }
     match pair(alloc, traced, row, other) {
         Err(_) => Err(FmStop::NoMemory),
-        Ok(source) => add(out, alloc, &source, dimension, history),
+        Ok(source) => add(alloc, out, &source, dimension, history),
     }
 }
 
 /// Also what is left of a row with each of others.
 fn add_pairs_with(
-    out: &mut Vec<Row>,
     alloc: Global,
+    out: &mut Vec<Row>,
     traced: &Traced,
     dimension: usize,
     most: usize,
@@ -131,7 +131,7 @@ fn add_pairs_with(
     ensures { Adds dimension (pairs_with traced.now most row.now others.now) out.old.items out.new.items result }
 {
     for other in others {
-        match add_pair(out, alloc, traced, dimension, most, row, other) {
+        match add_pair(alloc, out, traced, dimension, most, row, other) {
             Err(stop) => return Err(stop),
             Ok(()) => {}
         }
@@ -141,8 +141,8 @@ fn add_pairs_with(
 
 /// Also what is left of each row with each of others.
 pub fn add_pairs(
-    out: &mut Vec<Row>,
     alloc: Global,
+    out: &mut Vec<Row>,
     traced: &Traced,
     dimension: usize,
     most: usize,
@@ -155,7 +155,7 @@ pub fn add_pairs(
     ensures { Adds dimension (pairs traced.now most rows.now others.now) out.old.items out.new.items result }
 {
     for row in rows {
-        match add_pairs_with(out, alloc, traced, dimension, most, row, others) {
+        match add_pairs_with(alloc, out, traced, dimension, most, row, others) {
             Err(stop) => return Err(stop),
             Ok(()) => {}
         }
