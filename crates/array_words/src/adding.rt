@@ -7,10 +7,8 @@ ghost use Rattle.tile_core.specs.Views.{done_at, tile_at};
 ghost use Rattle.tile_core.specs.declared.worker.Stage.TheVariants.{Working};
 
 use atomic_table::{Play, Seat};
-use tile_core::plan_laws::walks_are_dealt;
-use tile_core::view::View;
-use tile_core::words::{Pass, Words};
-use tile_events::table_laws::events_are_allowed;
+use tile_core::{Pass, View, Words, walks_are_dealt};
+use tile_events::events_are_allowed;
 
 /// What an add tells its seat.
 pub struct Adding;

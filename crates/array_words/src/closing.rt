@@ -10,10 +10,8 @@ ghost use mathlib.Core.Option.{some};
 use crate::gathering::gather;
 use atomic_table::Closed as ClosedTable;
 use std::alloc::Global;
-use tile_core::plan::Plan;
-use tile_core::view::View;
-use tile_core::words::{Pass, Words};
-use tile_events::table_laws::seats_are_allowed;
+use tile_core::{Pass, Plan, View, Words};
+use tile_events::seats_are_allowed;
 
 /// A run that is over: its plan, and how many of its passes saw the claims run out.
 #[derive(Drop)]

@@ -5,10 +5,8 @@ ghost use Rattle.tile_core.specs.Passes.{IsPass};
 ghost use Rattle.tile_events.specs.Sound.{total};
 
 use atomic_table::{Join, Seat};
-use tile_core::view::View;
-use tile_core::words::{Pass, Words};
-use tile_core::worker::Stage;
-use tile_events::table_laws::seats_are_allowed;
+use tile_core::{Pass, Stage, View, Words};
+use tile_events::seats_are_allowed;
 
 /// How a seat takes in another.
 pub struct Merge;

@@ -6,10 +6,8 @@ ghost use Rattle.tile_core.specs.Passes.{IsPass, plan_in, walk_in};
 ghost use Rattle.tile_core.specs.Views.{executed};
 
 use atomic_table::{Play, Seat};
-use tile_core::plan_laws::{instances_read_few, walks_are_dealt};
-use tile_core::view::View;
-use tile_core::words::{Pass, Words};
-use tile_events::table_laws::events_are_allowed;
+use tile_core::{Pass, View, Words, instances_read_few, walks_are_dealt};
+use tile_events::events_are_allowed;
 
 /// What a load tells its seat.
 pub struct Loading;

@@ -6,14 +6,8 @@ ghost use Rattle.tile_core.specs.Plans.{HasRest, IsPlan, shape_of};
 
 use atomic_table::{Seat, Split, Table};
 use std::alloc::{AllocError, Global};
-use tile_core::first_words::FirstWords;
-use tile_core::plan::Plan;
-use tile_core::plan_laws::plans_are_good;
-use tile_core::view::{Key, View};
-use tile_core::words::{Pass, Words};
-use tile_core::worker::Worker;
-use tile_events::core_laws::all_interleavings_agree;
-use tile_events::table_laws::seats_are_allowed;
+use tile_core::{FirstWords, Key, Pass, Plan, View, Words, Worker, plans_are_good};
+use tile_events::{all_interleavings_agree, seats_are_allowed};
 
 /// How a seat is cut off that stands for one worker.
 pub struct Cut;

@@ -5,7 +5,7 @@
 use conflict_deps::conflicts;
 use farkas::{bounded_rows, legal_rows};
 use iteration_domains::{Dep, Model};
-use scop_parser::reader::read_kernel;
+use scop_parser::read_kernel;
 use std::alloc::{AllocError, Global};
 use std::io;
 

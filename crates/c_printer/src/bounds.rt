@@ -12,7 +12,7 @@ use crate::forms::put_tree_form;
 use crate::texts::{put_repeated, put_signed};
 use form_text::put_bytes;
 use loop_tree::{Bound, Bounds, Test};
-use scop_syntax::tree::{Aff, Name};
+use scop_syntax::{Aff, Name};
 use std::alloc::{AllocError, Global};
 
 /// Puts a form behind the name of a division, and its divisor.

@@ -7,7 +7,7 @@ ghost use Rattle.form_text.specs.Forms.{form_text};
 ghost use Rattle.c_printer.specs.Forms.{iterator_form, spread, tree_form_text, turned};
 
 use form_text::{put_constant, put_term};
-use scop_syntax::tree::{Aff, Loop, Name};
+use scop_syntax::{Aff, Loop, Name};
 use std::alloc::{AllocError, Global};
 
 /// Puts a form with these coefficients, one for each name, and this constant.

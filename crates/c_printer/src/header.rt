@@ -9,7 +9,7 @@ ghost use Rattle.c_printer.specs.Statements.{front_text, listed, prologue};
 use crate::texts::put_between;
 use crate::values::put_subscripts;
 use form_text::put_bytes;
-use scop_syntax::tree::{Array, Kernel, Name};
+use scop_syntax::{Array, Kernel, Name};
 use std::alloc::AllocError;
 
 /// Puts what each text begins with.

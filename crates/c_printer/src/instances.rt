@@ -16,8 +16,7 @@ use crate::texts::{copies, push_name, put_between, put_next_number};
 use crate::values::put_statement;
 use form_text::put_bytes;
 use loop_tree::Leaf;
-use scop_syntax::standings::Standing;
-use scop_syntax::tree::{Aff, Loop, Name};
+use scop_syntax::{Aff, Loop, Name, Standing};
 use std::alloc::{AllocError, Global};
 
 /// Puts a source iterator at a turn of its loop.

@@ -15,8 +15,7 @@ use crate::place::{Place, Source, within_guard, within_loop};
 use crate::texts::{copies, name_of_loop, put_between, put_repeated};
 use form_text::put_bytes;
 use loop_tree::{Guard, Loop, Node, Tree};
-use scop_syntax::standings::standings_of;
-use scop_syntax::tree::{Kernel, Name};
+use scop_syntax::{Kernel, Name, standings_of};
 use std::alloc::{AllocError, Global};
 
 /// Puts a closing brace on its line.

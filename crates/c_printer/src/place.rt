@@ -9,8 +9,7 @@ ghost use Rattle.scop_syntax.specs.declared.tree.Kernel.{Kernel};
 ghost use Rattle.c_printer.specs.Forms.{names_in};
 
 use crate::texts::{copies, name_of_loop, push_name};
-use scop_syntax::standings::Standing;
-use scop_syntax::tree::{Kernel, Name};
+use scop_syntax::{Kernel, Name, Standing};
 use std::alloc::{AllocError, Global};
 use std::marker::Model;
 

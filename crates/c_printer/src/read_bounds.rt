@@ -11,7 +11,7 @@ use crate::part::{Read, push, strip_repeated};
 use crate::read_forms::read_tree_form;
 use form_text::{read_number, strip};
 use loop_tree::{Bound, Bounds};
-use scop_syntax::tree::{Aff, Name};
+use scop_syntax::{Aff, Name};
 use std::alloc::{AllocError, Global};
 
 /// The divisor in front of a text, at least 1.

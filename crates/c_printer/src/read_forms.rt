@@ -11,7 +11,7 @@ ghost use Rattle.c_printer.specs.Reading.{turned_back};
 use crate::forms::{spread, turned};
 use crate::part::Read;
 use form_text::{FormRead, read_form};
-use scop_syntax::tree::{Aff, Loop, Name};
+use scop_syntax::{Aff, Loop, Name};
 use std::alloc::{AllocError, Global};
 use wide_math::floor_div;
 

@@ -16,8 +16,7 @@ use crate::texts::{copies, push_name};
 use crate::values::put_statement;
 use form_text::{read_number, strip};
 use loop_tree::{Leaf, Node};
-use scop_syntax::standings::Standing;
-use scop_syntax::tree::{Aff, Kernel, Loop, Name};
+use scop_syntax::{Aff, Kernel, Loop, Name, Standing};
 use std::alloc::{AllocError, Global};
 
 /// A turn, and the end of the iterator's definition.

@@ -23,8 +23,7 @@ use crate::text_laws::unread_texts_are_of_no_tree;
 use crate::texts::{copies, name_of_loop};
 use form_text::strip;
 use loop_tree::{Bounds, Guard, Loop, Node, Tree};
-use scop_syntax::standings::standings_of;
-use scop_syntax::tree::{Kernel, Name};
+use scop_syntax::{Kernel, Name, standings_of};
 use std::alloc::{AllocError, Global};
 
 /// The line of a loop, behind its bounds.

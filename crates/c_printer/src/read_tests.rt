@@ -11,7 +11,7 @@ use crate::read_bounds::read_divisor;
 use crate::read_forms::read_tree_form;
 use form_text::strip;
 use loop_tree::{Guard, Test};
-use scop_syntax::tree::{Aff, Name};
+use scop_syntax::{Aff, Name};
 use std::alloc::{AllocError, Global};
 
 /// The test of a form and its divisor, behind the form once more.

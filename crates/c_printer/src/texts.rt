@@ -8,7 +8,7 @@ ghost use Rattle.c_printer.specs.Statements.{between};
 
 use form_text::put_bytes;
 use itoa::Buffer;
-use scop_syntax::tree::Name;
+use scop_syntax::Name;
 use std::alloc::{AllocError, Global};
 
 /// Puts a text between two others.

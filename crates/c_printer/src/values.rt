@@ -11,7 +11,7 @@ use crate::forms::put_form;
 use crate::texts::put_between;
 use form_text::put_bytes;
 use itoa::Buffer;
-use scop_syntax::tree::{Access, Aff, Expr, Kernel, Name, Narrowing, Operator, Right, Stmt};
+use scop_syntax::{Access, Aff, Expr, Kernel, Name, Narrowing, Operator, Right, Stmt};
 use std::alloc::AllocError;
 
 /// Puts an operator.

@@ -14,9 +14,7 @@ ghost use Rattle.conflict_deps.specs.Conflicts.{conflicts_of, conflicts_without}
 ghost use Rattle.conflict_deps.specs.Pairs.{IsEnd, IsPair, IsPoint};
 ghost use Rattle.conflict_deps.specs.Parts.{HasParts};
 
-use scop_syntax::walk_laws::{
-    instances_are_those_of_statements, statements_are_numbered, walks_are_in_order,
-};
+use scop_syntax::{instances_are_those_of_statements, statements_are_numbered, walks_are_in_order};
 
 /// Where no parameter is negative, the whole points of all systems together are exactly the pairs of conflicting
 /// places, the earlier first, and each pair of accesses at two instances is a point of one system only. Where some arrays

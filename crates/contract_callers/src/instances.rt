@@ -9,10 +9,8 @@ ghost use Rattle.scop_syntax.specs.View.{instance_of, program_of};
 ghost use Rattle.scop_syntax.specs.Walk.{Visit, instance as numbers_of, walk_of};
 ghost use Rattle.scop_meaning.specs.Instances.{IsVisitOf};
 
-use scop_meaning::instances::{cell, value};
-use scop_syntax::arrays::Extents;
-use scop_syntax::instance::Instance;
-use scop_syntax::tree::Kernel;
+use scop_meaning::{cell, value};
+use scop_syntax::{Extents, Instance, Kernel};
 
 /// An instance that stores a constant stores it, by the clause of `value` of `scop_meaning`.
 pub fn constant_stored(kernel: &Kernel, params: &[i64], instance: &Instance) -> u64

@@ -12,8 +12,7 @@ use crate::places::{Place, is_narrow, place_of};
 use crate::refusal::{DataRefusal, DataStop};
 use crate::sheet::{Given, Sheet};
 use crate::words::first_word;
-use scop_syntax::limits::MOST_PARAMETER_VALUE;
-use scop_syntax::tree::Kernel;
+use scop_syntax::{Kernel, MOST_PARAMETER_VALUE};
 use std::alloc::Global;
 
 /// Whether a word is `seed`.

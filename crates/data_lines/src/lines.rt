@@ -11,7 +11,7 @@ use crate::head::head_of;
 use crate::refusal::{DataRefusal, DataStop};
 use crate::sheet::Sheet;
 use crate::words::{line_len, unindented};
-use scop_syntax::tree::Kernel;
+use scop_syntax::Kernel;
 use std::alloc::{AllocError, Global};
 
 /// What the lines of a text say of a kernel, or the first line that breaks a rule.

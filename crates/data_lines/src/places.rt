@@ -4,7 +4,7 @@ ghost use Rattle.std.specs.Prelude.{◌≡◌, ◌<◌, length, map, IfSome};
 ghost use Rattle.scop_syntax.specs.View.{program_of};
 ghost use Rattle.data_lines.specs.Sheets.{found, is_narrow, place_of, IsPlaceOf};
 
-use scop_syntax::tree::{Array, Kernel, Name};
+use scop_syntax::{Array, Kernel, Name};
 
 /// The place of a name.
 #[derive(Clone, Copy)]

@@ -5,7 +5,7 @@ ghost use Rattle.scop_syntax.specs.View.{program_of};
 ghost use Rattle.data_lines.specs.Sheets.{IsSheetOf, given_of, empty_sheet, nothing, sheet_of};
 ghost use Rattle.data_lines.specs.Entries.{is_given};
 
-use scop_syntax::tree::Kernel;
+use scop_syntax::Kernel;
 use std::alloc::{AllocError, Global};
 
 /// What data says of an array.

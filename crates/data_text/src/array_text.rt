@@ -9,8 +9,7 @@ ghost use Rattle.data_text.specs.ArrayText.{array_text, cell_text, cells_text, r
 use crate::case::Case;
 use io_ports::{Failed, Pieces, Sink};
 use itoa::write_digits;
-use scop_syntax::arrays::Arrays;
-use scop_syntax::tree::{Array, Kernel};
+use scop_syntax::{Array, Arrays, Kernel};
 
 /// The most bytes that a cell takes: a space and the twenty digits of 2^64 - 1.
 const CELL_ROOM: usize = 21;

@@ -15,8 +15,7 @@ use crate::extents::{layout_of, layout_said};
 use crate::laws::texts_say_what_lines_describe;
 use crate::parameters::params_said;
 use data_lines::{DataStop, Given, Sheet, read_lines};
-use scop_syntax::arrays::{Arrays, Extents};
-use scop_syntax::tree::Kernel;
+use scop_syntax::{Arrays, Extents, Kernel};
 use std::alloc::{AllocError, Global};
 
 /// The values of a kernel's parameters, the extents of its arrays for them, and what the arrays hold.

@@ -11,8 +11,7 @@ ghost use Rattle.data_text.specs.steps.Conditions.{IsLayout};
 
 use crate::counts::{count_of, first_miscount};
 use data_lines::{DataRefusal, DataStop, Given, is_narrow};
-use scop_syntax::arrays::{Arrays, Extents};
-use scop_syntax::tree::Kernel;
+use scop_syntax::{Arrays, Extents, Kernel};
 use std::alloc::{AllocError, Global};
 use std::mem;
 

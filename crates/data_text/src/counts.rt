@@ -7,7 +7,7 @@ ghost use Rattle.data_text.specs.Cases.{earlier, first_miscount, miscount_of};
 ghost use Rattle.data_text.specs.steps.Conditions.{AreLayouts, AreSizes, IsLayout};
 
 use data_lines::Given;
-use scop_syntax::arrays::Extents;
+use scop_syntax::Extents;
 
 /// A list that is not as long as its array.
 #[derive(Clone, Copy)]

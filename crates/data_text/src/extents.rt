@@ -11,10 +11,7 @@ ghost use Rattle.data_text.specs.steps.Conditions.{AreParameters, IsLayout};
 
 use crate::counts::total_cells;
 use data_lines::{DataRefusal, DataStop};
-use scop_syntax::affine_values::exact_at;
-use scop_syntax::arrays::Extents;
-use scop_syntax::limits::MOST_CELLS;
-use scop_syntax::tree::{Aff, Array, Kernel};
+use scop_syntax::{Aff, Array, Extents, Kernel, MOST_CELLS, exact_at};
 use std::alloc::{AllocError, Global};
 
 /// The most cells, beside a number of them that 64 bits may not hold.

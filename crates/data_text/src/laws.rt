@@ -18,7 +18,7 @@ ghost use Rattle.data_text.specs.Described.{Describes, IsFirstBroken};
 ghost use Rattle.data_text.specs.Written.{IsWritable, case_text};
 
 use data_lines::{lines_say_one_thing, sheets_hold_what_lines_say, sound_lines_break_no_rule};
-use scop_syntax::limit_laws::cells_lie_within_22_bits;
+use scop_syntax::cells_lie_within_22_bits;
 
 /// A text says one case of a program, or breaks one rule first; not both, and no other.
 pub fn said_once()

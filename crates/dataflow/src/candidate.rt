@@ -17,12 +17,12 @@ use crate::ends::{reader_end, writer_end};
 use crate::forms::push_below;
 use crate::problem::{TOP, posed};
 use affine_forms::{Form, FormStop};
-use conflict_deps::conflict_laws::systems_have_parts;
+use conflict_deps::systems_have_parts;
 use iteration_domains::{Dep, Model, StatementModel};
 use pip_solver::{Stop, lexmin};
 use quast_joins::Way;
 use quast_trees::{Node, Quast};
-use scop_syntax::walk_laws::statements_are_numbered;
+use scop_syntax::statements_are_numbered;
 use std::alloc::{AllocError, Global};
 
 // 2^125.

@@ -22,8 +22,7 @@ use conflict_deps::AccessOf;
 use iteration_domains::{Dep, Model, StatementModel};
 use quast_joins::Way;
 use quast_trees::{Path, Quast};
-use scop_syntax::marks::is_marked;
-use scop_syntax::walk_laws::statements_are_numbered;
+use scop_syntax::{is_marked, statements_are_numbered};
 use std::alloc::{AllocError, Global};
 
 // The access that writes at a leaf's source, the first of its statement.

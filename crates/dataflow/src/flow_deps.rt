@@ -16,7 +16,7 @@ use crate::source::ReadSource;
 use conflict_deps::AccessOf;
 use iteration_domains::{Dep, Model, StatementModel};
 use quast_joins::Way;
-use scop_syntax::walk_laws::statements_are_numbered;
+use scop_syntax::statements_are_numbered;
 use std::alloc::{AllocError, Global};
 
 // Appends the dependences of a read with its last writers.

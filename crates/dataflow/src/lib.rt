@@ -7,7 +7,7 @@
 #![tactic(auto)]
 
 mod candidate;
-pub mod cover_laws;
+mod cover_laws;
 mod covers;
 mod ends;
 mod flow_deps;
@@ -18,8 +18,10 @@ mod numbers;
 mod problem;
 mod reads;
 mod source;
-pub mod source_laws;
+mod source_laws;
 
+pub use cover_laws::{covering_points_are_covers, covers_are_held, covers_lie_between_statements, flow_holds_the_sources, flow_lies_between_statements, flow_points_are_the_sources};
+pub use source_laws::{joins_are_the_writers, minima_are_maxima, minima_are_the_writers, resolved_reads_have_their_writers, sources_are_told};
 pub use covers::covering;
 pub use flow_deps::flow;
 pub use reads::{last_writes, next_writes};

@@ -12,7 +12,7 @@ use affine_forms::Form;
 use iteration_domains::{Dep, StatementModel, push_variables};
 use pip_solver::Problem;
 use quast_joins::Way;
-use scop_syntax::limits::MOST_PARAMETER_VALUE;
+use scop_syntax::MOST_PARAMETER_VALUE;
 use std::alloc::{AllocError, Global};
 
 /// A number above all turns.

@@ -30,7 +30,7 @@ use iteration_domains::{Dep, Model, StatementModel};
 use pip_solver::Stop;
 use quast_joins::{JoinStop, Way, earlier_of, later_of};
 use quast_trees::Quast;
-use scop_syntax::walk_laws::statements_are_numbered;
+use scop_syntax::statements_are_numbered;
 use std::alloc::{AllocError, Global};
 
 /// Why the run over an access's candidates does not go on.

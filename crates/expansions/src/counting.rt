@@ -6,7 +6,7 @@ ghost use Rattle.loop_tree.specs.View.{trees_in};
 ghost use Rattle.loop_tree.specs.Walk.{visits};
 
 use loop_tree::{Spot, Tree};
-use scop_syntax::limits::MOST_CELLS;
+use scop_syntax::MOST_CELLS;
 use std::alloc::{AllocError, Global};
 
 /// Whether no more instances are to come than there may be.

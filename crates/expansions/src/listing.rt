@@ -6,8 +6,7 @@ ghost use Rattle.scop_syntax.specs.View.{instance_of};
 ghost use Rattle.scop_syntax.specs.Walk.{Instance as PlainInstance};
 ghost use Rattle.expansions.specs.steps.Listing.{AreListed, AreTurns, IsIndexOf, IsPlaceIn, entries_in};
 
-use scop_syntax::instance::Instance;
-use scop_syntax::limits::MOST_LOOPS;
+use scop_syntax::{Instance, MOST_LOOPS};
 use std::alloc::{AllocError, Global};
 
 /// An instance of a statement: the turns of the loops round it, then zeros, and its place in the walk.

@@ -4,7 +4,7 @@ ghost use Rattle.std.specs.Prelude.{◌≡◌, ◌++◌, ◌<◌, ℕ, OnOk, get
 ghost use Rattle.expansions.specs.steps.Marks.{IsMarked, firsts, mark_of, read_marks};
 
 use std::alloc::AllocError;
-use tile_table::table::Row;
+use tile_table::Row;
 
 /// The mark of the cell that an access touches at these turns; 0 where there is no such access.
 fn mark_at(marks: &[u32], row: &Row, turns: &[i64], access: usize) -> u32

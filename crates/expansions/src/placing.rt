@@ -12,9 +12,7 @@ ghost use Rattle.expansions.specs.steps.Listing.{AreListed, HasPut, entries_in};
 
 use crate::listing::{Listed, find, list};
 use loop_tree::{Spot, Tree};
-use scop_syntax::instance::Instance;
-use scop_syntax::tree::Kernel;
-use scop_syntax::walk_laws::{instances_are_those_of_statements, statements_are_numbered};
+use scop_syntax::{Instance, Kernel, instances_are_those_of_statements, statements_are_numbered};
 use std::alloc::{AllocError, Global};
 
 /// Lists the instances of the walk.

@@ -17,12 +17,9 @@ ghost use Rattle.expansions.specs.steps.Passing.{AreSourcesIfFew, CanPass, IsOnI
 use crate::counting::visits_few;
 use crate::marking::{mark, put_marks};
 use loop_tree::{Spot, Tree};
-use scop_syntax::execution_laws::cells_have_numbers_of_their_own;
-use scop_syntax::limit_laws::cells_lie_within_22_bits;
-use scop_syntax::tree::Kernel;
-use scop_syntax::walk_laws::{instances_are_those_of_statements, statements_are_numbered};
+use scop_syntax::{Kernel, cells_have_numbers_of_their_own, cells_lie_within_22_bits, instances_are_those_of_statements, statements_are_numbered};
 use std::alloc::{AllocError, Global};
-use tile_table::table::{Row, Table};
+use tile_table::{Row, Table};
 
 /// The sources of a walk's reads: those of place `j` are `most` numbers from the number `j * most` on, of its reads in the
 /// order of the text, each 0 where the read takes the initial value of its cell, or one more than the place of the walk

@@ -10,8 +10,7 @@ ghost use Rattle.iteration_domains.specs.Sizes.{CanCompose};
 use crate::forms::push_composed;
 use crate::statement::AccessForms;
 use integer_sets::{Form, push};
-use scop_syntax::accesses::{access_at, read_count};
-use scop_syntax::tree::{Access, Aff, Stmt};
+use scop_syntax::{Access, Aff, Stmt, access_at, read_count};
 use std::alloc::{AllocError, Global};
 
 /// The subscripts over `variables` variables, where the source's point has these forms.

@@ -8,7 +8,7 @@ ghost use Rattle.iteration_domains.specs.Rows.{variable, variables};
 ghost use Rattle.iteration_domains.specs.Sizes.{CanCompose, form_size};
 
 use integer_sets::{Form, FormStop, INLINE, push};
-use scop_syntax::tree::Aff;
+use scop_syntax::Aff;
 use smallvec::SmallVec;
 use std::alloc::{AllocError, Global};
 

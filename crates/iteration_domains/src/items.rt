@@ -10,7 +10,7 @@ use crate::accesses::accesses_within;
 use crate::rows::{Scope, rows_within};
 use crate::statement::StatementModel;
 use integer_sets::{System, push};
-use scop_syntax::tree::{Guard, Item, Loop, Stmt};
+use scop_syntax::{Guard, Item, Loop, Stmt};
 use std::alloc::{AllocError, Global};
 
 /// A place in a kernel's tree: what stands round it, outermost first, and the loops among that, each by the number of

@@ -8,7 +8,7 @@
 
 mod accesses;
 mod dep;
-pub mod domain_laws;
+mod domain_laws;
 mod forms;
 mod items;
 mod model;
@@ -16,6 +16,7 @@ mod outside;
 mod rows;
 mod statement;
 
+pub use domain_laws::{accesses_touch_the_cells, domains_hold_the_instances, outside_points_are_failures};
 pub use dep::{Dep, DepEnd};
 pub use forms::{
     Numbers, compose, compose_form, constant_form, form_from, plus_multiple, push_numbers,

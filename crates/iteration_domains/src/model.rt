@@ -11,9 +11,7 @@ use crate::items::{Path, model_items};
 use crate::outside::push_statement;
 use crate::statement::StatementModel;
 use integer_sets::System;
-use scop_syntax::limit_laws::cells_lie_within_22_bits;
-use scop_syntax::tree::Kernel;
-use scop_syntax::walk_laws::statements_are_numbered;
+use scop_syntax::{Kernel, cells_lie_within_22_bits, statements_are_numbered};
 use std::alloc::{AllocError, Global};
 
 /// The model of a kernel. Contracts see the plain data of specs/Model.antt.

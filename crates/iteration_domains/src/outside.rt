@@ -17,8 +17,7 @@ use crate::dep::with_row;
 use crate::forms::{compose_form, constant_form, plus_multiple, push_variables};
 use crate::statement::{AccessForms, StatementModel};
 use integer_sets::{Form, System, push};
-use scop_syntax::affine_values::wrapped_at;
-use scop_syntax::tree::{Aff, Kernel};
+use scop_syntax::{Aff, Kernel, wrapped_at};
 use std::alloc::{AllocError, Global};
 
 /// Over so many turns, the forms of these turns and, behind them, of the parameters.

@@ -11,7 +11,7 @@ ghost use Rattle.iteration_domains.specs.Standing.{CanEnter, entered, finished, 
 
 use crate::forms::{compose, plus_multiple, push_composed, push_variables, variable_form};
 use integer_sets::{Form, push};
-use scop_syntax::tree::{Guard, Loop, Test};
+use scop_syntax::{Guard, Loop, Test};
 use std::alloc::{AllocError, Global};
 
 /// A loop or a guard round a statement.

@@ -12,7 +12,7 @@ use crate::kind::Kind;
 use crate::product::product;
 use crate::sweep::sweep;
 use data_text::{Case, Given, case_given};
-use scop_syntax::tree::Kernel;
+use scop_syntax::Kernel;
 use std::alloc::{AllocError, Global};
 
 /// The kernel of a kind.

@@ -6,7 +6,7 @@ ghost use Rattle.kernel_gen.specs.Programs.{chain, chain_body, chain_loop, chain
 
 use crate::parts::{access, arrays, counted_all, kernel, read, store};
 use data_text::seed_cell;
-use scop_syntax::tree::{Access, Item, Kernel, Operator, Right};
+use scop_syntax::{Access, Item, Kernel, Operator, Right};
 use std::alloc::{AllocError, Global};
 
 /// How many statements there are.

@@ -6,9 +6,7 @@ ghost use Rattle.scop_syntax.specs.Tree.{binary, read};
 ghost use Rattle.scop_syntax.specs.View.{expression_of, items_of, operator_of, program_of, right_of, tree_of};
 ghost use Rattle.kernel_gen.specs.Programs.{arrays_of, counted, only, place, store, upwards};
 
-use scop_syntax::tree::{
-    Access, Aff, Array, Expr, Item, Kernel, Loop, Name, Operator, Right, Stmt,
-};
+use scop_syntax::{Access, Aff, Array, Expr, Item, Kernel, Loop, Name, Operator, Right, Stmt};
 use std::alloc::{AllocError, Global};
 
 /// A form as plain numbers: its coefficients and its constant.

@@ -6,7 +6,7 @@ ghost use Rattle.scop_syntax.specs.View.{expression_of, program_of, tree_of};
 ghost use Rattle.kernel_gen.specs.Programs.{i_of_cube, j_of_cube, k_of_cube, multiplied, place, product, product_loops};
 
 use crate::parts::{Plain, access, arrays, binary, counted, kernel, read, store};
-use scop_syntax::tree::{Expr, Item, Kernel, Operator, Right};
+use scop_syntax::{Expr, Item, Kernel, Operator, Right};
 use std::alloc::{AllocError, Global};
 
 /// The iterators, over N and i, j and k.

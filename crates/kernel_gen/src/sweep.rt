@@ -6,7 +6,7 @@ ghost use Rattle.scop_syntax.specs.View.{expression_of, program_of, tree_of};
 ghost use Rattle.kernel_gen.specs.Programs.{near, sweep, sweep_loops, swept};
 
 use crate::parts::{access, arrays, binary, counted, kernel, read, store};
-use scop_syntax::tree::{Access, Expr, Item, Kernel, Operator, Right};
+use scop_syntax::{Access, Expr, Item, Kernel, Operator, Right};
 use std::alloc::{AllocError, Global};
 
 /// `A[i + shift]`.

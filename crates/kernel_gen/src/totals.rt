@@ -6,7 +6,7 @@ ghost use Rattle.scop_syntax.specs.Execution.{IsShaped, total_cells};
 ghost use Rattle.kernel_gen.specs.Totals.{cells_in, sum_of};
 
 use data_text::Case;
-use scop_syntax::arrays::Arrays;
+use scop_syntax::Arrays;
 
 /// How many cells arrays have.
 fn count(arrays: &Arrays) -> u64

@@ -5,7 +5,7 @@ ghost use Rattle.loop_tree.specs.Braids.{IsBraid, left_of_braid};
 ghost use Rattle.loop_tree.specs.SpotView.{found_in};
 
 use crate::stretch::Stretch;
-use scop_syntax::instance::Instance;
+use scop_syntax::Instance;
 
 /// How many stretches may take turns.
 pub const MOST_STRANDS: usize = 4;

@@ -16,7 +16,7 @@ use crate::outer::{Outer, behind};
 use crate::passing::way_up;
 use crate::ranges::{all_hold, range_at};
 use crate::tree::{Bound, Loop, Node, Test};
-use scop_syntax::tree::Aff;
+use scop_syntax::Aff;
 
 /// The first numbers, so many.
 #[inline]

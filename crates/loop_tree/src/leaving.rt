@@ -19,7 +19,7 @@ use crate::resting::rest_nodes;
 use crate::spot::{Mark, Spot};
 use crate::tally::{Last, Passed, Tally};
 use crate::tree::{Node, Tree};
-use scop_syntax::instance::Instance;
+use scop_syntax::Instance;
 
 /// The nodes in which the marks stand so many loops deep, or less deep where they do not lead so far through loops
 /// that were begun, with the values of the loops round them in the row.

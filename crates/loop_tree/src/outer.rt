@@ -7,7 +7,7 @@ ghost use Rattle.whole_numbers.specs.Lists.{dot};
 ghost use Rattle.loop_tree.specs.Fits.{FormFits, SumsFit};
 ghost use Rattle.loop_tree.specs.steps.Chain.{values_at, values_in};
 
-use scop_syntax::tree::Aff;
+use scop_syntax::Aff;
 
 /// The values of the loops round a node: all in a row, or those round a loop and the loop's own.
 #[derive(Drop)]

@@ -23,9 +23,7 @@ use crate::stretch::Stretch;
 use crate::tree::{Leaf, Node};
 use crate::walking::instance_at;
 use arrayvec::ArrayVec;
-use scop_syntax::instance::Instance;
-use scop_syntax::limits::MOST_LOOPS;
-use scop_syntax::tree::Aff;
+use scop_syntax::{Aff, Instance, MOST_LOOPS};
 
 /// The first of some numbers; 0 where there is none.
 #[inline]

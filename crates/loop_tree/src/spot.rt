@@ -48,7 +48,7 @@ use crate::ranges::{all_hold, range_at};
 use crate::stretch::Stretch;
 use crate::tree::{Guard, Loop, Node, Tree};
 use crate::walking::instance_at;
-use scop_syntax::instance::Instance;
+use scop_syntax::Instance;
 use std::alloc::{AllocError, Global};
 
 /// The place of a node in a sequence, whether it was begun, and where it is a loop its value and its last one.

@@ -7,8 +7,7 @@ ghost use Rattle.whole_numbers.specs.Lists.{sums};
 ghost use Rattle.loop_tree.specs.Conditions.{IsHeld};
 ghost use Rattle.loop_tree.specs.Stretches.{left_of};
 
-use scop_syntax::instance::Instance;
-use scop_syntax::limits::MOST_LOOPS;
+use scop_syntax::{Instance, MOST_LOOPS};
 
 /// The instance in front of a stretch, what each instance has more in its turns than the one before it, and how many
 /// are left.

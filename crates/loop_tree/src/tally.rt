@@ -6,7 +6,7 @@ ghost use Rattle.scop_syntax.specs.Walk.{Instance as PlainInstance};
 ghost use Rattle.loop_tree.specs.Passed.{StandsFor};
 
 use crate::visitor::Visitor;
-use scop_syntax::instance::Instance;
+use scop_syntax::Instance;
 
 /// So many instances, at least one, and the last of them.
 #[derive(Clone, Copy)]

@@ -1,7 +1,7 @@
 //! How a plan's instances lie in tiles: the size of the tiles and of each statement its items in order, or the source's
 //! order, kept. Contracts see a `Tiling` by `tiling_of` of specs/TilingView.antt as the plain data of
 //! specs/Tiling.antt, which says what tile, wave and order of an instance are (U. Bondhugula and others, PLDI 2008).
-use scop_syntax::tree::Aff;
+use scop_syntax::Aff;
 use std::marker::Model;
 
 /// A row of the first band: its form over the turns of the loops round its statement, outermost first, and whether it

@@ -1,7 +1,7 @@
 //! The tree as code holds it. Contracts see `Bound` as the plain data of specs/Tree.antt,
 //! `Bounds` by `bounds_in`, a `Node` by `tree_of` and a `Tree` by `trees_in` of specs/View.antt.
 
-use scop_syntax::tree::Aff;
+use scop_syntax::Aff;
 use std::marker::Model;
 
 /// A form over a divisor.

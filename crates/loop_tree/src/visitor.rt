@@ -3,7 +3,7 @@ ghost use Rattle.std.specs.Prelude.{◌≡◌, ◌++◌, ◌∷◌, [], List, fa
 ghost use Rattle.scop_syntax.specs.View.{instance_of};
 ghost use Rattle.scop_syntax.specs.Walk.{Instance as PlainInstance};
 
-use scop_syntax::instance::Instance;
+use scop_syntax::Instance;
 
 /// What a walk shows each instance to. A visitor stands for lists of instances: those that it may have seen so far.
 pub trait Visitor {

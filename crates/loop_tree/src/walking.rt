@@ -21,9 +21,7 @@ use crate::ranges::{all_hold, range_at};
 use crate::tree::{Leaf, Loop, Node, Tree};
 use crate::visitor::{Visitor, can_skip, passes_by, skips_one};
 use arrayvec::ArrayVec;
-use scop_syntax::instance::Instance;
-use scop_syntax::limits::MOST_LOOPS;
-use scop_syntax::tree::Aff;
+use scop_syntax::{Aff, Instance, MOST_LOOPS};
 
 /// The value of a form, as a turn.
 #[inline]

@@ -20,7 +20,7 @@ use affine_forms::Form;
 use fm_projection::{narrow_form, place_form};
 use integer_sets::ScanSet;
 use loop_tree::{Bound, Bounds, Guard, Leaf, Loop, Node, Test};
-use scop_syntax::tree::Aff;
+use scop_syntax::Aff;
 use std::alloc::{AllocError, Global};
 
 /// The number in 64 bits.

@@ -12,10 +12,10 @@ ghost use Rattle.plan_check.specs.Judged.{judged};
 ghost use Rattle.plan_certificate.specs.Certificates.{certificate_of, IsNarrow};
 
 use crate::derivation_laws::derivations_are_accepted;
-use conflict_deps::conflict_laws::systems_have_parts;
+use conflict_deps::systems_have_parts;
 use plan_check::lines_are_read_where_they_are_printed;
 use schedule_rows::schedules_have_small_items;
-use scop_syntax::walk_laws::statements_are_numbered;
+use scop_syntax::statements_are_numbered;
 
 /// What certifying a schedule gives is a certificate, where its text has fewer than 2^127 bytes.
 pub fn certificates_are_accepted()

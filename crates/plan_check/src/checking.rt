@@ -24,7 +24,7 @@ use crate::proving::{prove_goal, prove_step};
 use crate::text::{Said, StepLine, line_len, read_said};
 use iteration_domains::Model as KernelModel;
 use schedule_lines::{RowLine, ScalarLine};
-use scop_syntax::tree::Kernel;
+use scop_syntax::Kernel;
 use std::alloc::{AllocError, Global};
 
 /// Items are laid, or goals are proved.

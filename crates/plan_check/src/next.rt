@@ -9,8 +9,7 @@ ghost use Rattle.plan_check.specs.GoalList.{AreAll, AreGoals, CanGo, listed};
 use crate::goals::Goals;
 use crate::plan::PlanItems;
 use crate::walk::{Found, Rest, Walk, first_taken, next_in};
-use conflict_deps::conflict_laws::systems_have_parts;
-use conflict_deps::conflicts;
+use conflict_deps::{conflicts, systems_have_parts};
 use iteration_domains::{Dep, Model};
 use std::alloc::{AllocError, Global};
 

@@ -7,8 +7,8 @@ ghost use Rattle.loop_tree.specs.Tiling.{IsGoodPlan};
 ghost use Rattle.plan_check.specs.Goals.{HasNoPoint, InRange, goals_in, loops_in};
 ghost use Rattle.plan_check.specs.Plans.{Plan, Suits, tiling_of};
 
-use conflict_deps::conflict_laws::{conflicts_are_the_points_of_the_systems, systems_have_parts};
-use scop_syntax::walk_laws::statements_are_numbered;
+use conflict_deps::{conflicts_are_the_points_of_the_systems, systems_have_parts};
+use scop_syntax::statements_are_numbered;
 
 /// Where no goal of a plan has a whole point, its tiling is a good plan of the kernel, for tiles of every size and all
 /// parameters in 0..=65536.

@@ -9,7 +9,7 @@ use crate::differences::{at_least_one, at_most_minus_one, difference};
 use crate::numbered_rows::goal_variables;
 use affine_forms::Form;
 use iteration_domains::{Dep, term_form};
-use scop_syntax::limits::MOST_PARAMETER_VALUE;
+use scop_syntax::MOST_PARAMETER_VALUE;
 use std::alloc::{AllocError, Global};
 
 const MOST: i128 = MOST_PARAMETER_VALUE as i128;

@@ -14,7 +14,7 @@ use crate::schedules::{covers, schedule_of};
 use iteration_domains::Model;
 use plan_certificate::{CertifyStop, certify_plan, uncertified_text};
 use pluto_search::{Schedule, dependences_have_one_schedule};
-use scop_syntax::tree::Kernel;
+use scop_syntax::Kernel;
 use std::alloc::{AllocError, Global};
 
 /// The certificate of a schedule, or the line that tells the first goal that has none.

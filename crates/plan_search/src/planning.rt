@@ -17,13 +17,11 @@ ghost use Rattle.plan_search.specs.steps.Plans.{IsPlanOver};
 use crate::lines::line_of;
 use crate::plans::{Planned, kept_plan, tiled_plan};
 use crate::schedules::{covers, schedule_of};
-use dataflow::cover_laws::{flow_holds_the_sources, flow_lies_between_statements};
-use dataflow::{ReadSource, flow};
+use dataflow::{ReadSource, flow, flow_holds_the_sources, flow_lies_between_statements};
 use iteration_domains::{Dep, Model};
-use plan_tree::laws::{flow_schedules_have_flow_trees, rows_of_schedules_fit};
-use plan_tree::tiled_tree;
+use plan_tree::{flow_schedules_have_flow_trees, rows_of_schedules_fit, tiled_tree};
 use pluto_search::{Schedule, Stuck};
-use scop_syntax::tree::Kernel;
+use scop_syntax::Kernel;
 use std::alloc::{AllocError, Global};
 
 /// The plan of a schedule's tiles, or that of the kernel's own order where the scan of the schedule's sets stops.

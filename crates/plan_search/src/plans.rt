@@ -16,7 +16,7 @@ use loop_tree::{Tiling, Tree};
 use plan_certificate::{KeptLine, schedule_text};
 use plan_tree::source_tree;
 use pluto_search::{Schedule, dependences_have_one_schedule};
-use scop_syntax::tree::Kernel;
+use scop_syntax::Kernel;
 use std::alloc::{AllocError, Global};
 
 /// The plan of a kernel: its loop tree, its tiling, and the lines that tell of it: a kept order's line, or, where a

@@ -9,8 +9,7 @@ ghost use Rattle.plan_search.specs.Found.{HoldFor, IsFound, IsKeptLine, LieBetwe
 
 use crate::lines::line_of_kept;
 use conflict_deps::conflicts_without;
-use dataflow::cover_laws::{covers_are_held, covers_lie_between_statements};
-use dataflow::covering;
+use dataflow::{covering, covers_are_held, covers_lie_between_statements};
 use iteration_domains::{Dep, Model};
 use plan_certificate::KeptLine;
 use pluto_search::{Schedule, search};

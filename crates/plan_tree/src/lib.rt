@@ -5,14 +5,13 @@
 //! easier than you think", PACT 2004).
 #![tactic(auto)]
 
-pub mod laws;
+mod laws;
 mod tiles;
 mod trees;
 
+pub use laws::{flow_schedules_have_flow_trees, rows_of_schedules_fit};
 pub use trees::{hull_tree, source_tree, tiled_tree};
 
 // Passed on: what goes with this crate's contracts.
 pub use plain_scan::FmStop;
-pub use planned_trees::laws::{
-    loops_end_as_the_source_does, trees_keep_conflicts_in_order, trees_of_plans_can_be_walked,
-};
+pub use planned_trees::{loops_end_as_the_source_does, trees_keep_conflicts_in_order, trees_of_plans_can_be_walked};

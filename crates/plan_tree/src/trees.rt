@@ -22,10 +22,9 @@ use crate::tiles::{scans_are_trees_of_tilings, sets_can_be_scanned};
 use integer_sets::ScanSet;
 use loop_tree::{Tiling, Tree};
 use plain_scan::FmStop;
-use scop_syntax::tree::Kernel;
+use scop_syntax::Kernel;
 use std::alloc::{AllocError, Global};
-use tile_skew::laws::kept_orders_are_good_plans;
-use tile_skew::{Schedule, tiled};
+use tile_skew::{Schedule, kept_orders_are_good_plans, tiled};
 use tree_simplification::simplified;
 
 /// The tiling of a kernel's schedule, and its scan sets, which can be scanned together.

@@ -4,4 +4,6 @@
 //! (A. Bernstein, "Analysis of programs for parallel processing", IEEE Transactions on Electronic Computers, 1966).
 #![tactic(auto)]
 
-pub mod laws;
+mod laws;
+
+pub use laws::{loops_end_as_the_source_does, trees_keep_conflicts_in_order, trees_of_plans_can_be_walked, waves_have_one_length};

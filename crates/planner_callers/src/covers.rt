@@ -20,7 +20,7 @@ ghost use Rattle.dataflow.specs.Posed.{IsOfKernel};
 ghost use Rattle.dataflow.specs.Runs.{Halt};
 ghost use Rattle.dataflow.specs.WriterRuns.{Stopped, writers_run};
 
-use dataflow::{cover_laws, covering};
+use dataflow::{covering, covering_points_are_covers, covers_are_held, covers_lie_between_statements};
 use iteration_domains::{Dep, Model};
 use std::alloc::{AllocError, Global};
 
@@ -56,7 +56,7 @@ pub fn covers_in_kernels_without_parameters()
         → CoverBy (walk_of program []) c 0 1 → is_marked marked c.array ≡ false
         → IsPairIn [] (covers_of 0 marked (model_of program)) v w }
 {
-    cover_laws::covers_are_held();
+    covers_are_held();
 }
 
 /// Each of them has a dimension for each turn of two statements of the model, by the clause of
@@ -69,7 +69,7 @@ pub fn covers_have_the_turns_of_both_ends()
         × (from.domain.dimensions + to.domain.dimensions ≤ d.system.dimensions)
         × (d.system.parameters ≡ model.parameters) }
 {
-    cover_laws::covers_lie_between_statements();
+    covers_lie_between_statements();
 }
 
 /// In kernels without parameters the points of an access's dependences are its covers, by `told` of
@@ -92,5 +92,5 @@ pub fn points_in_kernels_without_parameters()
         → HavePoint [] (role_deps 0 Earlier (model_of program) reader) x y
         ↔ IsConflictOf Earlier (walk_of program []) reader.statement.number reader.number x y }
 {
-    cover_laws::covering_points_are_covers();
+    covering_points_are_covers();
 }

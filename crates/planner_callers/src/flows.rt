@@ -21,7 +21,7 @@ ghost use Rattle.dataflow.specs.ReadSources.{reads_of};
 ghost use Rattle.dataflow.specs.declared.source.ReadSource.{ReadSource};
 ghost use Rattle.dataflow.specs.declared.source.ReadSource.TheVariants as source;
 
-use dataflow::{ReadSource, cover_laws, flow};
+use dataflow::{ReadSource, flow, flow_holds_the_sources, flow_lies_between_statements, flow_points_are_the_sources};
 use iteration_domains::{Dep, Model};
 use std::alloc::{AllocError, Global};
 
@@ -53,7 +53,7 @@ pub fn flow_in_kernels_without_parameters()
         → last_of (walk_of program []) 1 1 ≡ Some 0
         → IsPairIn [] (flow_of (model_of program) (map tree_in sources)) v w }
 {
-    cover_laws::flow_holds_the_sources();
+    flow_holds_the_sources();
 }
 
 /// In kernels without parameters their points are the reads with their last writers, by the clause of
@@ -66,7 +66,7 @@ pub fn flow_points_in_kernels_without_parameters()
         → AreLastTrees (model_of program) 0 (reads_of (model_of program)) trees
         → ReadsFrom (walk_of program []) x y → HavePoint [] (flow_of (model_of program) trees) x y }
 {
-    cover_laws::flow_points_are_the_sources();
+    flow_points_are_the_sources();
 }
 
 /// Each of them has a dimension for each turn of two statements of the model, by the clause of
@@ -79,5 +79,5 @@ pub fn flow_has_the_turns_of_both_ends()
         × (from.domain.dimensions + to.domain.dimensions ≤ d.system.dimensions)
         × (d.system.parameters ≡ model.parameters) }
 {
-    cover_laws::flow_lies_between_statements();
+    flow_lies_between_statements();
 }

@@ -16,8 +16,7 @@ ghost use Rattle.loop_tree.specs.View.{trees_in};
 ghost use Rattle.loop_tree.specs.Walk.{Visit, visits, walk_all};
 
 use loop_tree::{Spot, Tree, Visitor, marks_are_the_parallel_loops, source_trees_visit_the_walk};
-use scop_syntax::instance::Instance;
-use scop_syntax::tree::Kernel;
+use scop_syntax::{Instance, Kernel};
 use std::alloc::{AllocError, Global};
 
 /// The loops of a kernel without items are none, by `tree` of `Tree::of_source`; without parameters its tree visits the

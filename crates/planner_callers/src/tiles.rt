@@ -27,7 +27,7 @@ use integer_sets::ScanSet;
 use loop_tree::Tiling;
 use schedule_rows::Schedule;
 use std::alloc::{AllocError, Global};
-use tile_skew::{laws, tiled};
+use tile_skew::{kept_orders_are_good_plans, places_are_in_order, rows_that_are_not_parallel_carry, scan_sets_are_alike, scan_sets_hold_the_instances, tiled, tiled_flows_are_flow_plans, tiled_schedules_are_good_plans, tilings_have_the_items_of_schedules};
 
 /// The tiling of no statement has this size and no items, and no statement has no scan set, by the clauses of `tiled`
 /// of these names.
@@ -54,7 +54,7 @@ pub fn plans_of_tiles()
         → IsSchedule (model_of program).parameters (loops_in (model_of program)) deps blocks
         → IsGoodFor program [] marked (schedule_tiling 1 (length (model_of program).statements) blocks) }
 {
-    laws::tiled_schedules_are_good_plans();
+    tiled_schedules_are_good_plans();
 }
 
 /// Tiles of size 1 of a schedule over the reads with their last writers are a flow plan, by the clause of
@@ -65,7 +65,7 @@ pub fn flow_plans_of_tiles()
         → IsSchedule (model_of program).parameters (loops_in (model_of program)) deps blocks
         → IsFlowPlan program [] (schedule_tiling 1 (length (model_of program).statements) blocks) }
 {
-    laws::tiled_flows_are_flow_plans();
+    tiled_flows_are_flow_plans();
 }
 
 /// A point of a scan set is the place of an instance, by `points` of `scan_sets_hold_the_instances`, and the place of
@@ -84,7 +84,7 @@ pub fn scan_sets_of_tiles()
         → Satisfies (scan_set (pos 1) n s (statement_items blocks s.number)).system
         (place_of (pos 1) n (statement_items blocks s.number) v.turns ++ []) }
 {
-    laws::scan_sets_hold_the_instances();
+    scan_sets_hold_the_instances();
 }
 
 /// Places of instances of one statement within one loop come in the order of tiles of size 1, and in no other, by the
@@ -96,7 +96,7 @@ pub fn places_within_one_loop()
         (place_of (pos 1) 1 (statement_items blocks y.number) y.turns ++ pos y.number ∷ [])
         ↔ LexLess (order_of 1 (statements_from blocks 0 1) x) (order_of 1 (statements_from blocks 0 1) y) }
 {
-    laws::places_are_in_order();
+    places_are_in_order();
 }
 
 /// The items of the first statement have their values in the schedule, by the clause of
@@ -105,7 +105,7 @@ pub fn items_of_the_first_statement()
     ensures { (blocks : List Block) (x : Instance) → x.number ≡ 0
         → item_values (statement_items blocks 0) x.turns ≡ values blocks x }
 {
-    laws::tilings_have_the_items_of_schedules();
+    tilings_have_the_items_of_schedules();
 }
 
 /// The first tile row of the first statement, by `rows` of `rows_that_are_not_parallel_carry`; how many there are, by
@@ -116,14 +116,14 @@ pub fn tile_rows_of_the_first_statement()
         ≡ Some (record { form = form_at m.row 0; carries = not m.parallel }) }
     ensures count { (blocks : List Block) → length (statement_items blocks 0).band ≡ length (first_band blocks) }
 {
-    laws::rows_that_are_not_parallel_carry();
+    rows_that_are_not_parallel_carry();
 }
 
 /// The source's order is a good plan without parameters, by the clause of `kept_orders_are_good_plans`.
 pub fn plans_of_the_source()
     ensures { (program : Program) → IsGoodPlan program [] kept }
 {
-    laws::kept_orders_are_good_plans();
+    kept_orders_are_good_plans();
 }
 
 /// The scan sets of tiles of size 1 have one number of dimensions and one mark, by the clause of `scan_sets_are_alike`.
@@ -132,5 +132,5 @@ pub fn alike_scan_sets_of_tiles()
         → In y (scan_sets (pos 1) blocks model)
         → (x.system.dimensions ≡ y.system.dimensions) × (x.parallel ≡ y.parallel) }
 {
-    laws::scan_sets_are_alike();
+    scan_sets_are_alike();
 }

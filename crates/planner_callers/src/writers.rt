@@ -28,7 +28,7 @@ ghost use Rattle.dataflow.specs.Problems.{all_below, posed_context, posed_rows, 
 ghost use Rattle.dataflow.specs.Sources.{IsCandidate, IsSolved, IsWritePoint, reader_side, wanted_writer, writer_side};
 ghost use Rattle.dataflow.specs.WriterRuns.{writers_run};
 
-use dataflow::source_laws;
+use dataflow::{joins_are_the_writers, minima_are_maxima, minima_are_the_writers, resolved_reads_have_their_writers};
 
 /// The join over all candidates names the wanted writer, by the clause of `joins_are_the_writers`.
 pub fn joins_in_kernels_without_parameters()
@@ -40,7 +40,7 @@ pub fn joins_in_kernels_without_parameters()
         → Names (walk_of program []) (value (joined way (length point) tree_of initial deps) point)
         (wanted_writer way (walk_of program []) j c) }
 {
-    source_laws::joins_are_the_writers();
+    joins_are_the_writers();
 }
 
 /// Turns below a number above them, by the clauses of `minima_are_maxima` of the same names: their values, that their
@@ -51,7 +51,7 @@ pub fn turns_below_a_number()
         → LexLe (flipped top ys) (flipped top xs) }
     ensures twice { (top : ℤ) (xs : List ℤ) → flipped top (flipped top xs) ≡ xs }
 {
-    source_laws::minima_are_maxima();
+    minima_are_maxima();
 }
 
 /// A candidate's minimum is its wanted writer, by the clause of `minima_are_the_writers`.
@@ -67,7 +67,7 @@ pub fn minima_in_kernels_without_parameters()
         → IsWanted way number loops (λ xs. IsWritePoint way program [] dep xs w.turns)
         (turned_leaf way number loops (value t w.turns)) }
 {
-    source_laws::minima_are_the_writers();
+    minima_are_the_writers();
 }
 
 /// A read's run that ends well names the last writer, or the next where it looks on, by the clause of
@@ -82,5 +82,5 @@ pub fn resolved_reads_in_kernels_without_parameters()
         → writers_run Earlier (model_of program) budget w.number access ≡ Ok u
         → Names (walk_of program []) (value u w.turns) (next_writer (walk_of program []) j c) }
 {
-    source_laws::resolved_reads_have_their_writers();
+    resolved_reads_have_their_writers();
 }

@@ -20,8 +20,7 @@ ghost use Rattle.pluto_search.specs.declared.kept.Kept.{Kept};
 
 use null_space::full_rank_leaves_only_0;
 use schedule_rows::each_state_has_one_outcome;
-use scop_syntax::cover_laws::conflicts_are_chains_of_covers;
-use scop_syntax::walk_laws::walks_are_in_order;
+use scop_syntax::{conflicts_are_chains_of_covers, walks_are_in_order};
 
 /// Along a schedule of dependences that hold the covers of a program's walk, but for those on marked arrays, the item
 /// values of two places that conflict on another array rise from the earlier to the later.

@@ -10,7 +10,7 @@ ghost use Rattle.polypar.specs.Told.{told_of, IsTextAlone};
 use crate::told::Told;
 use iteration_domains::Model;
 use plan_search::certificate_text;
-use scop_syntax::tree::Kernel;
+use scop_syntax::Kernel;
 use std::alloc::{AllocError, Global};
 
 /// What `certify` tells of a kernel: the text alone.

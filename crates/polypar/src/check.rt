@@ -10,7 +10,7 @@ use crate::kernel::print_text;
 use io_ports::{Failed, Sink};
 use plan_check::{CheckStop, check_plan};
 use plan_search::Status;
-use scop_syntax::tree::Kernel;
+use scop_syntax::Kernel;
 use std::alloc::Global;
 
 /// Judges what stands behind a kernel as the certificate of a plan of it, and prints `yes` where it is accepted.

@@ -10,7 +10,7 @@ ghost use Rattle.polypar.specs.Told.{told_of, IsTextAlone};
 use crate::told::Told;
 use iteration_domains::Model;
 use plan_search::{deps_text, last_writes};
-use scop_syntax::tree::Kernel;
+use scop_syntax::Kernel;
 use std::alloc::{AllocError, Global};
 
 /// The text of the sources of a kernel's reads, where each candidate's problem may make so many moves.

@@ -13,7 +13,7 @@ use crate::told::Told;
 use c_printer::print;
 use iteration_domains::Model;
 use plan_search::planned;
-use scop_syntax::tree::Kernel;
+use scop_syntax::Kernel;
 use std::alloc::{AllocError, Global};
 
 /// The loops of a kernel for tiles of this size, where each question of the search may make so many moves.

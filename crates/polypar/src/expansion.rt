@@ -21,7 +21,7 @@ use pip_solver::Stop;
 use plan_search::{
     Planned, ReadSource, SourceStop, UnexpandedLine, last_writes, planned, planned_by_flow,
 };
-use scop_syntax::tree::Kernel;
+use scop_syntax::Kernel;
 use std::alloc::{AllocError, Global};
 use tile_runs::{NoSources, Sources, sources_of};
 

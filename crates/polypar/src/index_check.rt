@@ -11,13 +11,10 @@ ghost use Rattle.scop_syntax.specs.Walk.{walk_of};
 ghost use Rattle.scop_meaning.specs.Outside.{outside_of};
 
 use command_line::MOST_MOVES;
-use iteration_domains::domain_laws::outside_points_are_failures;
-use iteration_domains::{Model, System};
+use iteration_domains::{Model, System, outside_points_are_failures};
 use pip_solver::{Stop, is_empty};
-use scop_meaning::index::{Outside, first_outside};
-use scop_syntax::arrays::Extents;
-use scop_syntax::failure_laws::failures_are_the_first;
-use scop_syntax::tree::Kernel;
+use scop_meaning::{Outside, first_outside};
+use scop_syntax::{Extents, Kernel, failures_are_the_first};
 use std::alloc::{AllocError, Global};
 
 /// Whether the solver shows that a system has no point; a question that stops tells nothing.

@@ -26,10 +26,8 @@ use command_line::{Command, RunOptions};
 use data_text::{Case, DataStop, read_data, write_arrays};
 use io_ports::{Failed, ReadError, Sink, Source, read_to_end, write_whole};
 use plan_search::{Refusal, RefusalKind, Status};
-use scop_parser::reader::{ReadKernelError, read_kernel};
-use scop_syntax::failure_laws::failures_are_the_first;
-use scop_syntax::limit_laws::accesses_have_the_ranks_of_arrays;
-use scop_syntax::tree::Kernel;
+use scop_parser::{ReadKernelError, read_kernel};
+use scop_syntax::{Kernel, accesses_have_the_ranks_of_arrays, failures_are_the_first};
 use std::alloc::Global;
 use tile_runs::Workers;
 

@@ -20,7 +20,7 @@ use command_line::KernelCommand;
 use io_ports::{Failed, Sink, write_whole};
 use iteration_domains::Model;
 use plan_search::{Status, plan_text};
-use scop_syntax::tree::Kernel;
+use scop_syntax::Kernel;
 use std::alloc::{AllocError, Global};
 
 /// What `schedule` tells of a model: the text alone.

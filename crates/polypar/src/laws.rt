@@ -25,9 +25,9 @@ use c_printer::{
     flat_trees_can_be_printed, kernels_tell_their_names_apart, printed_trees_are_read_back,
 };
 use data_text::written_cases_are_read_back;
-use iteration_domains::domain_laws::{accesses_touch_the_cells, domains_hold_the_instances};
+use iteration_domains::{accesses_touch_the_cells, domains_hold_the_instances};
 use plan_search::{loops_end_as_the_source_does, trees_keep_conflicts_in_order};
-use scop_parser::laws::{spelled_names_are_words, spelled_programs_are_kernels};
+use scop_parser::{spelled_names_are_words, spelled_programs_are_kernels};
 
 /// The text of the arrays of a kernel that a text spells, behind a line for each parameter, says these parameters and
 /// these contents.

@@ -15,9 +15,7 @@ use data_text::Case;
 use plan_search::{
     UnexpandedLine, edges_text, tiles_text, unexpanded_text, waves_edges_text, waves_reduce_text,
 };
-use scop_syntax::marking::marked_arrays;
-use scop_syntax::reduction_laws::marks_are_the_reduced_arrays;
-use scop_syntax::tree::Kernel;
+use scop_syntax::{Kernel, marked_arrays, marks_are_the_reduced_arrays};
 use std::alloc::{AllocError, Global};
 use tile_runs::{Counts, Workers, run_case};
 

@@ -10,7 +10,7 @@ use crate::parts::{Part, put_named, put_numbered, put_parts};
 use data_text::DataRefusal;
 use io_ports::{Failed, Pieces, Sink};
 use itoa::Buffer;
-use scop_syntax::tree::Kernel;
+use scop_syntax::Kernel;
 
 /// Puts the line of a refusal of data.
 pub(crate) fn put_data<K: Sink>(

@@ -17,8 +17,8 @@ ghost use Rattle.report_text.specs.DepsText.{deps_text};
 ghost use Rattle.report_text.specs.DepsReading.{AllSaySame};
 
 use quast_text::texts_are_of_one_quast;
-use scop_parser::laws::spelled_programs_are_kernels;
-use scop_syntax::walk_laws::statements_are_numbered;
+use scop_parser::spelled_programs_are_kernels;
+use scop_syntax::statements_are_numbered;
 
 /// A text of sources is read in one way: two lists of sources of a kernel's reads that have one text say the same, quast
 /// by quast, and of each unresolved read the same cause with the same number. What is printed is what was proved.

@@ -17,7 +17,7 @@ use crate::pieces::{Piece, push_pieces, push_text};
 use dataflow::{ReadSource, SourceStop, Stop};
 use iteration_domains::{Model, StatementModel};
 use quast_text::put_quast;
-use scop_syntax::tree::{Kernel, Name};
+use scop_syntax::{Kernel, Name};
 use std::alloc::{AllocError, Global};
 
 /// Appends why a candidate's problem leaves a read unresolved. Want of memory leaves none so, and has no text.

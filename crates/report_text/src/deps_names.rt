@@ -7,7 +7,7 @@ ghost use Rattle.quast_text.specs.Text.{texts_of};
 ghost use Rattle.report_text.specs.DepsText.{turn_name, turn_names};
 
 use crate::pieces::{Piece, push_pieces};
-use scop_syntax::tree::{Kernel, Name};
+use scop_syntax::{Kernel, Name};
 use std::alloc::{AllocError, Global};
 
 /// Appends a name; one that finds no room is dropped here.

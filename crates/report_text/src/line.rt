@@ -11,8 +11,8 @@ use crate::parts::{Part, put_numbered, put_parts};
 use crate::status::Status;
 use io_ports::{Failed, Pieces, Sink};
 use plan_check::FaultKind;
-use scop_parser::refusal::{Refusal, RefusalKind};
-use scop_syntax::tree::Kernel;
+use scop_parser::{Refusal, RefusalKind};
+use scop_syntax::Kernel;
 
 /// Writes the line of a status, and flushes it; nothing for Done. `kernel` is the kernel that was read, for its names.
 #[tactic(auto, using(io_ports::proofs::PutTexts::flushed))]

@@ -5,7 +5,7 @@ ghost use Rattle.report_text.specs.StatusText.{outside_text};
 
 use crate::parts::{Part, put_parts};
 use io_ports::{Failed, Pieces, Sink};
-use scop_meaning::index::Outside;
+use scop_meaning::Outside;
 
 /// Puts `outside: SN access A dimension D value V extent E` and a line feed.
 pub(crate) fn put_outside<K: Sink>(

@@ -2,8 +2,8 @@
 
 use data_text::DataRefusal;
 use plan_check::FaultKind;
-use scop_meaning::index::Outside;
-use scop_parser::refusal::Refusal;
+use scop_meaning::Outside;
+use scop_parser::Refusal;
 
 /// How a call of the program ended.
 #[derive(Clone, Copy)]

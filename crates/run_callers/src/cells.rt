@@ -19,7 +19,7 @@ ghost use Rattle.tile_core.specs.declared.plan.Plan.{Plan};
 ghost use Rattle.tile_core.specs.declared.view.Key.{Key};
 ghost use Rattle.tile_core.specs.declared.view.View.{View};
 
-use tile_core::cell_laws;
+use tile_core::{cells_are_those_of_the_execution, words_are_those_of_the_execution};
 
 /// Where nothing is claimed a cell holds what it held at first, by `first` of `cells_are_those_of_the_execution`; where
 /// the last place is done, the cell that it writes holds what it stores, by `last`, if its array is not marked. Where
@@ -56,7 +56,7 @@ pub fn cells_of_the_last_place()
         → slice_index_or s.cells (plain_shape plan).cells 0
         ≡ value_stored_by (extents_in plan) contents v.body v.point }
 {
-    cell_laws::cells_are_those_of_the_execution();
+    cells_are_those_of_the_execution();
 }
 
 /// The same of words, by the clauses of `words_are_those_of_the_execution`; a sum of no addends, by `sum`.
@@ -91,5 +91,5 @@ pub fn words_of_the_last_place()
         → slice_index st.words ((plain_shape key.plan).cells + 2)
         ≡ value_stored_by (extents_in key.plan) contents v.body v.point }
 {
-    cell_laws::words_are_those_of_the_execution();
+    words_are_those_of_the_execution();
 }

@@ -20,13 +20,9 @@ ghost use Rattle.tile_core.specs.Plans.{HasRest, HoldsContents, IsPlan, deal_of,
 ghost use Rattle.tile_core.specs.Plans.{is_expanded, shape_of, walk_in, walk_shape};
 ghost use Rattle.tile_core.specs.declared.plan.Plan.{Plan as AnyPlan};
 
-use scop_syntax::instance::Instance;
+use scop_syntax::Instance;
 use std::alloc::{AllocError, Global};
-use tile_core::board::{Event, NotEnabled, Seen};
-use tile_core::cores::{Core, Turn};
-use tile_core::plan::Plan;
-use tile_core::plan_laws;
-use tile_core::words::{Pass, Words};
+use tile_core::{Core, Event, NotEnabled, Pass, Plan, Seen, Turn, Words, instances_read_few, plans_are_good, plans_execute_the_kernel, walks_are_dealt};
 
 /// The core of one worker at the start, by the clauses of `Core::of` of these names.
 pub fn core_of_one_worker<'a>(
@@ -112,7 +108,7 @@ pub fn values_of_plans()
         → slice_index_or s.cells (cell_number (extents_in plan) c) 0
         ≡ held (extents_in plan) (exec (program_in plan) plan.params.now contents) c }
 {
-    plan_laws::plans_execute_the_kernel();
+    plans_execute_the_kernel();
 }
 
 /// The first place of a walk of three has a rank below 3, by `scan` of `plans_are_good`, and the scan is as long, by
@@ -123,7 +119,7 @@ pub fn plans_of_three_places()
     ensures good { (plan : AnyPlan) → IsPlan plan → GoodPlan (shape_of plan) }
     ensures dealt { (plan : AnyPlan) → IsPlan plan → IsDealt (shape_of plan) }
 {
-    plan_laws::plans_are_good();
+    plans_are_good();
 }
 
 /// The same of the walk's places alone, by the clauses of `walks_are_dealt`; the tile of the first place is that of its
@@ -136,12 +132,12 @@ pub fn walks_of_three_places()
     ensures held { (plan : AnyPlan) (is : IsPlan plan) (v : Visit) → slice_get (walk_in plan) 0 ≡ Some v
         → IsTileOf is.tiling plan.list.now ((walk_shape plan).tile 0) (instance v) }
 {
-    plan_laws::walks_are_dealt();
+    walks_are_dealt();
 }
 
 /// The first place of some reads at most 16 cells, by the clause of `instances_read_few`.
 pub fn reads_of_the_first_place()
     ensures { (plan : AnyPlan) → IsPlan plan → 0 < (walk_shape plan).places → length ((walk_shape plan).read 0) ≤ 16 }
 {
-    plan_laws::instances_read_few();
+    instances_read_few();
 }

@@ -22,20 +22,20 @@ ghost use Rattle.tile_events.specs.Sound.{Sound};
 ghost use Rattle.tile_events.specs.declared.clock.Clock.{Clock};
 
 use atomic_table::Play;
-use tile_events::{core_laws, deal_laws, flat_laws, table_laws};
+use tile_events::{all_interleavings_agree, clocks_tell, covers_are_those_of_the_walk, events_are_allowed, events_keep_count, plans_by_waves_are_good, plans_execute_the_walk, scans_are_dealt, seats_are_allowed, two_workers_run};
 
 /// Whatever two workers do from the start on, the state is sound, by `start` and `replay` of `all_interleavings_agree`.
 pub fn states_after_events_of_two_workers()
     ensures { (es : List (ℕ × Event)) → Sound two (replay two first es) }
 {
-    core_laws::all_interleavings_agree();
+    all_interleavings_agree();
 }
 
 /// At the end of a run of two workers the second cell holds 6, by the clause of `two_workers_run`.
 pub fn run_over_two_tiles()
     ensures { slice_index_or (replay two first some_run).cells 1 0 ≡ 6 }
 {
-    core_laws::two_workers_run();
+    two_workers_run();
 }
 
 /// In any good plan by waves of which places 0 and 2 touch and lie in one wave, they stand in one tile in turn, by
@@ -46,7 +46,7 @@ pub fn plans_by_waves()
         → (p.tile 0 ≡ p.tile 2) × (p.position 0 < p.position 2) }
     ensures good { GoodPlan two }
 {
-    core_laws::plans_by_waves_are_good();
+    plans_by_waves_are_good();
 }
 
 /// An event leaves two workers, by `workers` of `events_keep_count`, and its claim is counted, by `claims`.
@@ -54,7 +54,7 @@ pub fn counts_after_an_event()
     ensures workers { (e : Event) → length (step two first 1 e).0.workers ≡ 2 }
     ensures claims { (e : Event) → AreCounted two (step two first 0 e).0 }
 {
-    core_laws::events_keep_count();
+    events_keep_count();
 }
 
 /// Two places that are scanned in turned order, each a tile and a wave, are dealt, by the clause of `scans_are_dealt`.
@@ -63,7 +63,7 @@ pub fn two_places_in_turned_order()
         (record { places = 2; tiles = 2; rank = λ j. 1 - j; at = λ r. 1 - r; start = λ t. t; wave = λ t. t })
         2 adds (λ j. j) (λ j. []) value initial) }
 {
-    deal_laws::scans_are_dealt();
+    scans_are_dealt();
 }
 
 /// Over an array of four cells the first place of a walk loads from the first contents, by `reads` of
@@ -89,7 +89,7 @@ pub fn walks_over_four_cells()
         → slice_get visits 1 ≡ Some w → Touch p 0 1
         → (a : ℕ) × (b : ℕ) × (c : Conflict v a w b) × (is_marked marked c.first.array ≡ false) }
 {
-    flat_laws::plans_execute_the_walk();
+    plans_execute_the_walk();
 }
 
 /// There the first place covers the second where its visit covers the other's, by the clause of
@@ -100,7 +100,7 @@ pub fn covers_over_four_cells()
         → p.places ≡ length visits
         → (Covers p 0 1 → Cover visits 0 1) × (Cover visits 0 1 → Covers p 0 1) }
 {
-    flat_laws::covers_are_those_of_the_walk();
+    covers_are_those_of_the_walk();
 }
 
 /// A seat that stands for one of two workers may claim one of two tiles, open the second, load 5 and store 6 there, and

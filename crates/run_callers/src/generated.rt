@@ -11,8 +11,7 @@ ghost use Rattle.kernel_gen.specs.declared.kind.Kind.TheVariants.{Product};
 
 use data_text::Case;
 use kernel_gen::Kind;
-use scop_syntax::arrays::Arrays;
-use scop_syntax::tree::Kernel;
+use scop_syntax::{Arrays, Kernel};
 use std::alloc::{AllocError, Global};
 
 /// A product of matrices of one cell, by the clauses of `generated` of these names.

@@ -13,7 +13,7 @@ ghost use Rattle.tile_edges.specs.Counting.{HasEdges, HasMoreEdges, IsReleaseOf}
 ghost use Rattle.tile_edges.specs.Edges.{AreEdgesOf, AreTooMany};
 ghost use Rattle.tile_edges.specs.declared.waiting.TileEdges.{TileEdges};
 
-use tile_edges::laws;
+use tile_edges::{edges_are_counted, kept_orders_have_no_edges};
 
 /// The pairs of tiles of size 1 are as many as there are of these, by `edges` of `edges_are_counted`, and where there are
 /// too many in numbers, so there are of these, by `more`.
@@ -27,7 +27,7 @@ pub fn pairs_of_tiles_of_size_1()
         → IsTileListOf ts [] (tiled 1 statements) list → AreTooMany flow program [] (tiled 1 statements) list
         → HasMoreEdges flow (tiled 1 statements) (walk_of program []) }
 {
-    laws::edges_are_counted();
+    edges_are_counted();
 }
 
 /// The source's order of a program without parameters has no pair of tiles, by the clause of `kept_orders_have_no_edges`.
@@ -35,5 +35,5 @@ pub fn no_pairs_in_the_source_s_order()
     ensures { (flow : Bool) (program : Program) (told : Option ℕ) → IsReleaseOf true flow kept (walk_of program []) told
         → told ≡ Some 0 }
 {
-    laws::kept_orders_have_no_edges();
+    kept_orders_have_no_edges();
 }

@@ -12,14 +12,14 @@ ghost use Rattle.tile_events.specs.Plan.{GoodPlan, IsDealt, Plan, Touch, before,
 ghost use Rattle.tile_events.specs.Releases.{AreCovered, AreEdges, Edges, Leads};
 ghost use Rattle.tile_events.specs.Sound.{IsBegun, IsFinished, Sound, is_done};
 
-use tile_events::{copy_laws, core_laws, release_laws, sum_laws};
+use tile_events::{all_interleavings_agree, cells_hold_their_sums, copies_keep_what_is_read, covers_join_what_touches, opened_tiles_have_waited, pairs_make_plans, two_workers_add, two_workers_release};
 
 /// Of pairs of three tiles the first and the third are not the same, by `once` of `pairs_make_plans`.
 pub fn pairs_of_three_tiles()
     ensures { (e : Edges) → AreEdges 3 e → 2 < e.count → tile_at e.start 3 0 ≡ tile_at e.start 3 2
         → e.target 0 ≢ e.target 2 }
 {
-    release_laws::pairs_make_plans();
+    pairs_make_plans();
 }
 
 /// The plan of three tiles, of which the last waits for both others, is dealt with its releases, by `dealt` of
@@ -32,7 +32,7 @@ pub fn plan_of_three_tiles()
     ensures end { before counted counted.places 2 ≡ 11 }
     ensures words { (done : ℕ → Bool) → words_of counted done counted.places 2 ≡ words_of three done 3 2 }
 {
-    release_laws::pairs_make_plans();
+    pairs_make_plans();
 }
 
 /// Places 0 and 2 of any plan that touch are joined by covers, by `closed` of `covers_join_what_touches`; the pairs of
@@ -43,7 +43,7 @@ pub fn covers_of_three_tiles()
     ensures rise { (p : Plan) → ((c : ℕ) → p.adds c ≡ false) → p.gate ≡ waves → GoodPlan p
         → ArePairsOf p both_to_last → Leads p both_to_last 0 2 → p.wave 0 < p.wave 2 }
 {
-    release_laws::covers_join_what_touches();
+    covers_join_what_touches();
 }
 
 /// Where the last of three tiles is opened or finished, the second has its instance done and has released it, and its
@@ -59,7 +59,7 @@ pub fn last_of_three_tiles()
     ensures filled { (s : State) → Sound counted s → IsFinished s 0 → IsFinished s 1
         → 2 ≤ slice_index_or s.cells 5 0 }
 {
-    release_laws::opened_tiles_have_waited();
+    opened_tiles_have_waited();
 }
 
 /// Whatever two workers do there from the start on, the state is sound, and there is one at which the last tile is
@@ -68,8 +68,8 @@ pub fn states_over_three_tiles()
     ensures sound { (es : List (ℕ × Event)) → Sound counted (replay counted counted_first es) }
     ensures begun { (s : State) × Sound counted s × IsBegun s 2 × IsFinished s 0 × IsFinished s 1 }
 {
-    core_laws::all_interleavings_agree();
-    release_laws::pairs_make_plans();
+    all_interleavings_agree();
+    pairs_make_plans();
 }
 
 /// The last tile is not opened where one other has released it, by `short` of `two_workers_release`, and at the end of
@@ -78,7 +78,7 @@ pub fn run_over_three_tiles()
     ensures short { (step counted (replay counted counted_first (take 11 counted_run)) 1 open_tile).1 ≡ short 1 2 }
     ensures end { slice_index_or (replay counted counted_first counted_run).cells 2 0 ≡ 11 }
 {
-    release_laws::two_workers_release();
+    two_workers_release();
 }
 
 /// Where three tiles add to one cell, a store and a release are refused there and an add is told, by `store`, `release`
@@ -89,7 +89,7 @@ pub fn run_of_three_adds()
     ensures add { (step adding (replay adding adding_first (take 2 adding_run)) 0 add).1 ≡ added }
     ensures end { slice_index_or (replay adding adding_first adding_run).cells 0 0 ≡ 6 }
 {
-    sum_laws::two_workers_add();
+    two_workers_add();
 }
 
 /// Whatever two workers do there from the start on, the state is sound, and there is one at which all places are done,
@@ -99,7 +99,7 @@ pub fn states_of_three_adds()
     ensures done { (s : State) × Sound adding s × (is_done adding s 0 ≡ true) × (is_done adding s 1 ≡ true)
         × (is_done adding s 2 ≡ true) }
 {
-    core_laws::all_interleavings_agree();
+    all_interleavings_agree();
 }
 
 /// Where three places have added 1, 2 and 3 to a cell it holds 6, by the clause of `cells_hold_their_sums`.
@@ -107,7 +107,7 @@ pub fn sum_of_three_places()
     ensures { (s : State) → Sound adding s → is_done adding s 0 ≡ true → is_done adding s 1 ≡ true
         → is_done adding s 2 ≡ true → slice_index_or s.cells 0 0 ≡ 6 }
 {
-    sum_laws::cells_hold_their_sums();
+    cells_hold_their_sums();
 }
 
 /// The second of two places reads 5 from the first one's copy, by `reads` of `copies_keep_what_is_read`; the plan with
@@ -120,5 +120,5 @@ pub fn copies_of_two_places()
     ensures copies { (done : ℕ → Bool) → words_of (expanded two sources_of_two) done 2 3 ≡ (if done 1 then 6 else 0) }
     ensures cells { (done : ℕ → Bool) → words_of (expanded two sources_of_two) done 2 0 ≡ 0 }
 {
-    copy_laws::copies_keep_what_is_read();
+    copies_keep_what_is_read();
 }

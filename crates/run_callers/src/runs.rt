@@ -22,11 +22,11 @@ use array_words::Closed;
 use data_text::Case;
 use io_ports::{Gate, OpenGate};
 use loop_tree::{Tiling, Tree};
-use scop_syntax::tree::Kernel;
+use scop_syntax::Kernel;
 use std::alloc::{AllocError, Global};
 use std::sync::Wait;
 use std::thread::Threads;
-use tile_core::plan::Plan;
+use tile_core::Plan;
 use tile_runner::run_plan;
 use tile_runs::{Counts, Sources, Workers, run_case};
 

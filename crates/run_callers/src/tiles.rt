@@ -17,7 +17,7 @@ ghost use Rattle.tile_list.specs.declared.list.TileList.{TileList as AnyList};
 
 use loop_tree::{Tiling, Tree};
 use std::alloc::{AllocError, Global};
-use tile_list::{TileList, laws};
+use tile_list::{TileList, numbers_tell_waves, orders_rise_by_tile, tiles_are_counted, tiles_are_unique, tiles_stand_one_behind_another};
 
 /// The list of tiles of a tree without parameters, by the clause of `tiles`.
 pub fn tiles_without_parameters(
@@ -46,7 +46,7 @@ pub fn instances_rise_by_tiles_of_size_1()
         → AreInOrder program [] (tiled 1 statements) xs → HaveOneLength (tiled 1 statements) xs
         → RiseByTile (tiled 1 statements) xs }
 {
-    laws::orders_rise_by_tile();
+    orders_rise_by_tile();
 }
 
 /// Instances have one list of tiles of size 1, by the clause of `tiles_are_unique`.
@@ -54,7 +54,7 @@ pub fn tiles_of_size_1_are_unique()
     ensures { (statements : List Items) (xs : List Instance) (ps qs : List (List Instance))
         → AreTiles (tiled 1 statements) xs ps → AreTiles (tiled 1 statements) xs qs → ps ≡ qs }
 {
-    laws::tiles_are_unique();
+    tiles_are_unique();
 }
 
 /// All tiles of the source's order lie in one wave, by `same` of `numbers_tell_waves`.
@@ -63,7 +63,7 @@ pub fn tiles_of_the_source_lie_in_one_wave()
         (x y : Instance) → slice_get firsts t ≡ Some x → slice_get firsts u ≡ Some y → slice_get numbers t ≡ Some m
         → slice_get numbers u ≡ Some n → m ≡ n }
 {
-    laws::numbers_tell_waves();
+    numbers_tell_waves();
 }
 
 /// The second of two tiles ends with three instances, by `next` of `tiles_stand_one_behind_another`; where the tiles
@@ -75,7 +75,7 @@ pub fn two_tiles_of_three_instances()
     ensures at { (statements : List Items) (xs : List Instance) (x y z : Instance)
         → AreTiles (tiled 1 statements) xs ((x ∷ []) ∷ (y ∷ z ∷ []) ∷ []) → slice_get xs 1 ≡ Some y }
 {
-    laws::tiles_stand_one_behind_another();
+    tiles_stand_one_behind_another();
 }
 
 /// A list of tiles of size 1 of visits without parameters has as many tiles as hold one, by `tiles` of
@@ -88,5 +88,5 @@ pub fn tiles_of_size_1_are_counted()
         → IsTileListOf ts [] (tiled 1 statements) list
         → HasWaves (tiled 1 statements) (visits ts []) (length list.offsets.items - 1) }
 {
-    laws::tiles_are_counted();
+    tiles_are_counted();
 }

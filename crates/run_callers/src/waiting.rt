@@ -11,7 +11,7 @@ ghost use Rattle.tile_events.specs.Sound.{IsBegun, Sound};
 ghost use Rattle.tile_core.specs.Plans.{IsPlan, is_expanded, plan_of, shape_of, walk_in, walk_plan, walk_shape};
 ghost use Rattle.tile_core.specs.declared.plan.Plan.{Plan};
 
-use tile_core::release_laws;
+use tile_core::opened_tiles_were_released;
 
 /// Where the second tile of the first pair is opened, the first has released it, by `released` of
 /// `opened_tiles_were_released`; where the tile of the second place is opened, and the first place is in conflict with
@@ -38,5 +38,5 @@ pub fn tiles_that_wait()
         → plan.edges ≡ Some e → Sound (plan_of plan cells) s → 0 < (shape_of plan).tiles
         → needed_by (shape_of plan).gate (shape_of plan) 0 ≤ seen_by (shape_of plan).gate s 0 }
 {
-    release_laws::opened_tiles_were_released();
+    opened_tiles_were_released();
 }

@@ -12,7 +12,7 @@ ghost use Rattle.wave_barrier.specs.Opens.{DoesOpen, DoesOpenTile, IsHolding};
 ghost use Rattle.wave_barrier.specs.Releases.{DoesRelease, IsLeft};
 
 use array_words::Closed;
-use tile_core::words::{Pass, Words};
+use tile_core::{Pass, Words};
 use wave_barrier::{NotYet, Short};
 
 /// The value that execution reads, by `value` of `load`; the step on the pass's view, by `event`.

@@ -38,7 +38,7 @@ ghost use Rattle.scop_arithmetic.specs.Limits.{IsLinearTruth};
 ghost use Rattle.scop_arithmetic.specs.Meaning.{Means, NamesMean};
 ghost use Rattle.scop_arithmetic.specs.Tokens.{KernelStands, NodeStands};
 
-use scop_roles::laws::{faultless_formulas_are_within_limits, formulas_are_in_scope};
+use scop_roles::{faultless_formulas_are_within_limits, formulas_are_in_scope};
 
 /// What has no fault in its role is of those expressions that the definitions speak of, and names mean entries that are
 /// there: no law below rests on what is worth 0 for want of a meaning.

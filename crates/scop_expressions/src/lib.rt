@@ -2,8 +2,13 @@
 //! exact first fault. The grammar is in specs/Tree and specs/Grammar, what an answer says in specs/Promises.
 #![tactic(auto)]
 
-pub mod laws;
-pub mod node;
-pub mod reader;
+mod laws;
+mod node;
+mod reader;
 mod stack;
-pub mod token;
+mod token;
+
+pub use laws::{expressions_are_read, tokens_spell_one_tree};
+pub use node::{Held, Last, Mode, Node};
+pub use reader::{Expression, Reader, Stop, MOST_BRACKETS, MOST_OPERATORS, read, told_at};
+pub use token::{Assign, Base, Count, Op, Outside, Sign, Suffix, Token, Width};

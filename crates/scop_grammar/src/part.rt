@@ -1,7 +1,6 @@
 //! A kernel as it is held: one list of parts in textual order, which nothing nests in.
 
-use scop_expressions::node::Node;
-use scop_expressions::token::{Assign, Count, Width};
+use scop_expressions::{Assign, Count, Node, Width};
 
 /// What a sign between expressions is.
 #[derive(Clone, Copy)]

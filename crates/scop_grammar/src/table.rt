@@ -4,7 +4,7 @@ ghost use Rattle.scop_grammar.specs.Table.{behind, braced, carried, item_mark, i
 ghost use Rattle.scop_grammar.specs.Table.{set_next};
 
 use crate::part::Mark;
-use scop_expressions::token::{Assign, Op, Outside, Token, Width};
+use scop_expressions::{Assign, Op, Outside, Token, Width};
 
 /// What an expression is for.
 #[derive(Clone, Copy)]

@@ -6,8 +6,7 @@ ghost use Rattle.scop_meaning.specs.Instances.{AreLayout};
 ghost use Rattle.scop_meaning.specs.steps.Conditions.{AreExtents};
 
 use crate::cells::offset_at;
-use scop_syntax::arrays::Extents;
-use scop_syntax::tree::Access;
+use scop_syntax::{Access, Extents};
 
 /// How many cells an array with these extents has.
 fn count_cells(extents: &[u64]) -> usize

@@ -4,8 +4,7 @@ ghost use Rattle.whole_numbers.specs.Affine.{value_of};
 ghost use Rattle.scop_syntax.specs.Cells.{values};
 ghost use Rattle.scop_syntax.specs.Execution.{AreWithin, cell_count, offset_from, size_of};
 
-use scop_syntax::affine_values::wrapped_at;
-use scop_syntax::tree::Aff;
+use scop_syntax::{Aff, wrapped_at};
 
 /// One step of Horner's rule: `offset * extent + subscript`, with the subscript at `point`.
 fn next_offset(offset: u64, extent: u64, subscript: &Aff, point: &[i64]) -> u64

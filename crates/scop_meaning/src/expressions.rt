@@ -6,8 +6,7 @@ ghost use Rattle.scop_syntax.specs.Values.{stored_by, value_on};
 ghost use Rattle.scop_meaning.specs.Instances.{values_wanted};
 
 use crate::operators::{combined, complemented, narrowed, negated, shifted_left, shifted_right};
-use scop_syntax::affine_values::wrapped_at;
-use scop_syntax::tree::{Expr, Right};
+use scop_syntax::{Expr, Right, wrapped_at};
 
 /// The value of `expression` at `point`, where its reads have the values `reads` from `at` on; `at`
 /// goes on behind them.

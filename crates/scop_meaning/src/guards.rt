@@ -7,8 +7,7 @@ ghost use Rattle.scop_syntax.specs.Walk.{all_hold as tests_hold, holds as test_h
 ghost use Rattle.scop_syntax.specs.Fits.{TestsFit};
 ghost use Rattle.scop_syntax.specs.Kernel.{test_form};
 
-use scop_syntax::affine_values::exact_at;
-use scop_syntax::tree::Test;
+use scop_syntax::{Test, exact_at};
 
 /// Whether a test holds at `point`.
 fn holds_at(test: &Test, point: &[i64]) -> bool

@@ -7,7 +7,7 @@ ghost use Rattle.scop_syntax.specs.Values.{stored_by};
 ghost use Rattle.scop_syntax.specs.Walk.{Visit, walk_of};
 ghost use Rattle.scop_meaning.specs.LastWrites.{left_at_the_end, left_before};
 
-use scop_syntax::execution_laws::{cells_hold_the_last_write, reads_see_the_last_write};
+use scop_syntax::{cells_hold_the_last_write, reads_see_the_last_write};
 
 /// After the execution each cell holds what its last writer stores, else what stood there at first; and what an
 /// instance stores is computed from what the last writers of the cells that it reads store, else from what stood

@@ -7,10 +7,7 @@ ghost use Rattle.scop_syntax.specs.Limits.{WithinLimits};
 ghost use Rattle.scop_syntax.specs.View.{program_of};
 
 use arrayvec::ArrayVec;
-use scop_syntax::affine_values::wrapped_at;
-use scop_syntax::limit_laws::cells_lie_within_22_bits;
-use scop_syntax::limits::{MOST_ARRAYS, MOST_EXTENTS};
-use scop_syntax::tree::{Aff, Kernel};
+use scop_syntax::{Aff, Kernel, MOST_ARRAYS, MOST_EXTENTS, cells_lie_within_22_bits, wrapped_at};
 use std::marker::Model;
 
 /// The extents of one array, outermost first.

@@ -6,16 +6,26 @@
 //! does.
 #![tactic(auto)]
 
-pub mod accesses;
+mod accesses;
 mod cells;
-pub mod expressions;
+mod expressions;
 mod guards;
-pub mod index;
-pub mod instances;
-pub mod interpreter;
-pub mod last_writes;
+mod index;
+mod instances;
+mod interpreter;
+mod last_writes;
 mod layout;
-pub mod loops;
-pub mod operators;
+mod loops;
+mod operators;
 mod statements;
-pub mod worked_rows;
+mod worked_rows;
+
+pub use accesses::{cells_before, number_of};
+pub use expressions::{stored_on, value_from};
+pub use index::{Outside, count_in, first_outside};
+pub use instances::{cell, value};
+pub use interpreter::run_plain;
+pub use last_writes::executions_go_by_last_writers;
+pub use loops::{Point, enter_at, enter_turn, point_at, turns_of};
+pub use operators::{combined, complemented, narrowed, negated, shifted_left, shifted_right};
+pub use worked_rows::{copies_of_cells, guards_and_sequences, last_writers_of_sweeps, loops_of_each_kind, subscripts_of_each_kind, sums_of_a_place, the_first_subscript_outside};

@@ -9,9 +9,7 @@ ghost use Rattle.scop_meaning.specs.Conditions.{CanTurn};
 ghost use Rattle.scop_syntax.specs.declared.limits.TheConstants.{MOST_ENTRIES};
 
 use arrayvec::ArrayVec;
-use scop_syntax::affine_values::{exact_at, value_at, with_product};
-use scop_syntax::limits::MOST_ENTRIES;
-use scop_syntax::tree::Loop;
+use scop_syntax::{Loop, MOST_ENTRIES, exact_at, value_at, with_product};
 
 /// The parameters, then the iterators of the loops that the run stands in, outermost first.
 pub type Point = ArrayVec<i64, MOST_ENTRIES>;

@@ -3,7 +3,7 @@ ghost use Rattle.std.specs.Prelude.{◌≡◌, ◌-◌, ◌*◌, ◌/◌, ◌%�
 ghost use Rattle.scop_syntax.specs.View.{operator_of};
 ghost use Rattle.scop_syntax.specs.Values.{applied};
 
-use scop_syntax::tree::Operator;
+use scop_syntax::Operator;
 
 /// The value of `left operator right`.
 #[inline]

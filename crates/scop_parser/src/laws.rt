@@ -11,7 +11,7 @@ ghost use Rattle.scop_parser.specs.Names.{HasFreeNames};
 ghost use Rattle.scop_parser.specs.Spelling.{IsFirstFault, IsRefusedAs, SpellsProgram};
 
 use scop_lexer::names_stand_by_themselves;
-use scop_units::laws::{faultless_kernels_are_within_limits, names_are_those_of_tokens};
+use scop_units::{faultless_kernels_are_within_limits, names_are_those_of_tokens};
 
 /// A text spells one program at most.
 pub fn texts_spell_one_program()

@@ -18,13 +18,12 @@ ghost use Rattle.scop_parser.specs.Spelling.{IsFirstFault, SpellsProgram, token_
 
 use crate::laws::spelled_programs_are_kernels;
 use crate::refusal::{Refusal, RefusalKind};
-use scop_expressions::reader::Stop as GrammarStop;
-use scop_expressions::token::Token;
-use scop_grammar::reader::KernelReader;
+use scop_expressions::{Stop as GrammarStop, Token};
+use scop_grammar::KernelReader;
 use scop_lexer::{FaultKind, Stop as TokenStop, position, starts, token_at};
-use scop_pass::pass::{Pass, Stop as PassStop};
-use scop_syntax::tree::Kernel;
-use scop_units::words::Words;
+use scop_pass::{Pass, Stop as PassStop};
+use scop_syntax::Kernel;
+use scop_units::Words;
 use std::alloc::Global;
 
 /// Why there is no kernel.

@@ -1,6 +1,6 @@
 //! Why a text is refused: the kind of its first fault, and where it stands.
 
-pub use scop_roles::kinds::Kind as RefusalKind;
+pub use scop_roles::Kind as RefusalKind;
 
 /// A fault: lines and columns count from 1, columns in bytes.
 #[derive(Clone, Copy)]

@@ -5,7 +5,7 @@ ghost use Rattle.scop_pass.specs.Machine as machine;
 ghost use Rattle.scop_pass.specs.Passing.{Pops, frames_of, within};
 
 use crate::lists::push;
-use scop_syntax::tree::{Item, Loop, Test};
+use scop_syntax::{Item, Loop, Test};
 use std::alloc::AllocError;
 
 // What is open: a block and so many round it with nothing between, or a head with the trees in front of it.

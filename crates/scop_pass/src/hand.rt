@@ -14,12 +14,10 @@ ghost use Rattle.scop_units.specs.View.{scope_of, words_in};
 
 use crate::pass::{Pass, Stop};
 use crate::pending::{Begun, Hand, Pending, Sides, StepRead};
-use scop_expressions::token::Count;
-use scop_grammar::part::Mark;
-use scop_roles::formula::{Formula, Names, with_subscript};
-use scop_units::loops::Change;
-use scop_units::units::Stored;
-use scop_units::words::Words;
+use scop_expressions::Count;
+use scop_grammar::Mark;
+use scop_roles::{Formula, Names, with_subscript};
+use scop_units::{Change, Stored, Words};
 use std::alloc::Global;
 use std::mem;
 

@@ -8,7 +8,7 @@ ghost use Rattle.scop_units.specs.Words.{Words};
 ghost use Rattle.scop_units.specs.Judging.{faults_of};
 ghost use Rattle.scop_pass.specs.Machine.{first_state, run, settled};
 
-use scop_roles::laws::{faults_stand_within, first_faults_join};
+use scop_roles::{faults_stand_within, first_faults_join};
 
 /// A pass over a kernel's pieces may stop where it has found a fault: the first so far is the first of all.
 pub fn passes_may_stop_at_a_fault()

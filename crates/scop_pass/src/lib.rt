@@ -5,9 +5,12 @@
 
 mod frames;
 mod hand;
-pub mod laws;
+mod laws;
 mod lists;
 mod names;
 mod open_items;
-pub mod pass;
+mod pass;
 mod pending;
+
+pub use laws::{passes_may_stop_at_a_fault, passes_may_stop_at_an_array};
+pub use pass::{Pass, Stop};

@@ -4,8 +4,8 @@ ghost use Rattle.std.specs.Prelude.{◌≡◌, ◌-◌, ◌++◌, ◌∷◌, [],
 ghost use Rattle.scop_syntax.specs.View.{tree_of};
 ghost use Rattle.scop_roles.specs.Formula.{formula_of};
 
-use scop_roles::formula::Formula;
-use scop_syntax::tree::{Item, Name};
+use scop_roles::Formula;
+use scop_syntax::{Item, Name};
 use std::alloc::AllocError;
 
 pub(crate) fn push<T: Drop>(list: &mut Vec<T>, last: T) -> Result<(), AllocError>

@@ -12,12 +12,10 @@ ghost use Rattle.scop_units.specs.View.{scope_of, words_in};
 use crate::lists::{push, push_formula, push_name};
 use crate::pass::{Pass, Stop, checked};
 use crate::pending::{Hand, Pending};
-use scop_expressions::token::Width;
-use scop_grammar::part::Mark;
-use scop_roles::formula::Formula;
-use scop_units::scope::copied;
-use scop_units::units::{array_fault, array_of, kernel_name_fault, name_fault, number_fault};
-use scop_units::words::Words;
+use scop_expressions::Width;
+use scop_grammar::Mark;
+use scop_roles::Formula;
+use scop_units::{Words, array_fault, array_of, copied, kernel_name_fault, name_fault, number_fault};
 use std::alloc::Global;
 
 impl Pass {

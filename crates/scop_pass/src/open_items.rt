@@ -20,14 +20,9 @@ use crate::frames::{Frame, pop_frame, push_block, push_frame, raised};
 use crate::lists::{pop_name, push_name, push_tree};
 use crate::pass::{Pass, Stop, checked};
 use crate::pending::{Hand, Pending, Sides};
-use scop_roles::formula::{Formula, Names, Role};
-use scop_roles::judgement::fault;
-use scop_roles::values::push_tests;
-use scop_syntax::tree::{Guard, Item, Loop, Test};
-use scop_units::loops::{Change, LoopHead, loop_fault, loop_of};
-use scop_units::scope::copied;
-use scop_units::units::{Stored, statement_fault, statement_of};
-use scop_units::words::Words;
+use scop_roles::{Formula, Names, Role, fault, push_tests};
+use scop_syntax::{Guard, Item, Loop, Test};
+use scop_units::{Change, LoopHead, Stored, Words, copied, loop_fault, loop_of, statement_fault, statement_of};
 use std::alloc::{AllocError, Global};
 use std::mem;
 

@@ -4,8 +4,8 @@ ghost use Rattle.std.specs.Prelude.{◌≡◌};
 ghost use Rattle.scop_pass.specs.Machine.{inner_of};
 ghost use Rattle.scop_pass.specs.Passing.{hand_of, pending_of};
 
-use scop_expressions::token::{Assign, Count, Width};
-use scop_roles::formula::Formula;
+use scop_expressions::{Assign, Count, Width};
+use scop_roles::Formula;
 
 // A loop's head up to its name.
 #[derive(Clone, Copy)]

@@ -6,8 +6,7 @@ ghost use Rattle.whole_numbers.specs.Lists.{multiples, sums, zeros};
 ghost use Rattle.scop_syntax.specs.Kernel.{AreAtMost, IsAffine, IsForm};
 ghost use Rattle.scop_roles.specs.Forms.{is_small, is_within};
 
-use scop_syntax::limits::{MOST_COEFFICIENT, MOST_CONSTANT};
-use scop_syntax::tree::Aff;
+use scop_syntax::{Aff, MOST_COEFFICIENT, MOST_CONSTANT};
 use std::alloc::{AllocError, Global};
 
 /// So many zeros.

@@ -7,8 +7,7 @@ ghost use Rattle.scop_roles.specs.Formula.{index, meaning_of, place, subscripts,
 ghost use Rattle.scop_roles.specs.Resolving.{IsWritten, below, built, formula_of_nodes, held, place_of, top};
 
 use crate::pairs::{boxed, in_box, push_behind};
-use scop_expressions::node::Node;
-use scop_expressions::token::{Base, Op, Sign, Suffix, Width};
+use scop_expressions::{Base, Node, Op, Sign, Suffix, Width};
 use std::alloc::{AllocError, Global};
 use std::mem;
 

@@ -13,8 +13,8 @@ use crate::kinds::Fault;
 use crate::formula::{Argument, Formula, Role};
 use crate::nodes::{of_bare_call, of_call, of_cast, of_constant, of_index, of_name, of_unary};
 use crate::sides::of_binary;
-use scop_expressions::token::Op;
-use scop_syntax::tree::Aff;
+use scop_expressions::Op;
+use scop_syntax::Aff;
 use std::alloc::{AllocError, Global};
 
 // The first fault in each role.

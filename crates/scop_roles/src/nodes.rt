@@ -18,9 +18,8 @@ use crate::roles::{
     is_plain, keeps_type, named, operand_role, own_call, own_cast, own_constant, own_index,
     own_name, own_unary, rank,
 };
-use scop_expressions::token::{Sign, Suffix, Width};
-use scop_syntax::limits::MOST_CONSTANT;
-use scop_syntax::tree::Aff;
+use scop_expressions::{Sign, Suffix, Width};
+use scop_syntax::{Aff, MOST_CONSTANT};
 use std::alloc::{AllocError, Global};
 
 fn is_zero(number: Option<usize>) -> bool

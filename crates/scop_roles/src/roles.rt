@@ -15,8 +15,8 @@ ghost use Rattle.scop_roles.specs.declared.formula.Meaning.{Meaning};
 
 use crate::kinds::{Kind, only_where};
 use crate::formula::{Meaning, Role};
-use scop_expressions::token::{Base, Op, Sign, Suffix, Width};
-use scop_syntax::limits::MOST_CONSTANT;
+use scop_expressions::{Base, Op, Sign, Suffix, Width};
+use scop_syntax::MOST_CONSTANT;
 
 // + - *
 pub(crate) fn is_sum_or_product(op: Op) -> bool

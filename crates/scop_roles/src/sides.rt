@@ -13,8 +13,8 @@ use crate::formula::Role;
 use crate::judgement::{Faults, Judgement};
 use crate::pairs::both;
 use crate::roles::{is_product, is_sum_or_product, makes_narrow, own_joined, side_role};
-use scop_expressions::token::Op;
-use scop_syntax::tree::Aff;
+use scop_expressions::Op;
+use scop_syntax::Aff;
 use std::alloc::{AllocError, Global};
 
 // The form that an operator makes of two, or what is wrong with it as an affine one.

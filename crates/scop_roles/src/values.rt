@@ -24,8 +24,8 @@ use crate::roles::{
     is_and, is_between, is_long_constant, is_minus, is_narrow_array, is_narrow_width, is_number,
     is_plain, is_shift, is_sum_or_product, keeps_type, makes_narrow,
 };
-use scop_expressions::token::{Op, Sign, Width};
-use scop_syntax::tree::{Access, Aff, Expr, Narrowing, Operator, Test};
+use scop_expressions::{Op, Sign, Width};
+use scop_syntax::{Access, Aff, Expr, Narrowing, Operator, Test};
 use std::alloc::{AllocError, Global};
 
 /// Whether a formula is signed: a constant without suffix, a parameter, an iterator, or a sum, a difference, a product

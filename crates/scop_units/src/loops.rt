@@ -13,13 +13,9 @@ ghost use Rattle.scop_units.specs.View.{change_of, head_of, scope_of};
 
 use crate::scope::{Scope, copied};
 use crate::units::{or_fault, told, told_where};
-use scop_expressions::token::{Assign, Count, Op, Suffix};
-use scop_roles::kinds::{Fault, Kind, first_of};
-use scop_roles::formula::{Argument, Formula, Meaning, Role};
-use scop_roles::judgement::{fault, form};
-use scop_roles::values::push_tests;
-use scop_syntax::limits::{MOST_LOOPS, MOST_STRIDE};
-use scop_syntax::tree::{Aff, Loop, Test};
+use scop_expressions::{Assign, Count, Op, Suffix};
+use scop_roles::{Argument, Fault, Formula, Kind, Meaning, Role, fault, first_of, form, push_tests};
+use scop_syntax::{Aff, Loop, Test, MOST_LOOPS, MOST_STRIDE};
 use std::alloc::{AllocError, Global};
 
 /// `++` or `--`, or an assignment with its right side.

@@ -7,9 +7,8 @@ ghost use Rattle.scop_units.specs.Scopes.{with_loop};
 ghost use Rattle.scop_units.specs.View.{ranked, scope_of};
 
 use crate::words::Words;
-use scop_roles::kinds::Kind;
-use scop_roles::formula::{Meaning, Names};
-use scop_syntax::tree::{Array, Name};
+use scop_roles::{Kind, Meaning, Names};
+use scop_syntax::{Array, Name};
 use std::alloc::{AllocError, Global};
 use std::collections::BTreeSet;
 

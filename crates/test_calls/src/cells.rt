@@ -2,7 +2,7 @@
 
 use data_text::{DataRefusal, DataStop, read_data};
 use kernel_gen::cells_in;
-use scop_parser::reader::read_kernel;
+use scop_parser::read_kernel;
 use std::alloc::{AllocError, Global};
 use std::test::Fail;
 

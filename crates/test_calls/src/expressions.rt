@@ -1,7 +1,6 @@
 //! An expression whose nodes are worked out by hand.
 
-use scop_expressions::reader::read;
-use scop_expressions::token::{Base, Op, Suffix, Token};
+use scop_expressions::{Base, Op, Suffix, Token, read};
 use std::alloc::Global;
 
 const NAME: Token = Token::Name;

@@ -3,7 +3,7 @@
 ghost use Rattle.std.specs.Prelude.{◌≤◌};
 
 use kernel_gen::{Kind, cells_in, generated, sum_of};
-use scop_meaning::interpreter::run_plain;
+use scop_meaning::run_plain;
 use std::alloc::{AllocError, Global};
 use std::test::Fail;
 

@@ -1,7 +1,7 @@
 //! A kernel whose parts are worked out by hand.
 
-use scop_expressions::token::{Assign, Base, Outside, Suffix, Token};
-use scop_grammar::reader::read;
+use scop_expressions::{Assign, Base, Outside, Suffix, Token};
+use scop_grammar::read;
 use std::alloc::Global;
 
 const VOID: Token = Token::Outside(Outside::Void);

@@ -14,9 +14,8 @@ use c_printer::{print, read_back};
 use iteration_domains::Model;
 use loop_tree::{Spot, Tree};
 use polypar::{Schedule, covers, hull_tree, schedule_of, tiled_tree, trees_of_plans_can_be_walked};
-use scop_parser::reader::read_kernel;
-use scop_syntax::instance::Instance;
-use scop_syntax::tree::Kernel;
+use scop_parser::read_kernel;
+use scop_syntax::{Instance, Kernel};
 use std::alloc::{AllocError, Global};
 use std::test::Fail;
 

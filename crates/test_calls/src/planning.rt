@@ -5,7 +5,7 @@ use dataflow::{ReadSource, last_writes, next_writes};
 use iteration_domains::Model;
 use pluto_systems::kernel_vectors;
 use quast_trees::{Leaf, Quast};
-use scop_parser::reader::read_kernel;
+use scop_parser::read_kernel;
 use std::alloc::{AllocError, Global};
 use std::test::Fail;
 use stmt_graph::components;

@@ -10,7 +10,7 @@ use farkas::{bounded_rows, legal_rows};
 use integer_sets::System;
 use iteration_domains::{Dep, Model};
 use pluto_systems::{Rows, loops_in, posed};
-use scop_parser::reader::read_kernel;
+use scop_parser::read_kernel;
 use std::alloc::{AllocError, Global};
 use std::slice;
 use std::test::Fail;

@@ -16,12 +16,7 @@ use std::alloc::{AllocError, Global};
 use std::sync::atomic::{AtomicBool, Ordering};
 use std::test::Fail;
 use tile_claims::claim;
-use tile_core::TileEdges;
-use tile_core::board::{Event, Seen};
-use tile_core::cores::Core;
-use tile_core::plan::Plan;
-use tile_core::words::{Pass, Words};
-use tile_core::worker::Stage;
+use tile_core::{Core, Event, Pass, Plan, Seen, Stage, TileEdges, Words};
 use tile_runner::{do_tile, is_opened, release_all};
 use wave_barrier::{finish, try_open, try_open_tile};
 

@@ -1,8 +1,7 @@
 //! Long texts, along which nothing recurses, and texts that are cut off.
 
 use crate::commands::{is_told, run_on};
-use scop_parser::reader::{ReadKernelError, read_kernel};
-use scop_parser::refusal::{Refusal, RefusalKind};
+use scop_parser::{ReadKernelError, Refusal, RefusalKind, read_kernel};
 use std::alloc::{AllocError, Global};
 use std::test::Fail;
 

@@ -6,7 +6,7 @@ ghost use Rattle.std.specs.Prelude.{◌≤◌};
 use crate::commands::{Answer, answer_of, is_told};
 use io_ports::{Gate, OpenGate};
 use kernel_gen::{Kind, cells_in, generated, sum_of, summary};
-use scop_meaning::interpreter::run_plain;
+use scop_meaning::run_plain;
 use std::alloc::{AllocError, Global};
 use std::sync::Wait;
 use std::sync::atomic::{AtomicBool, AtomicU64, Ordering};

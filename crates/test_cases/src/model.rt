@@ -4,7 +4,7 @@ use crate::lines::Lines;
 use crate::systems::print_system;
 use conflict_deps::conflicts;
 use iteration_domains::{Dep, Model};
-use scop_parser::reader::read_kernel;
+use scop_parser::read_kernel;
 use std::alloc::{AllocError, Global};
 use std::io;
 

@@ -29,7 +29,7 @@ ghost use Rattle.scop_arithmetic.specs.Arithmetic.{Holds, IsNameOf, after_step, 
 ghost use Rattle.scop_arithmetic.specs.Arithmetic.{cells_read, class, stored, whole, word};
 ghost use Rattle.scop_arithmetic.specs.Meaning.{NamesMean};
 
-use scop_arithmetic::laws;
+use scop_arithmetic::{extents_are_whole_numbers, loops_count_as_they_say, tests_hold_where_conditions_do};
 
 /// What has no fault has a meaning, by the clauses of `faultless_texts_have_meanings` of the same names: an affine
 /// expression, a condition, a place and a value without entries, a single extent, a statement's cell, a loop's first
@@ -46,7 +46,7 @@ pub fn faultless_texts_have_meanings()
     ensures loops { (s : Scope) (h : LoopHead) → loop_faults s h ≡ [] → HasWhole h.first }
     ensures names { (s : Scope) (w : Text) (k : ℕ) → entries s ≡ 0 → meaning_in s w ≡ meaning.Variable k → ⊥ }
 {
-    laws::faultless_texts_have_meanings();
+    scop_arithmetic::faultless_texts_have_meanings();
 }
 
 /// The form of an affine expression has its whole number, by `value` of `forms_are_whole_numbers`; which is small, by
@@ -56,21 +56,21 @@ pub fn forms_are_whole_numbers()
     ensures constants { (f : Formula) → first (faults 0 role.Affine f) ≡ None → has_name f ≡ false
         → unsigned_abs (whole [] f) ≤ 2 ^ 20 }
 {
-    laws::forms_are_whole_numbers();
+    scop_arithmetic::forms_are_whole_numbers();
 }
 
 /// Where a condition holds all its comparisons do, by the clause of `tests_hold_where_conditions_do`.
 pub fn tests_of_conditions_that_hold()
     ensures { (f : Formula) → first (faults 0 role.Condition f) ≡ None → Holds [] f → AllHold (tests 0 f) [] }
 {
-    laws::tests_hold_where_conditions_do();
+    tests_hold_where_conditions_do();
 }
 
 /// A place names its cell, by the clause of `accesses_are_cells`.
 pub fn accesses_are_cells()
     ensures { (f : Formula) → first (place_faults 0 f) ≡ None → cell_of (access 0 f) [] ≡ cell [] f }
 {
-    laws::accesses_are_cells();
+    scop_arithmetic::accesses_are_cells();
 }
 
 /// The extents of arrays of a kernel without parameters, by the clause of `extents_are_whole_numbers`.
@@ -79,7 +79,7 @@ pub fn extents_of_kernels_without_parameters()
         → array_faults words s at fs ≡ []
         → values (declared_over 0 (array_of words s at w fs)).extents [] ≡ map (λ f. whole [] f) fs }
 {
-    laws::extents_are_whole_numbers();
+    extents_are_whole_numbers();
 }
 
 /// A value reads the cells of its places, by `reads` of `values_are_words`, and is the expression's, by `value`.
@@ -90,7 +90,7 @@ pub fn values_are_words()
         → first (faults 0 role.Value f) ≡ None → HoldTypes held [] f
         → value_on (expression 0 f) [] (map held (cells_in [] f)) ≡ word held [] f }
 {
-    laws::values_are_words();
+    scop_arithmetic::values_are_words();
 }
 
 /// Contents whose arrays of `uint32_t` hold no more have numbers of their types where an expression at the first token
@@ -100,14 +100,14 @@ pub fn contents_hold_their_types()
         → HoldWidths (map (λ a. a.narrow) s.arrays) contents
         → HoldTypes (held [] contents) [] (formula (look words s) 0 t) }
 {
-    laws::contents_hold_their_types();
+    scop_arithmetic::contents_hold_their_types();
 }
 
 /// An expression at the first token has no comma outside of calls, by the clause of `commas_stand_in_calls`.
 pub fn commas_stand_in_calls()
     ensures { (look : Lookup) (t : Tree) → IsExpression t → HasNoComma (formula look 0 t) }
 {
-    laws::commas_stand_in_calls();
+    scop_arithmetic::commas_stand_in_calls();
 }
 
 /// A statement's cell, what it reads, and what it stores, by `place`, `reads` and `right` of `statements_store_words`.
@@ -120,7 +120,7 @@ pub fn statements_store_words()
         → stored_by (statement_of 0 s).right [] (map held (cells_read s.assign (cell [] s.cell) (cells_in [] s.value)))
         ≡ stored (cell_class s.cell) (class s.value) s.assign (held (cell [] s.cell)) (word held [] s.value) }
 {
-    laws::statements_store_words();
+    scop_arithmetic::statements_store_words();
 }
 
 /// A loop outside all others, by the clauses of `loops_count_as_they_say` of the same names: its iterator, what that
@@ -141,5 +141,5 @@ pub fn outermost_loops_count_as_they_say()
     ensures condition { (s : Scope) (h : LoopHead) (x : ℤ) → entries s ≡ 0 → loop_faults s h ≡ []
         → Holds (turn_point (loop_of s h) [] x) h.second → pos 0 ≤ℤ condition_at (loop_of s h) [] x }
 {
-    laws::loops_count_as_they_say();
+    loops_count_as_they_say();
 }

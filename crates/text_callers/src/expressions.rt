@@ -4,8 +4,7 @@ ghost use Rattle.scop_expressions.specs.Promises.{IsRead};
 ghost use Rattle.scop_expressions.specs.Gives.{IsStop};
 ghost use Rattle.scop_expressions.specs.declared.reader.TheConstants.{MOST_BRACKETS, MOST_OPERATORS};
 
-use scop_expressions::reader::{Expression, Stop, read};
-use scop_expressions::token::Token;
+use scop_expressions::{Expression, Stop, Token, read};
 use std::alloc::Global;
 
 /// The nodes that are read are those of the tokens, and a stop is told where it is, by the clauses of `read`.

@@ -27,7 +27,7 @@ ghost use Rattle.scop_arithmetic.specs.Arithmetic.{HasNoComma};
 ghost use Rattle.scop_arithmetic.specs.Tokens.{NodeStands};
 ghost use Rattle.text_callers.specs.Worked.{decimal};
 
-use scop_arithmetic::laws;
+use scop_arithmetic::{faultless_texts_lie_within_the_limits, spelled_texts_mean_their_programs, texts_within_the_limits_have_no_fault};
 
 /// A program has the parameters and the names of arrays that are in scope where its text's items begin, by
 /// `parameters` and `names` of what `spelled_texts_mean_their_programs` promises; without an item in the text, no tree,
@@ -41,7 +41,7 @@ pub fn programs_mean_their_texts()
     ensures arrays { (text : Text) (p : Program) (x : SpellsProgram text p) → x.kernel.first ≡ number
         → x.kernel.others ≡ [] → p.arrays ≡ [] }
 {
-    laws::spelled_texts_mean_their_programs();
+    spelled_texts_mean_their_programs();
 }
 
 /// The node of a name stands at it, by `nodes` of `formulas_stand_at_their_tokens`, and a text begins with `void`, by
@@ -51,7 +51,7 @@ pub fn formulas_stand_at_their_tokens()
     ensures kernel { (text : Text) (tokens : List Token) (k : Kernel) → IsText text tokens k
         → slice_get (grammar_tokens tokens) 0 ≡ Some (token.Outside outside.Void) }
 {
-    laws::formulas_stand_at_their_tokens();
+    scop_arithmetic::formulas_stand_at_their_tokens();
 }
 
 /// Without entries, by the clauses of `texts_within_the_limits_have_no_fault` of the same names: a constant, `1 < 2`,
@@ -68,7 +68,7 @@ pub fn small_expressions_have_no_fault()
     ensures loops { (s : Scope) (h : LoopHead) → IsFitLoop s h → loop_faults s h ≡ [] }
     ensures extents { extent_faults 0 (constant decimal 7 0 ∷ []) ≡ [] }
 {
-    laws::texts_within_the_limits_have_no_fault();
+    texts_within_the_limits_have_no_fault();
 }
 
 /// By the clauses of `faultless_texts_lie_within_the_limits` of the same names: a constant without a fault as an affine
@@ -87,5 +87,5 @@ pub fn faultless_expressions_are_small()
     ensures loops { (s : Scope) (h : LoopHead) → loop_faults s h ≡ [] → length s.open_loops < 5 }
     ensures extents { (fs : List Formula) → extent_faults 0 fs ≡ [] → All (IsLinear 0) fs }
 {
-    laws::faultless_texts_lie_within_the_limits();
+    faultless_texts_lie_within_the_limits();
 }

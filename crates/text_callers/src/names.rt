@@ -5,7 +5,7 @@ ghost use Rattle.scop_syntax.specs.Tree.{Declaration, Program};
 ghost use Rattle.scop_parser.specs.Names.{IsUnreserved};
 ghost use Rattle.scop_parser.specs.Spelling.{SpellsProgram};
 
-use scop_parser::laws::spelled_names_are_words;
+use scop_parser::spelled_names_are_words;
 
 /// `pp_` does not stand in front of the name of a program that a text spells, by `name` of `spelled_names_are_words`,
 /// nor of an array's, by `arrays`.

@@ -32,7 +32,7 @@ use c_printer::{
     the_functions_of_a_text_round_and_choose, unread_texts_are_of_no_tree,
 };
 use loop_tree::Tree;
-use scop_syntax::tree::Kernel;
+use scop_syntax::Kernel;
 use std::alloc::{AllocError, Global};
 
 /// The text of an empty tree, by the clause of `print`.

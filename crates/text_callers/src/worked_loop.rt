@@ -15,7 +15,7 @@ ghost use Rattle.scop_units.specs.Units.{statement_of, stored_faults};
 ghost use Rattle.scop_arithmetic.specs.Arithmetic.{cell, cells_in, cells_read, full, stored, whole, word};
 ghost use Rattle.text_callers.specs.Worked.{below_seven, head, i, odd, odd_cell, product, sum};
 
-use scop_arithmetic::laws;
+use scop_arithmetic::{accesses_are_cells, faultless_texts_lie_within_the_limits, forms_are_whole_numbers, loops_count_as_they_say, statements_store_words, tests_hold_where_conditions_do, texts_within_the_limits_have_no_fault, values_are_words};
 
 /// At each i the form of `2 * i + 1` has its whole number, by `value` of `forms_are_whole_numbers`; the comparisons of
 /// `i < 7` hold exactly where i is below 7, by the clause of `tests_hold_where_conditions_do`; `A[2 * i + 1]` is the cell
@@ -26,9 +26,9 @@ pub fn parts_of_a_worked_loop()
     ensures access { (x : ℤ) → cell_of (access 1 odd_cell) (x ∷ [])
         ≡ record { array = 0; subscripts = ((pos 2 *ℤ x) +ℤ pos 1) ∷ [] } }
 {
-    laws::forms_are_whole_numbers();
-    laws::tests_hold_where_conditions_do();
-    laws::accesses_are_cells();
+    forms_are_whole_numbers();
+    tests_hold_where_conditions_do();
+    accesses_are_cells();
 }
 
 /// `i * A[i]` reads `A[i]`, by `reads` of `values_are_words`, and is its word, by `value`.
@@ -38,7 +38,7 @@ pub fn value_of_a_worked_statement()
     ensures value { (x : ℤ) (held : Cell → ℕ) → value_on (expression 1 product) (x ∷ [])
         (map held (cells_in (x ∷ []) product)) ≡ word held (x ∷ []) product }
 {
-    laws::values_are_words();
+    values_are_words();
 }
 
 /// `A[2 * i + 1] += i * A[i]` stores to `A[2 * i + 1]`, by `place` of `statements_store_words`, of which it reads the
@@ -51,7 +51,7 @@ pub fn a_worked_statement()
         (map held (cells_read sum.assign (cell (x ∷ []) odd_cell) (cells_in (x ∷ []) product)))
         ≡ stored full full sum.assign (held (cell (x ∷ []) odd_cell)) (word held (x ∷ []) product) }
 {
-    laws::statements_store_words();
+    statements_store_words();
 }
 
 /// The loop begins with 0, by `first` of `loops_count_as_they_say`, goes on by 1, by `next`, and its condition holds
@@ -63,7 +63,7 @@ pub fn turns_of_a_worked_loop()
     ensures condition { (x : ℤ) → (pos 0 ≤ℤ condition_at (loop_of no_scope head) [] x)
         ↔ (whole (turn_point (loop_of no_scope head) [] x) i <ℤ pos 7) }
 {
-    laws::loops_count_as_they_say();
+    loops_count_as_they_say();
 }
 
 /// What has no fault there lies within the limits, by `affine`, `condition`, `place`, `value`, `statement` and `loops` of
@@ -77,6 +77,6 @@ pub fn a_worked_loop_has_no_fault()
     ensures statement { stored_faults 1 sum ≡ [] }
     ensures loops { loop_faults no_scope head ≡ [] }
 {
-    laws::faultless_texts_lie_within_the_limits();
-    laws::texts_within_the_limits_have_no_fault();
+    faultless_texts_lie_within_the_limits();
+    texts_within_the_limits_have_no_fault();
 }

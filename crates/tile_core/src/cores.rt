@@ -11,7 +11,7 @@ use crate::plan_laws::plans_are_good;
 use crate::worker::idle_workers;
 use std::alloc::{AllocError, Global};
 use std::mem;
-use tile_events::core_laws::{all_interleavings_agree, events_keep_count};
+use tile_events::{all_interleavings_agree, events_keep_count};
 
 /// An event with the worker whose event it is.
 #[derive(Clone, Copy)]

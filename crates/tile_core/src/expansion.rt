@@ -14,7 +14,7 @@ ghost use Rattle.tile_core.specs.Ranks.{sizes_of, start_at};
 
 use expansions::{Sources, places_of_visits};
 use loop_tree::Tree;
-use scop_syntax::tree::Kernel;
+use scop_syntax::Kernel;
 use std::alloc::{AllocError, Global};
 use tile_list::{Tile, TileList};
 

@@ -10,7 +10,7 @@ ghost use Rattle.tile_core.specs.steps.Acts.{after_instances, after_place};
 ghost use Rattle.tile_core.specs.steps.Joins.{AreJoinedFrom, AreWithin, IsJoinedAt, StandJoined};
 ghost use Rattle.whole_numbers.specs.Lists.{sums};
 
-use tile_table::join::JoinLanes;
+use tile_table::JoinLanes;
 
 /// Does the instance at which the lanes of a join stand, and takes them one step on.
 #[inline]

@@ -11,12 +11,10 @@ ghost use Rattle.tile_core.specs.Plans.{HaveRoom, IsPlan, place_of, places_in, s
 use crate::expansion::Expansion;
 use crate::plan_laws::{rows_tell_instances, walks_are_dealt};
 use loop_tree::Tree;
-use scop_syntax::instance::Instance;
-use scop_syntax::tree::Kernel;
+use scop_syntax::{Instance, Kernel};
 use tile_edges::TileEdges;
 use tile_list::{Tile, TileList};
-use tile_table::desk::Desk;
-use tile_table::table::{Row, Table};
+use tile_table::{Desk, Row, Table};
 
 /// A kernel with its parameters, the table of its statements, the tree of a plan of it, and the tiles of its visits. Where
 /// it has the pairs of these of which one waits for the other, a tile is opened once all that lead to it have released

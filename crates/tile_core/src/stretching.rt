@@ -18,8 +18,7 @@ use crate::joining::do_joins;
 use crate::plan::Plan;
 use crate::plan_laws::rows_tell_instances;
 use crate::worker::Worker;
-use tile_table::desk::Desk;
-use tile_table::table::Row;
+use tile_table::{Desk, Row};
 
 /// What a cell holds that held `old`, after the value was added or stored.
 #[inline]

@@ -5,7 +5,7 @@ use crate::worker::Stage;
 use atomic_table::TableRule;
 use std::alloc::Global;
 use std::collections::LinkedList;
-use tile_events::clock::Clock;
+use tile_events::Clock;
 
 /// The plan, the cells at first, and how many workers there are.
 #[derive(Drop)]

@@ -13,8 +13,7 @@ use crate::plan_laws::rows_tell_instances;
 use crate::stretching::{do_ahead, do_laid};
 use crate::worker::Worker;
 use loop_tree::Stretch;
-use tile_table::desk::Desk;
-use tile_table::table::Table;
+use tile_table::{Desk, Table};
 
 /// Lays a desk for what a strand gives first.
 fn lay_strand(table: &Table, strand: &Stretch, desk: &mut Desk)

@@ -5,9 +5,9 @@ use crate::plan::Plan;
 use crate::view::{Key, View, WordRule};
 use crate::worker::{Stage, Worker};
 use atomic_table::{Seat, Table};
-use scop_syntax::instance::Instance;
+use scop_syntax::Instance;
 use std::alloc::Global;
-use tile_list::laws::tiles_stand_one_behind_another;
+use tile_list::tiles_stand_one_behind_another;
 
 /// The plan, and the table of all words: the count of claims, the count of finished tiles, the cells, and behind these a
 /// counter for each tile where tiles are released one by one.

@@ -20,13 +20,10 @@ use crate::plan::Plan;
 use crate::plan_laws::plans_are_good;
 use arrayvec::ArrayVec;
 use loop_tree::{Spot, Stretch};
-use scop_syntax::instance::Instance;
-use scop_syntax::limits::MOST_READS;
+use scop_syntax::{Instance, MOST_READS};
 use std::alloc::{AllocError, Global};
-use tile_list::laws::tiles_stand_one_behind_another;
-use tile_list::rounds_left;
-use tile_table::desk::Desk;
-use tile_table::table::Table;
+use tile_list::{rounds_left, tiles_stand_one_behind_another};
+use tile_table::{Desk, Table};
 
 /// It holds no tile; or it saw the claims run out; or it holds a tile that is not opened; or it works in an opened
 /// tile, of which so many instances are done.

@@ -18,7 +18,7 @@ ghost use Rattle.tile_edges.specs.steps.Finding.{TilesRise, comes_before};
 
 use crate::stretching::likely_ahead;
 use loop_tree::{Stretch, TileRow, Tiling};
-use scop_syntax::instance::Instance;
+use scop_syntax::Instance;
 use std::alloc::{AllocError, Global};
 use std::cmp::Ordering;
 use tile_list::{Tile, TileList, after, band_at, coordinate, leading_at};

@@ -12,7 +12,7 @@ ghost use Rattle.tile_edges.specs.Counting.{HasEdges, HasMoreEdges, IsReleaseOf}
 ghost use Rattle.tile_edges.specs.Edges.{AreEdgesOf, AreTooMany};
 ghost use Rattle.tile_edges.specs.declared.waiting.TileEdges.{TileEdges};
 
-use tile_events::release_laws::pairs_make_plans;
+use tile_events::pairs_make_plans;
 
 /// The pairs of numbers that are given for a list of tiles are as many as there are pairs of tiles of which the second
 /// waits for the first; where there are too many of the ones, so there are of the others.

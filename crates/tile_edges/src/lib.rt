@@ -5,7 +5,7 @@
 #![tactic(auto)]
 
 mod finding;
-pub mod laws;
+mod laws;
 mod pairing;
 mod rows;
 mod stretching;
@@ -13,4 +13,5 @@ mod touching;
 mod waiting;
 mod walking;
 
+pub use laws::{edges_are_counted, kept_orders_have_no_edges};
 pub use waiting::{EdgesStop, TileEdges, edges};

@@ -7,7 +7,7 @@ ghost use Rattle.tile_list.specs.Tiles.{HasSize};
 ghost use Rattle.tile_edges.specs.steps.Ahead.{left_on};
 
 use loop_tree::{Stretch, TileRow, Tiling};
-use scop_syntax::affine_values::value_at;
+use scop_syntax::value_at;
 use tile_list::{after, band_at};
 
 /// How far a number stands above the next multiple of the size below it.

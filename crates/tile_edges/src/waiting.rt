@@ -17,13 +17,11 @@ ghost use Rattle.tile_edges.specs.declared.waiting.EdgesStop.TheVariants.{TooMan
 use crate::rows::rows_of;
 use crate::walking::{MOST_EDGES, pairs_of};
 use loop_tree::{Tiling, Tree};
-use scop_syntax::execution_laws::cells_have_numbers_of_their_own;
-use scop_syntax::tree::Kernel;
+use scop_syntax::{Kernel, cells_have_numbers_of_their_own};
 use std::alloc::{AllocError, Global};
-use tile_events::flat_laws::covers_are_those_of_the_walk;
-use tile_events::release_laws::pairs_make_plans;
+use tile_events::{covers_are_those_of_the_walk, pairs_make_plans};
 use tile_list::TileList;
-use tile_table::table::Table;
+use tile_table::Table;
 
 /// The pairs in compressed rows: tile `t` is waited for by the tiles `targets[starts[t]..starts[t + 1]]`, in rising order;
 /// tile `u` waits for `needs[u]` tiles.

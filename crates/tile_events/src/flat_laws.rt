@@ -11,7 +11,7 @@ ghost use Rattle.scop_syntax.specs.Reductions.{AreMarked, is_marked, loads};
 ghost use Rattle.tile_events.specs.Flat.{IsWalk, flat};
 ghost use Rattle.tile_events.specs.Plan.{Plan, Touch, before, values_read, words_of};
 
-use scop_syntax::execution_laws::cells_have_numbers_of_their_own;
+use scop_syntax::cells_have_numbers_of_their_own;
 
 /// The values that a place loads and the cells at the end are those of the walk's execution, the row of the arrays
 /// holds what they hold, and places that touch are in conflict, on an array that is not marked.

@@ -24,7 +24,7 @@ use crate::list::{Tile, TileList};
 use crate::offsets::offsets_of;
 use crate::place::Front;
 use loop_tree::{Braid, Passed, Spot, Stretch, Tiling, Tree};
-use scop_syntax::instance::Instance;
+use scop_syntax::Instance;
 use std::alloc::{AllocError, Global};
 use std::mem;
 

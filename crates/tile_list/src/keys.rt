@@ -17,9 +17,7 @@ ghost use Rattle.tile_list.specs.Stretches.{instance_at, steps_on};
 ghost use Rattle.tile_list.specs.steps.Stretching.{AllHaveKey, AllRowsFit};
 
 use loop_tree::{Stretch, TileItems, TileRow, Tiling};
-use scop_syntax::affine_values::{exact_at, with_product};
-use scop_syntax::instance::Instance;
-use scop_syntax::limits::MOST_LOOPS;
+use scop_syntax::{Instance, MOST_LOOPS, exact_at, with_product};
 use std::alloc::{AllocError, Global};
 
 /// An instance's wave and its tile: the leading scalars of its statement, the sum of the coordinates of the rows that

@@ -2,7 +2,7 @@
 ghost use Rattle.std.specs.Prelude.{◌≡◌, ◌-◌, length};
 
 use crate::place::Place;
-use scop_syntax::instance::Instance;
+use scop_syntax::Instance;
 
 /// A tile: its first instance, its place in the tree's visits, the number of its wave, and how many instances it has.
 #[derive(Drop)]

@@ -8,7 +8,7 @@ ghost use Rattle.tile_list.specs.TilesView.{IsPlaceOf, to_come_at};
 ghost use Rattle.tile_list.specs.steps.Placing.{HasCome, IsPlaceBehind};
 
 use loop_tree::{Spot, Step, Tree};
-use scop_syntax::instance::Instance;
+use scop_syntax::Instance;
 use std::alloc::{AllocError, Global};
 
 /// The steps of the place in front of a tile's first instance, or the spot behind that one, where no steps say it.

@@ -10,7 +10,7 @@ ghost use Rattle.tile_core.specs.declared.worker.Stage.TheVariants.{Working};
 use crate::copies::do_copied;
 use crate::rounds::do_rounds;
 use crate::stretches::do_along;
-use tile_core::words::{Pass, Words};
+use tile_core::{Pass, Words};
 
 /// Does so many of the instances that a pass has ahead along a stretch.
 #[inline]

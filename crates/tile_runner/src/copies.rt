@@ -7,8 +7,8 @@ ghost use Rattle.tile_core.specs.Workers.{HasNoneDue, IsDue};
 ghost use Rattle.tile_core.specs.declared.worker.Stage.TheVariants.{Working};
 
 use array_words::{load, store};
-use scop_syntax::instance::Instance;
-use tile_core::words::{Pass, Words};
+use scop_syntax::Instance;
+use tile_core::{Pass, Words};
 
 /// Loads what the next instance of a pass reads, in turn.
 fn load_all(words: &Words, pass: &mut Pass, instance: &Instance)

@@ -14,12 +14,8 @@ ghost use Rattle.tile_runner.specs.steps.Laid.{AreJoined};
 use crate::stretches::first_steps;
 use array_words::{load_at, store_at};
 use atomic_table::Seat;
-use tile_core::plan::Plan;
-use tile_core::plan_laws::{rows_tell_instances, walks_are_dealt};
-use tile_core::view::View;
-use tile_core::words::Words;
-use tile_core::worker::Worker;
-use tile_table::join::JoinLanes;
+use tile_core::{Plan, View, Words, Worker, rows_tell_instances, walks_are_dealt};
+use tile_table::JoinLanes;
 
 /// The lanes of the next instance's row, to go on by the steps of the stretch that the worker has ahead, where its code
 /// is a join.

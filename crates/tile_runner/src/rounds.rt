@@ -12,10 +12,7 @@ ghost use Rattle.tile_runner.specs.steps.Laid.{AreStrandsNext};
 
 use crate::stretches::do_laid;
 use atomic_table::Seat;
-use tile_core::plan_laws::rows_tell_instances;
-use tile_core::view::View;
-use tile_core::words::Words;
-use tile_core::worker::Worker;
+use tile_core::{View, Words, Worker, rows_tell_instances};
 
 /// Does what each strand of the worker's braid gives in a round, in turn, by the steps of the seat, and takes the strand's
 /// desk to the next round. Of the worker nothing but its desks changes.

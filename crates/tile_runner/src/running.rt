@@ -14,9 +14,7 @@ use std::alloc::{AllocError, Global};
 use std::sync::Wait;
 use std::thread;
 use std::thread::Threads;
-use tile_core::plan::Plan;
-use tile_core::plan_laws::{plans_are_good, plans_execute_the_kernel};
-use tile_core::words::{Pass, Words};
+use tile_core::{Pass, Plan, Words, plans_are_good, plans_execute_the_kernel};
 
 /// Runs every pass, on at most so many threads.
 fn work_all<R: Threads + Wait + Sync, G: Gate>(

@@ -17,14 +17,9 @@ ghost use Rattle.tile_runner.specs.steps.Laid.{AreOnDesk};
 use crate::joins::{do_joins, lay_join};
 use array_words::{add_at, load_at, store_at};
 use atomic_table::Seat;
-use scop_syntax::limits::MOST_LOOPS;
-use tile_core::plan::Plan;
-use tile_core::plan_laws::{rows_tell_instances, walks_are_dealt};
-use tile_core::view::View;
-use tile_core::words::Words;
-use tile_core::worker::Worker;
-use tile_table::desk::Desk;
-use tile_table::table::Row;
+use scop_syntax::MOST_LOOPS;
+use tile_core::{Plan, View, Words, Worker, rows_tell_instances, walks_are_dealt};
+use tile_table::{Desk, Row};
 
 /// The first steps.
 pub(crate) fn first_steps(steps: &[i64; MOST_LOOPS], loops: usize) -> &[i64]

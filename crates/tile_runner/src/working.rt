@@ -8,7 +8,7 @@ use io_ports::Gate;
 use std::sync::Wait;
 use std::thread;
 use tile_claims::claim;
-use tile_core::words::{Pass, Words};
+use tile_core::{Pass, Words};
 use wave_barrier::{finish, release, try_open, try_open_tile};
 
 /// Does every instance of the tile that was opened. It takes no memory and waits for nobody.

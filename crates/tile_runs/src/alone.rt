@@ -7,10 +7,7 @@ ghost use Rattle.tile_core.specs.Plans.{IsPlan, walk_shape};
 ghost use Rattle.tile_events.specs.Core.{idle, step as stepped, working};
 ghost use Rattle.tile_runs.specs.steps.Alone.{IsAlone, IsLater, shape_in};
 
-use tile_core::board::{Event, NotEnabled, Seen};
-use tile_core::cores::Core;
-use tile_core::plan::Plan;
-use tile_core::release_laws::opened_tiles_were_released;
+use tile_core::{Core, Event, NotEnabled, Plan, Seen, opened_tiles_were_released};
 
 /// One event of the worker.
 fn act(core: &mut Core, event: Event) -> Result<Seen, NotEnabled>

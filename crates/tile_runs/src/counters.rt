@@ -9,8 +9,7 @@ use crate::settling::settle;
 use crate::workers::Workers;
 use loop_tree::{Spot, Tree};
 use std::alloc::{AllocError, Global};
-use tile_core::plan::Plan;
-use tile_core::plan_laws::walks_are_dealt;
+use tile_core::{Plan, walks_are_dealt};
 
 /// How many copies stand behind the cells of all arrays.
 pub(crate) fn copies_of(plan: &Plan) -> usize

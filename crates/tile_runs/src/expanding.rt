@@ -15,12 +15,12 @@ ghost use Rattle.tile_core.specs.Expansions.{IsExpansionOf};
 use data_text::Case;
 use expansions::{NoSources, Sources, source_places};
 use loop_tree::Tree;
-use planned_trees::laws::trees_of_plans_can_be_walked;
-use scop_syntax::tree::Kernel;
+use planned_trees::trees_of_plans_can_be_walked;
+use scop_syntax::Kernel;
 use std::alloc::{AllocError, Global};
-use tile_core::expansion::Expansion;
+use tile_core::Expansion;
 use tile_list::TileList;
-use tile_table::table::Table;
+use tile_table::Table;
 
 /// Of each read of each place of a kernel's walk the place whose value it takes.
 ///

@@ -22,5 +22,5 @@ pub use workers::{OneWorker, Workers};
 
 // Passed on: what goes with this crate's contracts.
 pub use expansions::{NoSources, Sources};
-pub use tile_core::plan::Plan;
+pub use tile_core::Plan;
 pub use tile_edges::TileEdges;

@@ -18,14 +18,13 @@ ghost use Rattle.tile_list.specs.TilesView.{IsTileListOf};
 
 use data_text::Case;
 use loop_tree::{Tiling, Tree};
-use planned_trees::laws::trees_of_plans_can_be_walked;
-use scop_syntax::tree::Kernel;
+use planned_trees::trees_of_plans_can_be_walked;
+use scop_syntax::Kernel;
 use std::alloc::{AllocError, Global};
-use tile_core::plan::have_room;
-use tile_edges::laws::edges_are_counted;
-use tile_edges::{EdgesStop, TileEdges, edges};
+use tile_core::have_room;
+use tile_edges::{EdgesStop, TileEdges, edges, edges_are_counted};
 use tile_list::TileList;
-use tile_table::table::Table;
+use tile_table::Table;
 
 /// The pairs of tiles, where the instances of each tile and all pairs can be counted; else memory is wanting.
 fn counted(list: &TileList, pairs: TileEdges) -> Result<Option<TileEdges>, AllocError>

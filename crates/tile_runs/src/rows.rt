@@ -4,7 +4,7 @@ ghost use Rattle.std.specs.Prelude.{◌≤◌, ◌^◌, drop, replicate, take};
 ghost use Rattle.tile_events.specs.Flat.{flat};
 ghost use Rattle.tile_runs.specs.steps.Rows.{Begins};
 
-use scop_syntax::arrays::Arrays;
+use scop_syntax::Arrays;
 use std::alloc::{AllocError, Global};
 use std::mem;
 

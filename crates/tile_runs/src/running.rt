@@ -32,16 +32,13 @@ use crate::workers::Workers;
 use data_text::Case;
 use expansions::Sources;
 use loop_tree::{Tiling, Tree};
-use planned_trees::laws::{trees_of_plans_can_be_walked, waves_have_one_length};
-use scop_syntax::arrays::Arrays;
-use scop_syntax::tree::Kernel;
+use planned_trees::{trees_of_plans_can_be_walked, waves_have_one_length};
+use scop_syntax::{Arrays, Kernel};
 use std::alloc::{AllocError, Global};
-use tile_core::expansion::Expansion;
-use tile_core::plan::Plan;
+use tile_core::{Expansion, Plan};
 use tile_edges::TileEdges;
-use tile_list::laws::{orders_rise_by_tile, tiles_are_counted};
-use tile_list::{TileList, tiles};
-use tile_table::table::Table;
+use tile_list::{TileList, orders_rise_by_tile, tiles, tiles_are_counted};
+use tile_table::Table;
 
 /// How many tiles hold an instance, how many waves hold such a tile, and, where tiles were released one by one, how many
 /// pairs there are of which the second waits for the first.

@@ -12,10 +12,8 @@ ghost use Rattle.tile_core.specs.Plans.{IsPlan, extents_in, place_of, places_in,
 ghost use Rattle.tile_runs.specs.Running.{HasArrays, HasCopies};
 
 use loop_tree::{Spot, Tree};
-use scop_syntax::execution_laws::cells_have_numbers_of_their_own;
-use scop_syntax::instance::Instance;
-use scop_syntax::walk_laws::walks_are_in_order;
-use tile_core::plan::Plan;
+use scop_syntax::{Instance, cells_have_numbers_of_their_own, walks_are_in_order};
+use tile_core::Plan;
 
 /// The cell that a walked instance writes in the kernel's own execution, by its number among those of all arrays.
 fn own_cell(plan: &Plan, instance: &Instance) -> usize

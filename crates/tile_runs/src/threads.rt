@@ -5,11 +5,11 @@ ghost use Rattle.tile_runs.specs.Running.{AreExecuted};
 
 use crate::workers::{OneWorker, Workers};
 use io_ports::Gate;
-use scop_syntax::execution_laws::cells_have_numbers_of_their_own;
+use scop_syntax::cells_have_numbers_of_their_own;
 use std::alloc::{AllocError, Global};
 use std::sync::Wait;
 use std::thread::Threads;
-use tile_core::plan::Plan;
+use tile_core::Plan;
 use tile_runner::run_plan;
 
 /// Runs plans by a closure that keeps the promise of `Workers::run`, as one round `run_on_threads`: so code that runs

@@ -4,11 +4,9 @@ ghost use Rattle.tile_core.specs.Plans.{HasRest, IsPlan, shape_of};
 ghost use Rattle.tile_runs.specs.Running.{AreExecuted};
 
 use crate::alone::do_all;
-use scop_syntax::execution_laws::cells_have_numbers_of_their_own;
+use scop_syntax::cells_have_numbers_of_their_own;
 use std::alloc::{AllocError, Global};
-use tile_core::cores::Core;
-use tile_core::plan::Plan;
-use tile_core::plan_laws::plans_execute_the_kernel;
+use tile_core::{Core, Plan, plans_execute_the_kernel};
 
 /// Runs the tiles of plans.
 pub trait Workers {

@@ -12,7 +12,7 @@ ghost use Rattle.tile_skew.specs.steps.Listed.{AreBounds, HasStatement, IsInside
 use affine_forms::push;
 use loop_tree::{TileItem, TileItems, TileRow};
 use schedule_rows::{Band, Item, Part, Row, Schedule, schedules_have_small_items};
-use scop_syntax::tree::Aff;
+use scop_syntax::Aff;
 use std::alloc::{AllocError, Global};
 
 /// A small number in 64 bits.

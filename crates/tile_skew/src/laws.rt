@@ -25,14 +25,12 @@ ghost use Rattle.tile_skew.specs.Places.{place_of};
 ghost use Rattle.tile_skew.specs.ScanSets.{scan_set, scan_sets};
 ghost use Rattle.tile_skew.specs.Tilings.{first_band, form_at, schedule_tiling, statement_items, statements_from};
 
-use iteration_domains::domain_laws::domains_hold_the_instances;
+use iteration_domains::domains_hold_the_instances;
 use null_space::{kernel_vectors_are_kept, rows_take_kernel_vectors};
 use schedule_rows::{
     schedules_are_good_plans, schedules_have_small_items, schedules_of_covers_are_good_plans,
 };
-use scop_syntax::walk_laws::{
-    instances_are_those_of_statements, statements_are_numbered, walks_are_in_order,
-};
+use scop_syntax::{instances_are_those_of_statements, statements_are_numbered, walks_are_in_order};
 
 /// The tiling of a schedule of dependences that hold the covers of a program's walk, but for those on marked arrays, is
 /// a good plan but for these, for any size of tiles: two places that conflict on another array lie in one tile, the

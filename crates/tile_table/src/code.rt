@@ -17,11 +17,8 @@ ghost use Rattle.tile_table.specs.steps.Codes.{MakesStored, MakesValue};
 use crate::forms::form_over;
 use crate::lane::Lane;
 use crate::loads::load_count;
-use scop_meaning::operators::{
-    combined, complemented, narrowed, negated, shifted_left, shifted_right,
-};
-use scop_syntax::limits::MOST_LOOPS;
-use scop_syntax::tree::{Aff, Expr, Loop, Operator, Right, Stmt};
+use scop_meaning::{combined, complemented, narrowed, negated, shifted_left, shifted_right};
+use scop_syntax::{Aff, Expr, Loop, Operator, Right, Stmt, MOST_LOOPS};
 use std::alloc::{AllocError, Global};
 
 /// What makes a value of one other.

@@ -13,7 +13,7 @@ ghost use Rattle.tile_table.specs.Desks.{HasRoom, HasRoomForAll, HasSameRoom, Is
 
 use crate::lane::{Lane, go_on_all, lay_all};
 use crate::table::{Row, Table};
-use scop_syntax::instance::Instance;
+use scop_syntax::Instance;
 use std::alloc::{AllocError, Global};
 
 /// Room for one statement's instances: the lanes of its cells, the place first, then the reads, those of its affine

@@ -14,10 +14,8 @@ ghost use Rattle.tile_table.specs.steps.Forms.{IsFormOver, TellsNumber, number_f
 
 use crate::numbers::number_behind;
 use crate::points::point_in;
-use scop_meaning::accesses::cells_before;
-use scop_syntax::arrays::Extents;
-use scop_syntax::limits::MOST_LOOPS;
-use scop_syntax::tree::{Access, Aff, Loop};
+use scop_meaning::cells_before;
+use scop_syntax::{Access, Aff, Extents, Loop, MOST_LOOPS};
 use std::alloc::{AllocError, Global};
 use std::slice;
 

@@ -9,8 +9,8 @@ ghost use Rattle.tile_table.specs.declared.table.Row.{Row as AnyRow};
 use crate::code::{Code, Step};
 use crate::lane::Lane;
 use crate::table::Row;
-use scop_meaning::operators::combined;
-use scop_syntax::tree::Operator;
+use scop_meaning::combined;
+use scop_syntax::Operator;
 
 /// `(x inner y) outer z`, or else `x outer (y inner z)`.
 #[derive(Clone, Copy)]

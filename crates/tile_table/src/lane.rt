@@ -6,8 +6,7 @@ ghost use Rattle.whole_numbers.specs.Affine.{Affine};
 ghost use Rattle.whole_numbers.specs.Lists.{sums};
 ghost use Rattle.tile_table.specs.Lanes.{AreLanes, IsLane};
 
-use scop_syntax::affine_values::{value_at, wrapped_at};
-use scop_syntax::tree::Aff;
+use scop_syntax::{Aff, value_at, wrapped_at};
 
 /// A number that goes on by equal steps, modulo 2^64.
 #[derive(Clone, Copy)]

@@ -7,12 +7,18 @@
 //! the codes make what the statements store, and that a desk stands at both, instance after instance.
 #![tactic(auto)]
 
-pub mod code;
-pub mod desk;
+mod code;
+mod desk;
 mod forms;
-pub mod join;
-pub mod lane;
+mod join;
+mod lane;
 mod loads;
 mod numbers;
 mod points;
-pub mod table;
+mod table;
+
+pub use code::{Change, Code, Step};
+pub use desk::Desk;
+pub use join::{Join, JoinLanes};
+pub use lane::Lane;
+pub use table::{Row, Table};

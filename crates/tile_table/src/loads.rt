@@ -7,9 +7,7 @@ ghost use Rattle.scop_syntax.specs.View.{statement_of};
 ghost use Rattle.tile_table.specs.Codes.{loaded};
 ghost use Rattle.tile_table.specs.Tables.{touched};
 
-use scop_syntax::accesses::{access_at, read_count};
-use scop_syntax::marks::is_marked;
-use scop_syntax::tree::{Access, Stmt};
+use scop_syntax::{Access, Stmt, access_at, is_marked, read_count};
 
 /// Whether the statement adds to its place, where these arrays are marked.
 pub(crate) fn adds_to_place(marked: &[usize], statement: &Stmt) -> bool

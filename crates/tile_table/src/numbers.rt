@@ -4,8 +4,7 @@ ghost use Rattle.std.specs.Int.{int_wrap, w64};
 ghost use Rattle.scop_syntax.specs.Cells.{values};
 ghost use Rattle.tile_table.specs.Numbers.{number_behind as exact_number, row_major};
 
-use scop_syntax::affine_values::{value_at, with_product};
-use scop_syntax::tree::Aff;
+use scop_syntax::{Aff, value_at, with_product};
 
 /// The row-major offset of these subscripts at `point`, in an array with these extents.
 fn offset_at(extents: &[u64], subscripts: &[Aff], point: &[i64]) -> i64

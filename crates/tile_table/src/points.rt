@@ -4,8 +4,8 @@ ghost use Rattle.scop_syntax.specs.declared.limits.TheConstants.{MOST_ENTRIES};
 ghost use Rattle.tile_table.specs.Points.{point_in as exact_point};
 ghost use Rattle.tile_table.specs.steps.Same.{AreSame};
 
-use scop_meaning::loops::{Point, enter_at, point_at};
-use scop_syntax::tree::Loop;
+use scop_meaning::{Point, enter_at, point_at};
+use scop_syntax::Loop;
 
 /// The point within these turns of `heads`, outermost first, where the parameters are `params`.
 pub(crate) fn point_in(heads: &[&Loop], params: &[i64], turns: &[i64]) -> Point

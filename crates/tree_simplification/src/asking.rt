@@ -20,7 +20,7 @@ use affine_forms::{Form, copies, push};
 use integer_sets::System;
 use loop_tree::{Bound, Test};
 use pip_solver::{Stop, is_empty};
-use scop_syntax::tree::Aff;
+use scop_syntax::Aff;
 use std::alloc::{AllocError, Global};
 
 /// Whether a system is found to have no point with dimensions from 0 on and parameters in 0..=65536.

@@ -6,7 +6,7 @@ ghost use Rattle.tree_simplification.specs.steps.Context.{parts};
 
 use affine_forms::push;
 use loop_tree::{Bound, Bounds, Leaf, Test};
-use scop_syntax::tree::Aff;
+use scop_syntax::Aff;
 use std::alloc::{AllocError, Global};
 
 /// The same form again.

@@ -11,7 +11,7 @@ ghost use Rattle.tree_simplification.specs.steps.Context.{test_rows, tests_rows}
 use affine_forms::{Form, push, push_widened};
 use iteration_domains::form_from;
 use loop_tree::{Bound, Test};
-use scop_syntax::tree::Aff;
+use scop_syntax::Aff;
 use std::alloc::{AllocError, Global};
 
 /// The number or its opposite.

@@ -9,10 +9,8 @@ ghost use Rattle.tile_events.specs.Rule.{gate_word};
 ghost use Rattle.wave_barrier.specs.Opens.{DoesOpenBy, DoesOpenTile, IsHolding};
 
 use crate::opening::{Opening, needed};
-use tile_core::view::View;
-use tile_core::words::{Pass, Words};
-use tile_core::worker::Stage;
-use tile_events::table_laws::events_are_allowed;
+use tile_core::{Pass, Stage, View, Words};
+use tile_events::events_are_allowed;
 
 /// So many tiles had released this one, and so many have to.
 #[derive(Clone, Copy)]

@@ -5,10 +5,8 @@ ghost use Rattle.tile_core.specs.declared.worker.Stage.TheVariants.{Idle};
 ghost use Rattle.wave_barrier.specs.Finishes.{DoesFinish, IsFull};
 
 use atomic_table::Play;
-use tile_core::view::View;
-use tile_core::words::{Pass, Words};
-use tile_core::worker::Stage;
-use tile_events::table_laws::events_are_allowed;
+use tile_core::{Pass, Stage, View, Words};
+use tile_events::events_are_allowed;
 
 /// What the end of a tile tells its pass.
 pub struct Finishing;

@@ -8,10 +8,8 @@ ghost use Rattle.tile_events.specs.Core.{needed_by};
 ghost use Rattle.wave_barrier.specs.Opens.{DoesOpen, IsHolding};
 
 use atomic_table::Play;
-use tile_core::view::View;
-use tile_core::words::{Pass, Words};
-use tile_core::worker::Stage;
-use tile_events::table_laws::events_are_allowed;
+use tile_core::{Pass, Stage, View, Words};
+use tile_events::events_are_allowed;
 
 /// What an opening tells its pass.
 pub struct Opening;

@@ -7,9 +7,8 @@ ghost use Rattle.wave_barrier.specs.Releases.{DoesAdd, DoesRelease, IsLeft, next
 
 use crate::counting::counter_word;
 use atomic_table::Play;
-use tile_core::view::View;
-use tile_core::words::{Pass, Words};
-use tile_events::table_laws::events_are_allowed;
+use tile_core::{Pass, View, Words};
+use tile_events::events_are_allowed;
 
 /// What a release tells its pass.
 pub struct Releasing;

@@ -16,7 +16,7 @@ use crate::single::numbers::{Stop, composed, composition};
 use crate::single::rounding::{rounded, rounded_at_least, rounded_equal};
 use affine_forms::{Form, push};
 use loop_tree::{Bound, Bounds, Leaf, Test};
-use scop_syntax::tree::Aff;
+use scop_syntax::Aff;
 use std::alloc::Global;
 use wide_math::remainder;
 

@@ -7,7 +7,7 @@ ghost use Rattle.tree_simplification.specs.declared.single.numbers.Stop.TheVaria
 
 use affine_forms::{Form, FormStop, push};
 use iteration_domains::wide_form;
-use scop_syntax::tree::Aff;
+use scop_syntax::Aff;
 use std::alloc::{AllocError, Global};
 
 /// Why a tree is not made: a number would pass 2^45, or there is no memory.

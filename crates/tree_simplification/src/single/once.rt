@@ -16,7 +16,7 @@ use crate::single::rounding::rounded_at_least;
 use affine_forms::{Form, FormStop};
 use iteration_domains::wide_form;
 use loop_tree::{Bound, Bounds, Test};
-use scop_syntax::tree::Aff;
+use scop_syntax::Aff;
 use std::alloc::{AllocError, Global};
 
 /// Whether two lists have the same numbers.

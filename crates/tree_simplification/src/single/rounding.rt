@@ -12,7 +12,7 @@ ghost use Rattle.tree_simplification.specs.steps.Rounded.{rounded_test};
 use crate::single::numbers::{Stop, narrow, narrow_number, narrow_numbers};
 use affine_forms::{Form, content, divide_row};
 use loop_tree::{Bound, Test};
-use scop_syntax::tree::Aff;
+use scop_syntax::Aff;
 use std::alloc::Global;
 
 /// A number over another, rounded down.

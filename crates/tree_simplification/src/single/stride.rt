@@ -16,7 +16,7 @@ use crate::single::place::Place;
 use affine_forms::{Form, push};
 use iteration_domains::term_form;
 use loop_tree::{Bound, Bounds, Loop};
-use scop_syntax::tree::Aff;
+use scop_syntax::Aff;
 use std::alloc::{AllocError, Global};
 
 /// The greatest number of a tree that is simplified.
