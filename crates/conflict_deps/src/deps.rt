@@ -15,7 +15,9 @@ use crate::forms::{
 };
 use crate::pair::Pair;
 use integer_sets::System;
-use iteration_domains::{AccessForms, Dep, DepEnd, Form, Model, StatementModel, push, push_variables};
+use iteration_domains::{
+    AccessForms, Dep, DepEnd, Form, Model, StatementModel, push, push_variables,
+};
 use scop_syntax::is_marked;
 use std::alloc::{AllocError, Global};
 

@@ -6,7 +6,9 @@ ghost use Rattle.iteration_domains.specs.Sizes.{IsNarrow};
 ghost use Rattle.conflict_deps.specs.Conflicts.{difference_of_forms, equal_turns, one_form, same_subscripts};
 ghost use Rattle.conflict_deps.specs.Conflicts.{source_form, spread, step, target_form};
 
-use iteration_domains::{Form, Numbers, constant_form, form_from, plus_multiple, push, push_zeros, variable_form};
+use iteration_domains::{
+    Form, Numbers, constant_form, form_from, plus_multiple, push, push_zeros, variable_form,
+};
 use std::alloc::{AllocError, Global};
 
 /// The coefficients of a form of the source, which has `loops` turns, where the target has `others`.

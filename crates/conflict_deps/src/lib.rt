@@ -14,6 +14,8 @@ mod source_laws;
 mod worked_rows;
 
 pub use conflict_laws::{conflicts_are_the_points_of_the_systems, systems_have_parts};
-pub use source_laws::{earlier_writers_are_points, last_writers_are_last_points, later_writers_are_points};
 pub use deps::{AccessOf, conflicts, conflicts_without};
 pub use forms::{push_sources, push_subscripts, push_targets};
+pub use source_laws::{
+    earlier_writers_are_points, last_writers_are_last_points, later_writers_are_points,
+};

@@ -10,7 +10,10 @@ ghost use Rattle.scop_syntax.specs.Writers.{last_writer};
 ghost use Rattle.iteration_domains.specs.Dependence.{Dependence};
 ghost use Rattle.conflict_deps.specs.Pairs.{IsEnd, IsPoint, TouchesAt, WritesBefore, WritesBehind};
 
-use scop_syntax::{instances_are_those_of_statements, last_writers_are_greatest_places, statements_are_numbered, walks_are_in_order};
+use scop_syntax::{
+    instances_are_those_of_statements, last_writers_are_greatest_places, statements_are_numbered,
+    walks_are_in_order,
+};
 
 /// The earlier writers of the cell that an access touches are exactly the points of the systems from written places to
 /// that access; the last of them in the order of the walk is the read's source.

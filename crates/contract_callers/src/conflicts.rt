@@ -14,7 +14,10 @@ ghost use Rattle.conflict_deps.specs.Conflicts.{After, Side, conflicts_of, confl
 ghost use Rattle.conflict_deps.specs.Pairs.{IsEnd, IsPair, IsPoint, TouchesAt, WritesBefore};
 ghost use Rattle.conflict_deps.specs.Pairs.{WritesBehind};
 
-use conflict_deps::{conflicts, conflicts_are_the_points_of_the_systems, earlier_writers_are_points, last_writers_are_last_points, later_writers_are_points, systems_have_parts};
+use conflict_deps::{
+    conflicts, conflicts_are_the_points_of_the_systems, earlier_writers_are_points,
+    last_writers_are_last_points, later_writers_are_points, systems_have_parts,
+};
 use iteration_domains::{Dep, Model};
 use std::alloc::{AllocError, Global};
 

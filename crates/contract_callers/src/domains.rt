@@ -13,7 +13,9 @@ ghost use Rattle.iteration_domains.specs.Instances.{IsInstanceOf};
 ghost use Rattle.iteration_domains.specs.Model.{Modelled, model_of};
 ghost use Rattle.iteration_domains.specs.Outside.{Asks, FailsAt, Side, outside_systems};
 
-use iteration_domains::{Model, accesses_touch_the_cells, domains_hold_the_instances, outside_points_are_failures};
+use iteration_domains::{
+    Model, accesses_touch_the_cells, domains_hold_the_instances, outside_points_are_failures,
+};
 use scop_syntax::Kernel;
 use std::alloc::{AllocError, Global};
 

@@ -13,7 +13,9 @@ ghost use Rattle.scop_grammar.specs.Turns.{behind};
 ghost use Rattle.contract_callers.specs.Worked.{bare};
 
 use scop_expressions::{expressions_are_read, tokens_spell_one_tree};
-use scop_grammar::{answers_tell_the_grammar, kernels_are_read, pieces_are_added_behind, tokens_spell_one_kernel};
+use scop_grammar::{
+    answers_tell_the_grammar, kernels_are_read, pieces_are_added_behind, tokens_spell_one_kernel,
+};
 
 /// A name is read as its one node, by the clause of `expressions_are_read`, and spells no other tree, by that of
 /// `tokens_spell_one_tree`.

@@ -20,7 +20,14 @@ ghost use Rattle.scop_syntax.specs.Widths.{HoldTypes, HoldWidths};
 ghost use Rattle.scop_syntax.specs.Writers.{last_writer, left_by, next_of, next_writer, writes};
 ghost use Rattle.conflict_deps.specs.Examples.{two};
 
-use scop_syntax::{accesses_have_the_ranks_of_arrays, cells_have_numbers_of_their_own, cells_hold_numbers_of_their_types, cells_hold_the_last_write, cells_lie_within_22_bits, conflicts_are_chains_of_covers, executions_go_along_the_places, failures_are_the_first, loops_walk_while_their_condition_holds, marks_are_the_reduced_arrays, narrow_cells_stay_narrow, next_writers_are_least_places, values_lie_within_45_bits, values_stay_below_2_64, walks_are_acts, writers_conflict};
+use scop_syntax::{
+    accesses_have_the_ranks_of_arrays, cells_have_numbers_of_their_own,
+    cells_hold_numbers_of_their_types, cells_hold_the_last_write, cells_lie_within_22_bits,
+    conflicts_are_chains_of_covers, executions_go_along_the_places, failures_are_the_first,
+    loops_walk_while_their_condition_holds, marks_are_the_reduced_arrays, narrow_cells_stay_narrow,
+    next_writers_are_least_places, values_lie_within_45_bits, values_stay_below_2_64,
+    walks_are_acts, writers_conflict,
+};
 
 /// The condition of the loop falls, by `falls` of `loops_walk_while_their_condition_holds`; a condition that falls
 /// fails at some turn, by `ends`; one that holds at two turns has two, by `turns`.

@@ -22,7 +22,10 @@ ghost use Rattle.dataflow.specs.declared.source.ReadSource.{ReadSource};
 
 use conflict_deps::conflicts_are_the_points_of_the_systems;
 use quast_trees::{answers_are_live_leaves, bound_quotients_are_not_negative};
-use scop_syntax::{instances_are_those_of_statements, statements_are_numbered, values_lie_within_45_bits, walks_are_in_order};
+use scop_syntax::{
+    instances_are_those_of_statements, statements_are_numbered, values_lie_within_45_bits,
+    walks_are_in_order,
+};
 
 /// Each of them lies between two statements of the model, with their numbers of loops, and is over its parameters.
 pub fn covers_lie_between_statements()

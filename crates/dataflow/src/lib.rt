@@ -20,12 +20,18 @@ mod reads;
 mod source;
 mod source_laws;
 
-pub use cover_laws::{covering_points_are_covers, covers_are_held, covers_lie_between_statements, flow_holds_the_sources, flow_lies_between_statements, flow_points_are_the_sources};
-pub use source_laws::{joins_are_the_writers, minima_are_maxima, minima_are_the_writers, resolved_reads_have_their_writers, sources_are_told};
+pub use cover_laws::{
+    covering_points_are_covers, covers_are_held, covers_lie_between_statements,
+    flow_holds_the_sources, flow_lies_between_statements, flow_points_are_the_sources,
+};
 pub use covers::covering;
 pub use flow_deps::flow;
 pub use reads::{last_writes, next_writes};
 pub use source::{ReadSource, SourceStop};
+pub use source_laws::{
+    joins_are_the_writers, minima_are_maxima, minima_are_the_writers,
+    resolved_reads_have_their_writers, sources_are_told,
+};
 
 // Passed on: what goes with this crate's contracts.
 pub use pip_solver::Stop;

@@ -30,7 +30,10 @@ ghost use Rattle.dataflow.specs.Told.{IsHeldSource, AreTold};
 ghost use Rattle.dataflow.specs.WriterRuns.{writers_run};
 ghost use Rattle.dataflow.specs.declared.source.ReadSource.{ReadSource};
 
-use scop_syntax::{instances_are_those_of_statements, statements_are_numbered, values_lie_within_45_bits, walks_are_in_order};
+use scop_syntax::{
+    instances_are_those_of_statements, statements_are_numbered, values_lie_within_45_bits,
+    walks_are_in_order,
+};
 
 /// The join over all candidates of an access names the wanted writer of its cell, the last before it or the next behind
 /// it, and the initial value where there is none.

@@ -17,7 +17,10 @@ ghost use Rattle.expansions.specs.steps.Passing.{AreSourcesIfFew, CanPass, IsOnI
 use crate::counting::visits_few;
 use crate::marking::{mark, put_marks};
 use loop_tree::{Spot, Tree};
-use scop_syntax::{Kernel, cells_have_numbers_of_their_own, cells_lie_within_22_bits, instances_are_those_of_statements, statements_are_numbered};
+use scop_syntax::{
+    Kernel, cells_have_numbers_of_their_own, cells_lie_within_22_bits,
+    instances_are_those_of_statements, statements_are_numbered,
+};
 use std::alloc::{AllocError, Global};
 use tile_table::{Row, Table};
 

@@ -13,7 +13,10 @@ ghost use Rattle.iteration_domains.specs.Model.{Modelled, model_of};
 ghost use Rattle.iteration_domains.specs.Outside.{Asks, FailsAt, Side, outside_systems};
 ghost use Rattle.whole_numbers.specs.Lists.{NotNegative};
 
-use scop_syntax::{accesses_have_the_ranks_of_arrays, failures_are_the_first, instances_are_those_of_statements, statements_are_numbered, walks_are_in_order};
+use scop_syntax::{
+    accesses_have_the_ranks_of_arrays, failures_are_the_first, instances_are_those_of_statements,
+    statements_are_numbered, walks_are_in_order,
+};
 
 /// The whole points of a statement's domain are exactly the turns of its instances in the walk, each
 /// instance stands at one place, and each instance is one of a statement of the model.

@@ -16,8 +16,10 @@ mod outside;
 mod rows;
 mod statement;
 
-pub use domain_laws::{accesses_touch_the_cells, domains_hold_the_instances, outside_points_are_failures};
 pub use dep::{Dep, DepEnd};
+pub use domain_laws::{
+    accesses_touch_the_cells, domains_hold_the_instances, outside_points_are_failures,
+};
 pub use forms::{
     Numbers, compose, compose_form, constant_form, form_from, plus_multiple, push_numbers,
     push_variables, push_zeros, term_form, variable_form, wide_form,

@@ -40,8 +40,12 @@ ghost use Rattle.loop_tree.specs.Walk.{visits};
 
 use crate::source_laws::source_trees_visit_the_walk;
 use crate::tree::{Bound, Bounds, Guard, Leaf, Loop, Node, Test, Tree};
-use iteration_domains::{Form, Path, Scope, compose, enter_loop, enter_scope, push, rows_within, variable_form};
-use scop_syntax::{Aff, Guard as SourceGuard, Item, Kernel, Loop as SourceLoop, Test as Comparison};
+use iteration_domains::{
+    Form, Path, Scope, compose, enter_loop, enter_scope, push, rows_within, variable_form,
+};
+use scop_syntax::{
+    Aff, Guard as SourceGuard, Item, Kernel, Loop as SourceLoop, Test as Comparison,
+};
 use std::alloc::{AllocError, Global};
 
 /// A small number as one of a tree.

@@ -10,7 +10,9 @@ ghost use Rattle.loop_tree.specs.Shape.{AreSerial, TreesAreOf, TreesAreOver, Tre
 ghost use Rattle.loop_tree.specs.Source.{source_of};
 ghost use Rattle.loop_tree.specs.Walk.{visits};
 
-use scop_syntax::{instances_are_those_of_statements, statements_are_numbered, values_lie_within_45_bits};
+use scop_syntax::{
+    instances_are_those_of_statements, statements_are_numbered, values_lie_within_45_bits,
+};
 
 /// The loop tree of a program's own loops visits exactly the instances of its walk, in its order. It is flat, no loop
 /// of it is parallel, its forms are over the loops round them and the parameters, its instances are those of the

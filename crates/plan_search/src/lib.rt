@@ -27,5 +27,8 @@ pub use plan_certificate::{
     deps_text, edges_text, status_line, tiles_text, unexpanded_text, waves_edges_text,
     waves_reduce_text,
 };
-pub use plan_tree::{hull_tree, loops_end_as_the_source_does, tiled_tree, trees_keep_conflicts_in_order, trees_of_plans_can_be_walked};
+pub use plan_tree::{
+    hull_tree, loops_end_as_the_source_does, tiled_tree, trees_keep_conflicts_in_order,
+    trees_of_plans_can_be_walked,
+};
 pub use pluto_search::{Kept, Schedule, Stuck};

@@ -15,7 +15,10 @@ ghost use Rattle.tile_skew.specs.Schedule.{IsScheduled, Scheduled};
 ghost use Rattle.tile_skew.specs.Tilings.{statements_from};
 ghost use Rattle.plan_tree.specs.Schedules.{IsFlowScheduleFor, IsScheduleFor, arrays_of, tiling_of};
 
-use scop_syntax::{accesses_have_the_ranks_of_arrays, instances_are_those_of_statements, statements_are_numbered, values_lie_within_45_bits};
+use scop_syntax::{
+    accesses_have_the_ranks_of_arrays, instances_are_those_of_statements, statements_are_numbered,
+    values_lie_within_45_bits,
+};
 use tile_skew::{schedules_have_small_items, tiled_flows_are_flow_plans};
 
 /// At what the trees of a schedule's tiles visit, the values of the rows of the first band have 64 bits.

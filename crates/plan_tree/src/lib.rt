@@ -14,4 +14,6 @@ pub use trees::{hull_tree, source_tree, tiled_tree};
 
 // Passed on: what goes with this crate's contracts.
 pub use plain_scan::FmStop;
-pub use planned_trees::{loops_end_as_the_source_does, trees_keep_conflicts_in_order, trees_of_plans_can_be_walked};
+pub use planned_trees::{
+    loops_end_as_the_source_does, trees_keep_conflicts_in_order, trees_of_plans_can_be_walked,
+};

@@ -13,7 +13,10 @@ ghost use Rattle.plan_tree.specs.steps.Scanning.{AreVisits, IsTiled, sets_of};
 
 use iteration_domains::domains_hold_the_instances;
 use scop_syntax::statements_are_numbered;
-use tile_skew::{places_are_in_order, scan_sets_are_alike, scan_sets_can_be_scanned, scan_sets_hold_the_instances, schedules_have_small_items, tiled_schedules_are_good_plans};
+use tile_skew::{
+    places_are_in_order, scan_sets_are_alike, scan_sets_can_be_scanned,
+    scan_sets_hold_the_instances, schedules_have_small_items, tiled_schedules_are_good_plans,
+};
 
 /// The scan sets of a schedule can be scanned together: they have one shape, not too many dimensions, and rising
 /// numbers.

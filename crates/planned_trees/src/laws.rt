@@ -17,7 +17,10 @@ ghost use Rattle.loop_tree.specs.Walk.{Visit, given, visits, walk_all};
 ghost use Rattle.planned_trees.specs.Executions.{AreVisitsOf};
 ghost use Rattle.planned_trees.specs.Trees.{AreEven, AreTreesOf, StandInOrder};
 
-use scop_syntax::{instances_are_those_of_statements, orders_of_walks_end_as_they_do, statements_are_numbered, values_lie_within_45_bits, walks_are_in_order};
+use scop_syntax::{
+    instances_are_those_of_statements, orders_of_walks_end_as_they_do, statements_are_numbered,
+    values_lie_within_45_bits, walks_are_in_order,
+};
 
 /// Of two places of the walk that conflict on an array that is not marked, a tree that carries out a plan visits the
 /// earlier one's instance before the later one's, where all statements have as many leading scalars and rows in the

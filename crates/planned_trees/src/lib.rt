@@ -6,4 +6,7 @@
 
 mod laws;
 
-pub use laws::{loops_end_as_the_source_does, trees_keep_conflicts_in_order, trees_of_plans_can_be_walked, waves_have_one_length};
+pub use laws::{
+    loops_end_as_the_source_does, trees_keep_conflicts_in_order, trees_of_plans_can_be_walked,
+    waves_have_one_length,
+};

@@ -20,7 +20,9 @@ ghost use Rattle.dataflow.specs.Posed.{IsOfKernel};
 ghost use Rattle.dataflow.specs.Runs.{Halt};
 ghost use Rattle.dataflow.specs.WriterRuns.{Stopped, writers_run};
 
-use dataflow::{covering, covering_points_are_covers, covers_are_held, covers_lie_between_statements};
+use dataflow::{
+    covering, covering_points_are_covers, covers_are_held, covers_lie_between_statements,
+};
 use iteration_domains::{Dep, Model};
 use std::alloc::{AllocError, Global};
 

@@ -21,7 +21,10 @@ ghost use Rattle.dataflow.specs.ReadSources.{reads_of};
 ghost use Rattle.dataflow.specs.declared.source.ReadSource.{ReadSource};
 ghost use Rattle.dataflow.specs.declared.source.ReadSource.TheVariants as source;
 
-use dataflow::{ReadSource, flow, flow_holds_the_sources, flow_lies_between_statements, flow_points_are_the_sources};
+use dataflow::{
+    ReadSource, flow, flow_holds_the_sources, flow_lies_between_statements,
+    flow_points_are_the_sources,
+};
 use iteration_domains::{Dep, Model};
 use std::alloc::{AllocError, Global};
 

@@ -31,7 +31,10 @@ ghost use Rattle.plan_tree.specs.Schedules.{IsScheduleFor, StopsTiled, tiling_of
 use fm_projection::FmStop;
 use loop_tree::Tree;
 use plan_tree::rows_of_schedules_fit;
-use planned_trees::{loops_end_as_the_source_does, trees_keep_conflicts_in_order, trees_of_plans_can_be_walked, waves_have_one_length};
+use planned_trees::{
+    loops_end_as_the_source_does, trees_keep_conflicts_in_order, trees_of_plans_can_be_walked,
+    waves_have_one_length,
+};
 use schedule_rows::Schedule;
 use scop_syntax::{Kernel, orders_of_walks_end_as_they_do, orders_that_keep_covers_keep_conflicts};
 use std::alloc::{AllocError, Global};

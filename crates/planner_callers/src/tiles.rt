@@ -27,7 +27,11 @@ use integer_sets::ScanSet;
 use loop_tree::Tiling;
 use schedule_rows::Schedule;
 use std::alloc::{AllocError, Global};
-use tile_skew::{kept_orders_are_good_plans, places_are_in_order, rows_that_are_not_parallel_carry, scan_sets_are_alike, scan_sets_hold_the_instances, tiled, tiled_flows_are_flow_plans, tiled_schedules_are_good_plans, tilings_have_the_items_of_schedules};
+use tile_skew::{
+    kept_orders_are_good_plans, places_are_in_order, rows_that_are_not_parallel_carry,
+    scan_sets_are_alike, scan_sets_hold_the_instances, tiled, tiled_flows_are_flow_plans,
+    tiled_schedules_are_good_plans, tilings_have_the_items_of_schedules,
+};
 
 /// The tiling of no statement has this size and no items, and no statement has no scan set, by the clauses of `tiled`
 /// of these names.

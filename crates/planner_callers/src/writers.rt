@@ -28,7 +28,10 @@ ghost use Rattle.dataflow.specs.Problems.{all_below, posed_context, posed_rows, 
 ghost use Rattle.dataflow.specs.Sources.{IsCandidate, IsSolved, IsWritePoint, reader_side, wanted_writer, writer_side};
 ghost use Rattle.dataflow.specs.WriterRuns.{writers_run};
 
-use dataflow::{joins_are_the_writers, minima_are_maxima, minima_are_the_writers, resolved_reads_have_their_writers};
+use dataflow::{
+    joins_are_the_writers, minima_are_maxima, minima_are_the_writers,
+    resolved_reads_have_their_writers,
+};
 
 /// The join over all candidates names the wanted writer, by the clause of `joins_are_the_writers`.
 pub fn joins_in_kernels_without_parameters()

@@ -16,7 +16,10 @@ use command_line::{Command, CommandStop, command_of};
 use data_text::{said_once, texts_say_what_lines_describe};
 use io_ports::{Failed, Gate, Sink, Source};
 use plan_search::{Status, status_line};
-use scop_parser::{faults_leave_no_program, spelled_programs_are_kernels, texts_have_one_first_fault, texts_spell_a_program_or_have_a_fault, texts_spell_one_program};
+use scop_parser::{
+    faults_leave_no_program, spelled_programs_are_kernels, texts_have_one_first_fault,
+    texts_spell_a_program_or_have_a_fault, texts_spell_one_program,
+};
 use scop_syntax::{Kernel, accesses_have_the_ranks_of_arrays, failures_are_the_first};
 use std::alloc::{AllocError, Global};
 use std::sync::Wait;

@@ -22,7 +22,10 @@ ghost use Rattle.tile_core.specs.declared.plan.Plan.{Plan as AnyPlan};
 
 use scop_syntax::Instance;
 use std::alloc::{AllocError, Global};
-use tile_core::{Core, Event, NotEnabled, Pass, Plan, Seen, Turn, Words, instances_read_few, plans_are_good, plans_execute_the_kernel, walks_are_dealt};
+use tile_core::{
+    Core, Event, NotEnabled, Pass, Plan, Seen, Turn, Words, instances_read_few, plans_are_good,
+    plans_execute_the_kernel, walks_are_dealt,
+};
 
 /// The core of one worker at the start, by the clauses of `Core::of` of these names.
 pub fn core_of_one_worker<'a>(

@@ -22,7 +22,11 @@ ghost use Rattle.tile_events.specs.Sound.{Sound};
 ghost use Rattle.tile_events.specs.declared.clock.Clock.{Clock};
 
 use atomic_table::Play;
-use tile_events::{all_interleavings_agree, clocks_tell, covers_are_those_of_the_walk, events_are_allowed, events_keep_count, plans_by_waves_are_good, plans_execute_the_walk, scans_are_dealt, seats_are_allowed, two_workers_run};
+use tile_events::{
+    all_interleavings_agree, clocks_tell, covers_are_those_of_the_walk, events_are_allowed,
+    events_keep_count, plans_by_waves_are_good, plans_execute_the_walk, scans_are_dealt,
+    seats_are_allowed, two_workers_run,
+};
 
 /// Whatever two workers do from the start on, the state is sound, by `start` and `replay` of `all_interleavings_agree`.
 pub fn states_after_events_of_two_workers()

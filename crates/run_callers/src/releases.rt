@@ -12,7 +12,11 @@ ghost use Rattle.tile_events.specs.Plan.{GoodPlan, IsDealt, Plan, Touch, before,
 ghost use Rattle.tile_events.specs.Releases.{AreCovered, AreEdges, Edges, Leads};
 ghost use Rattle.tile_events.specs.Sound.{IsBegun, IsFinished, Sound, is_done};
 
-use tile_events::{all_interleavings_agree, cells_hold_their_sums, copies_keep_what_is_read, covers_join_what_touches, opened_tiles_have_waited, pairs_make_plans, two_workers_add, two_workers_release};
+use tile_events::{
+    all_interleavings_agree, cells_hold_their_sums, copies_keep_what_is_read,
+    covers_join_what_touches, opened_tiles_have_waited, pairs_make_plans, two_workers_add,
+    two_workers_release,
+};
 
 /// Of pairs of three tiles the first and the third are not the same, by `once` of `pairs_make_plans`.
 pub fn pairs_of_three_tiles()

@@ -17,7 +17,10 @@ ghost use Rattle.tile_list.specs.declared.list.TileList.{TileList as AnyList};
 
 use loop_tree::{Tiling, Tree};
 use std::alloc::{AllocError, Global};
-use tile_list::{TileList, numbers_tell_waves, orders_rise_by_tile, tiles_are_counted, tiles_are_unique, tiles_stand_one_behind_another};
+use tile_list::{
+    TileList, numbers_tell_waves, orders_rise_by_tile, tiles_are_counted, tiles_are_unique,
+    tiles_stand_one_behind_another,
+};
 
 /// The list of tiles of a tree without parameters, by the clause of `tiles`.
 pub fn tiles_without_parameters(

@@ -21,7 +21,10 @@ ghost use Rattle.schedule_rows.specs.Measure.{measure};
 ghost use Rattle.schedule_rows.specs.Tiles.{IsGoodPair};
 
 use null_space::{full_rank_leaves_only_0, kernel_vectors_are_kept, rows_take_kernel_vectors};
-use scop_syntax::{conflicts_are_chains_of_covers, instances_are_those_of_statements, statements_are_numbered, walks_are_in_order};
+use scop_syntax::{
+    conflicts_are_chains_of_covers, instances_are_those_of_statements, statements_are_numbered,
+    walks_are_in_order,
+};
 use stmt_graph::numberings_are_unique;
 
 /// A schedule's bands have rows, and its items have a part or a number for each statement, a row a coefficient for each

@@ -10,5 +10,5 @@ mod token;
 
 pub use laws::{expressions_are_read, tokens_spell_one_tree};
 pub use node::{Held, Last, Mode, Node};
-pub use reader::{Expression, Reader, Stop, MOST_BRACKETS, MOST_OPERATORS, read, told_at};
+pub use reader::{Expression, MOST_BRACKETS, MOST_OPERATORS, Reader, Stop, read, told_at};
 pub use token::{Assign, Base, Count, Op, Outside, Sign, Suffix, Token, Width};

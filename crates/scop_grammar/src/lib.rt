@@ -8,6 +8,8 @@ mod part;
 mod reader;
 mod table;
 
-pub use laws::{answers_tell_the_grammar, kernels_are_read, pieces_are_added_behind, tokens_spell_one_kernel};
+pub use laws::{
+    answers_tell_the_grammar, kernels_are_read, pieces_are_added_behind, tokens_spell_one_kernel,
+};
 pub use part::{Mark, Part};
 pub use reader::{KernelReader, Text, read};

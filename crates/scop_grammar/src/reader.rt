@@ -14,7 +14,7 @@ ghost use Rattle.scop_grammar.specs.Turns.{Feeds, Gives, HasSpace, IsStop, Turns
 
 use crate::part::{Mark, Part};
 use crate::table::{Role, Want, behind, braced, carried, left, mark, next, room};
-use scop_expressions::{Reader, Stop, Token, MOST_BRACKETS, MOST_OPERATORS, told_at};
+use scop_expressions::{MOST_BRACKETS, MOST_OPERATORS, Reader, Stop, Token, told_at};
 use std::alloc::{AllocError, Global};
 use std::marker::Model;
 use std::mem;

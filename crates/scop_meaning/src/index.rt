@@ -21,7 +21,10 @@ ghost use Rattle.scop_syntax.specs.declared.limits.TheConstants.{MOST_ENTRIES};
 
 use crate::guards::all_hold;
 use crate::loops::{Point, enter_turn, point_at, turns_of};
-use scop_syntax::{Access, Aff, Extents, Item, Kernel, Loop, Stmt, access_at, exact_at, numbers_of_runs_fit, read_count};
+use scop_syntax::{
+    Access, Aff, Extents, Item, Kernel, Loop, Stmt, access_at, exact_at, numbers_of_runs_fit,
+    read_count,
+};
 
 /// A subscript outside its extent: of which statement, counted from 1, of which of its accesses,
 /// where 0 is the place written and the reads are counted from 1, and in which dimension, counted

@@ -19,7 +19,10 @@ use crate::accesses::number_of;
 use crate::expressions::stored_on;
 use crate::index::count_in;
 use crate::loops::{Point, enter_at, point_at};
-use scop_syntax::{Extents, Instance, Item, Kernel, Stmt, access_at, cells_lie_within_22_bits, instances_are_those_of_statements, statements_are_numbered, values_lie_within_45_bits};
+use scop_syntax::{
+    Extents, Instance, Item, Kernel, Stmt, access_at, cells_lie_within_22_bits,
+    instances_are_those_of_statements, statements_are_numbered, values_lie_within_45_bits,
+};
 
 /// The statement of `items` with this number, counted from 0; the iterators of `turns` are put on
 /// the stack.

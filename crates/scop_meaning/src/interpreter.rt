@@ -19,7 +19,9 @@ use crate::last_writes::executions_go_by_last_writers;
 use crate::layout::Layout;
 use crate::loops::{Point, enter_turn, point_at, turns_of};
 use crate::statements::run_statement;
-use scop_syntax::{Arrays, Item, Kernel, Loop, cells_lie_within_22_bits, exact_at, numbers_of_runs_fit};
+use scop_syntax::{
+    Arrays, Item, Kernel, Loop, cells_lie_within_22_bits, exact_at, numbers_of_runs_fit,
+};
 
 /// Runs `items` one after another at `point`.
 #[cycle(running)]

@@ -28,4 +28,7 @@ pub use interpreter::run_plain;
 pub use last_writes::executions_go_by_last_writers;
 pub use loops::{Point, enter_at, enter_turn, point_at, turns_of};
 pub use operators::{combined, complemented, narrowed, negated, shifted_left, shifted_right};
-pub use worked_rows::{copies_of_cells, guards_and_sequences, last_writers_of_sweeps, loops_of_each_kind, subscripts_of_each_kind, sums_of_a_place, the_first_subscript_outside};
+pub use worked_rows::{
+    copies_of_cells, guards_and_sequences, last_writers_of_sweeps, loops_of_each_kind,
+    subscripts_of_each_kind, sums_of_a_place, the_first_subscript_outside,
+};

@@ -9,7 +9,7 @@ use crate::cells::offset_at;
 use crate::expressions::stored_on;
 use crate::layout::Layout;
 use arrayvec::ArrayVec;
-use scop_syntax::{Access, Arrays, Stmt, MOST_READS, access_at, read_count};
+use scop_syntax::{Access, Arrays, MOST_READS, Stmt, access_at, read_count};
 
 /// Where the cell of `access` at `point` lies in its array.
 fn offset_in(access: &Access, layout: &Layout, point: &[i64], arrays: &Arrays) -> usize

@@ -7,6 +7,9 @@ mod laws;
 mod reader;
 mod refusal;
 
-pub use laws::{faults_leave_no_program, spelled_names_are_words, spelled_programs_are_kernels, texts_have_one_first_fault, texts_spell_a_program_or_have_a_fault, texts_spell_one_program};
+pub use laws::{
+    faults_leave_no_program, spelled_names_are_words, spelled_programs_are_kernels,
+    texts_have_one_first_fault, texts_spell_a_program_or_have_a_fault, texts_spell_one_program,
+};
 pub use reader::{ReadKernelError, read_kernel};
 pub use refusal::{Refusal, RefusalKind};

@@ -15,7 +15,9 @@ use crate::pending::{Hand, Pending};
 use scop_expressions::Width;
 use scop_grammar::Mark;
 use scop_roles::Formula;
-use scop_units::{Words, array_fault, array_of, copied, kernel_name_fault, name_fault, number_fault};
+use scop_units::{
+    Words, array_fault, array_of, copied, kernel_name_fault, name_fault, number_fault,
+};
 use std::alloc::Global;
 
 impl Pass {

@@ -22,7 +22,9 @@ use crate::pass::{Pass, Stop, checked};
 use crate::pending::{Hand, Pending, Sides};
 use scop_roles::{Formula, Names, Role, fault, push_tests};
 use scop_syntax::{Guard, Item, Loop, Test};
-use scop_units::{Change, LoopHead, Stored, Words, copied, loop_fault, loop_of, statement_fault, statement_of};
+use scop_units::{
+    Change, LoopHead, Stored, Words, copied, loop_fault, loop_of, statement_fault, statement_of,
+};
 use std::alloc::{AllocError, Global};
 use std::mem;
 

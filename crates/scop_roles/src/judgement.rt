@@ -9,8 +9,8 @@ ghost use Rattle.scop_roles.specs.Forms.{form};
 ghost use Rattle.scop_roles.specs.Formula.{Formula as Tree, argument_of, formula_of, index, with_argument};
 ghost use Rattle.scop_roles.specs.steps.Judgement.{HasForm, IsFormOf, IsJudgement, in_role};
 
-use crate::kinds::Fault;
 use crate::formula::{Argument, Formula, Role};
+use crate::kinds::Fault;
 use crate::nodes::{of_bare_call, of_call, of_cast, of_constant, of_index, of_name, of_unary};
 use crate::sides::of_binary;
 use scop_expressions::Op;

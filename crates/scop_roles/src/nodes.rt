@@ -8,10 +8,10 @@ ghost use Rattle.scop_roles.specs.Formula.{Formula as Tree, bare_call, call, cas
 ghost use Rattle.scop_roles.specs.Formula.{unary};
 ghost use Rattle.scop_roles.specs.steps.Judgement.{HasForm, IsFormOf, IsJudgement, is_zero, one_less};
 
-use crate::kinds::{Fault, first_of, part_or_own, told};
 use crate::forms::{constant_form, multiple, variable_form};
 use crate::formula::{Meaning, Role};
 use crate::judgement::{Faults, Judgement};
+use crate::kinds::{Fault, first_of, part_or_own, told};
 use crate::pairs::both;
 use crate::roles::{
     called, cast_role, is_between, is_long_constant, is_narrow_array, is_narrow_width, is_number,

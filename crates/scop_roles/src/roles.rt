@@ -13,8 +13,8 @@ ghost use Rattle.scop_expressions.specs.Width.{Width};
 ghost use Rattle.scop_roles.specs.declared.kinds.Kind.TheVariants as kind;
 ghost use Rattle.scop_roles.specs.declared.formula.Meaning.{Meaning};
 
-use crate::kinds::{Kind, only_where};
 use crate::formula::{Meaning, Role};
+use crate::kinds::{Kind, only_where};
 use scop_expressions::{Base, Op, Sign, Suffix, Width};
 use scop_syntax::MOST_CONSTANT;
 

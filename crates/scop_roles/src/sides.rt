@@ -7,10 +7,10 @@ ghost use Rattle.scop_roles.specs.Forms.{combined_forms, is_product, is_sum_or_p
 ghost use Rattle.scop_roles.specs.Formula.{Formula as Tree, binary};
 ghost use Rattle.scop_roles.specs.steps.Judgement.{HasForm, IsJoined, IsJudgement, IsOwnAffine};
 
-use crate::kinds::{Fault, Kind, first_of, part_or_own};
 use crate::forms::{is_within, multiple, sum};
 use crate::formula::Role;
 use crate::judgement::{Faults, Judgement};
+use crate::kinds::{Fault, Kind, first_of, part_or_own};
 use crate::pairs::both;
 use crate::roles::{is_product, is_sum_or_product, makes_narrow, own_joined, side_role};
 use scop_expressions::Op;

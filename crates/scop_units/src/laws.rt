@@ -8,7 +8,9 @@ ghost use Rattle.scop_units.specs.Judging.{faults_of};
 ghost use Rattle.scop_units.specs.Names.{HasDistinctNames, SpellNames, header_names};
 ghost use Rattle.scop_units.specs.Programs.{program_spelled};
 
-use scop_roles::{faultless_formulas_are_within_limits, faultless_values_have_types, formulas_are_in_scope};
+use scop_roles::{
+    faultless_formulas_are_within_limits, faultless_values_have_types, formulas_are_in_scope,
+};
 
 /// The program that a kernel without faults stands for is within the limits, and its names are distinct.
 pub fn faultless_kernels_are_within_limits()

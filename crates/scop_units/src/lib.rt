@@ -15,5 +15,8 @@ pub use laws::{faultless_kernels_are_within_limits, names_are_those_of_tokens};
 pub use loops::{Change, LoopHead, loop_fault, loop_of};
 pub use padding::all_over;
 pub use scope::{Look, Scope, copied};
-pub use units::{Stored, array_fault, array_of, kernel_name_fault, name_fault, number_fault, statement_fault, statement_of};
+pub use units::{
+    Stored, array_fault, array_of, kernel_name_fault, name_fault, number_fault, statement_fault,
+    statement_of,
+};
 pub use words::Words;

@@ -14,8 +14,10 @@ ghost use Rattle.scop_units.specs.View.{change_of, head_of, scope_of};
 use crate::scope::{Scope, copied};
 use crate::units::{or_fault, told, told_where};
 use scop_expressions::{Assign, Count, Op, Suffix};
-use scop_roles::{Argument, Fault, Formula, Kind, Meaning, Role, fault, first_of, form, push_tests};
-use scop_syntax::{Aff, Loop, Test, MOST_LOOPS, MOST_STRIDE};
+use scop_roles::{
+    Argument, Fault, Formula, Kind, Meaning, Role, fault, first_of, form, push_tests,
+};
+use scop_syntax::{Aff, Loop, MOST_LOOPS, MOST_STRIDE, Test};
 use std::alloc::{AllocError, Global};
 
 /// `++` or `--`, or an assignment with its right side.

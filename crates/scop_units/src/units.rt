@@ -17,8 +17,15 @@ ghost use Rattle.scop_units.specs.View.{scope_of, stored_of, words_in};
 use crate::scope::{Scope, copied, is_reserved};
 use crate::words::Words;
 use scop_expressions::{Assign, Width};
-use scop_roles::{Fault, Formula, Kind, Meaning, Role, access, expression, fault, first_of, form, has_subscripts, is_count, is_long, is_narrow_array, is_narrow_width, is_signed, last_count, meaning_of, narrowed_where, place, place_fault, push_read_places};
-use scop_syntax::{Array, Narrowing, Operator, Right, Stmt, MOST_ARRAYS, MOST_COMPARISONS, MOST_EXTENTS, MOST_PARAMETERS, MOST_READS, MOST_STATEMENTS};
+use scop_roles::{
+    Fault, Formula, Kind, Meaning, Role, access, expression, fault, first_of, form, has_subscripts,
+    is_count, is_long, is_narrow_array, is_narrow_width, is_signed, last_count, meaning_of,
+    narrowed_where, place, place_fault, push_read_places,
+};
+use scop_syntax::{
+    Array, MOST_ARRAYS, MOST_COMPARISONS, MOST_EXTENTS, MOST_PARAMETERS, MOST_READS,
+    MOST_STATEMENTS, Narrowing, Operator, Right, Stmt,
+};
 use std::alloc::{AllocError, Global};
 
 pub(crate) fn told(place: usize, kind: Option<Kind>) -> Option<Fault>

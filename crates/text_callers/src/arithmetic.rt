@@ -29,7 +29,9 @@ ghost use Rattle.scop_arithmetic.specs.Arithmetic.{Holds, IsNameOf, after_step, 
 ghost use Rattle.scop_arithmetic.specs.Arithmetic.{cells_read, class, stored, whole, word};
 ghost use Rattle.scop_arithmetic.specs.Meaning.{NamesMean};
 
-use scop_arithmetic::{extents_are_whole_numbers, loops_count_as_they_say, tests_hold_where_conditions_do};
+use scop_arithmetic::{
+    extents_are_whole_numbers, loops_count_as_they_say, tests_hold_where_conditions_do,
+};
 
 /// What has no fault has a meaning, by the clauses of `faultless_texts_have_meanings` of the same names: an affine
 /// expression, a condition, a place and a value without entries, a single extent, a statement's cell, a loop's first

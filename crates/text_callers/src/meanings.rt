@@ -27,7 +27,10 @@ ghost use Rattle.scop_arithmetic.specs.Arithmetic.{HasNoComma};
 ghost use Rattle.scop_arithmetic.specs.Tokens.{NodeStands};
 ghost use Rattle.text_callers.specs.Worked.{decimal};
 
-use scop_arithmetic::{faultless_texts_lie_within_the_limits, spelled_texts_mean_their_programs, texts_within_the_limits_have_no_fault};
+use scop_arithmetic::{
+    faultless_texts_lie_within_the_limits, spelled_texts_mean_their_programs,
+    texts_within_the_limits_have_no_fault,
+};
 
 /// A program has the parameters and the names of arrays that are in scope where its text's items begin, by
 /// `parameters` and `names` of what `spelled_texts_mean_their_programs` promises; without an item in the text, no tree,

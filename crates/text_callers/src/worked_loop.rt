@@ -15,7 +15,11 @@ ghost use Rattle.scop_units.specs.Units.{statement_of, stored_faults};
 ghost use Rattle.scop_arithmetic.specs.Arithmetic.{cell, cells_in, cells_read, full, stored, whole, word};
 ghost use Rattle.text_callers.specs.Worked.{below_seven, head, i, odd, odd_cell, product, sum};
 
-use scop_arithmetic::{accesses_are_cells, faultless_texts_lie_within_the_limits, forms_are_whole_numbers, loops_count_as_they_say, statements_store_words, tests_hold_where_conditions_do, texts_within_the_limits_have_no_fault, values_are_words};
+use scop_arithmetic::{
+    accesses_are_cells, faultless_texts_lie_within_the_limits, forms_are_whole_numbers,
+    loops_count_as_they_say, statements_store_words, tests_hold_where_conditions_do,
+    texts_within_the_limits_have_no_fault, values_are_words,
+};
 
 /// At each i the form of `2 * i + 1` has its whole number, by `value` of `forms_are_whole_numbers`; the comparisons of
 /// `i < 7` hold exactly where i is below 7, by the clause of `tests_hold_where_conditions_do`; `A[2 * i + 1]` is the cell

@@ -24,7 +24,10 @@ ghost use Rattle.tile_core.specs.declared.view.View.{View};
 
 use crate::plan_laws::walks_are_dealt;
 use scop_syntax::cells_have_numbers_of_their_own;
-use tile_events::{cells_hold_their_sums, cells_hold_what_is_done, copies_keep_what_is_read, pairs_make_plans, plans_execute_the_walk};
+use tile_events::{
+    cells_hold_their_sums, cells_hold_what_is_done, copies_keep_what_is_read, pairs_make_plans,
+    plans_execute_the_walk,
+};
 
 /// In a sound state of a plan over the arrays' contents one behind another, a cell of an array that is not marked holds
 /// the value that the last done instance which writes it stores in the kernel's own execution; any cell what it held at

@@ -26,7 +26,10 @@ pub use cores::{Core, Turn};
 pub use expansion::Expansion;
 pub use first_words::FirstWords;
 pub use plan::{Plan, have_room};
-pub use plan_laws::{instances_read_few, plans_are_good, plans_execute_the_kernel, rows_tell_instances, walks_are_dealt};
+pub use plan_laws::{
+    instances_read_few, plans_are_good, plans_execute_the_kernel, rows_tell_instances,
+    walks_are_dealt,
+};
 pub use release_laws::opened_tiles_were_released;
 pub use view::{Key, View, WordRule};
 pub use words::{Pass, Words};

@@ -42,8 +42,14 @@ ghost use Rattle.tile_core.specs.Plans.{
 ghost use Rattle.tile_core.specs.Rows.{IsRowAt};
 ghost use Rattle.tile_core.specs.declared.plan.Plan.{Plan};
 
-use scop_syntax::{cells_have_numbers_of_their_own, cells_lie_within_22_bits, instances_are_those_of_statements, statements_are_numbered, walks_are_in_order};
-use tile_events::{all_interleavings_agree, copies_keep_what_is_read, covers_are_those_of_the_walk, covers_join_what_touches, pairs_make_plans, plans_execute_the_walk, scans_are_dealt};
+use scop_syntax::{
+    cells_have_numbers_of_their_own, cells_lie_within_22_bits, instances_are_those_of_statements,
+    statements_are_numbered, walks_are_in_order,
+};
+use tile_events::{
+    all_interleavings_agree, copies_keep_what_is_read, covers_are_those_of_the_walk,
+    covers_join_what_touches, pairs_make_plans, plans_execute_the_walk, scans_are_dealt,
+};
 use tile_list::{numbers_tell_waves, tiles_stand_one_behind_another};
 
 /// The tiles of a plan hold each place of the walk once, that of its instance, and of two places that touch one cell,

@@ -13,7 +13,10 @@ ghost use Rattle.tile_core.specs.declared.plan.Plan.{Plan};
 
 use crate::plan_laws::walks_are_dealt;
 use scop_syntax::cells_have_numbers_of_their_own;
-use tile_events::{covers_are_those_of_the_walk, covers_join_what_touches, opened_tiles_have_waited, pairs_make_plans};
+use tile_events::{
+    covers_are_those_of_the_walk, covers_join_what_touches, opened_tiles_have_waited,
+    pairs_make_plans,
+};
 
 /// At a sound state of a plan with pairs of tiles, each tile from which one leads to an opened or finished tile has all
 /// instances done and has released that one, each counter holds how many have released its tile, and a tile releases

@@ -23,7 +23,10 @@ use crate::pairing::Pairs;
 use crate::stretching::go_along;
 use crate::touching::Traces;
 use loop_tree::{Spot, Tiling, Tree};
-use scop_syntax::{Instance, Kernel, cells_lie_within_22_bits, instances_are_those_of_statements, statements_are_numbered};
+use scop_syntax::{
+    Instance, Kernel, cells_lie_within_22_bits, instances_are_those_of_statements,
+    statements_are_numbered,
+};
 use std::alloc::{AllocError, Global};
 use tile_list::TileList;
 use tile_table::{Desk, Row, Table};

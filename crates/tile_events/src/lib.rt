@@ -18,9 +18,15 @@ mod table_laws;
 
 pub use clock::Clock;
 pub use copy_laws::copies_keep_what_is_read;
-pub use core_laws::{all_interleavings_agree, events_keep_count, plans_by_waves_are_good, two_workers_run};
+pub use core_laws::{
+    all_interleavings_agree, events_keep_count, plans_by_waves_are_good, two_workers_run,
+};
 pub use deal_laws::scans_are_dealt;
-pub use flat_laws::{cells_hold_what_is_done, covers_are_those_of_the_walk, plans_execute_the_walk};
-pub use release_laws::{covers_join_what_touches, opened_tiles_have_waited, pairs_make_plans, two_workers_release};
+pub use flat_laws::{
+    cells_hold_what_is_done, covers_are_those_of_the_walk, plans_execute_the_walk,
+};
+pub use release_laws::{
+    covers_join_what_touches, opened_tiles_have_waited, pairs_make_plans, two_workers_release,
+};
 pub use sum_laws::{cells_hold_their_sums, two_workers_add};
 pub use table_laws::{clocks_tell, events_are_allowed, seats_are_allowed};

@@ -10,8 +10,11 @@ mod list;
 mod offsets;
 mod place;
 
-pub use laws::{numbers_tell_waves, orders_rise_by_tile, tiles_are_counted, tiles_are_unique, tiles_stand_one_behind_another};
 pub use cutting::{rounds_left, tiles};
 pub use keys::{after, band_at, coordinate, leading_at};
+pub use laws::{
+    numbers_tell_waves, orders_rise_by_tile, tiles_are_counted, tiles_are_unique,
+    tiles_stand_one_behind_another,
+};
 pub use list::{Tile, TileList};
 pub use place::Place;

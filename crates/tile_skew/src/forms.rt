@@ -11,7 +11,9 @@ ghost use Rattle.tile_skew.specs.steps.Sizes.{FitsWidth};
 
 use crate::layout::Layout;
 use affine_forms::{Form, push};
-use iteration_domains::{Numbers, form_from, plus_multiple, push_numbers, push_zeros, variable_form};
+use iteration_domains::{
+    Numbers, form_from, plus_multiple, push_numbers, push_zeros, variable_form,
+};
 use loop_tree::TileRow;
 use scop_syntax::Aff;
 use std::alloc::{AllocError, Global};

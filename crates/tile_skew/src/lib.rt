@@ -14,7 +14,12 @@ mod layout;
 mod sets;
 mod statement_sets;
 
-pub use laws::{kept_orders_are_good_plans, places_are_in_order, rows_that_are_not_parallel_carry, scan_sets_are_alike, scan_sets_can_be_scanned, scan_sets_hold_the_instances, tiled_flows_are_flow_plans, tiled_schedules_are_good_plans, tilings_have_the_items_of_schedules};
+pub use laws::{
+    kept_orders_are_good_plans, places_are_in_order, rows_that_are_not_parallel_carry,
+    scan_sets_are_alike, scan_sets_can_be_scanned, scan_sets_hold_the_instances,
+    tiled_flows_are_flow_plans, tiled_schedules_are_good_plans,
+    tilings_have_the_items_of_schedules,
+};
 pub use statement_sets::tiled;
 
 // Passed on: what goes with this crate's contracts.

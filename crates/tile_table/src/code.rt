@@ -18,7 +18,7 @@ use crate::forms::form_over;
 use crate::lane::Lane;
 use crate::loads::load_count;
 use scop_meaning::{combined, complemented, narrowed, negated, shifted_left, shifted_right};
-use scop_syntax::{Aff, Expr, Loop, Operator, Right, Stmt, MOST_LOOPS};
+use scop_syntax::{Aff, Expr, Loop, MOST_LOOPS, Operator, Right, Stmt};
 use std::alloc::{AllocError, Global};
 
 /// What makes a value of one other.

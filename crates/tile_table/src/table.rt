@@ -12,7 +12,10 @@ ghost use Rattle.tile_table.specs.steps.Forms.{CanForm};
 use crate::code::{Code, compiled};
 use crate::forms::form_of;
 use crate::loads::{adds_to_place, load_count, touched_at};
-use scop_syntax::{Aff, Extents, Kernel, Standing, cells_lie_within_22_bits, standings_of, statements_are_numbered, wrapped_at};
+use scop_syntax::{
+    Aff, Extents, Kernel, Standing, cells_lie_within_22_bits, standings_of,
+    statements_are_numbered, wrapped_at,
+};
 use std::alloc::{AllocError, Global};
 
 /// What is told of a statement over the turns of the loops round it: for each access, the place first, then what it loads,
