@@ -24,7 +24,7 @@ use loop_tree::{Tiling, Tree};
 use plain_scan::FmStop;
 use scop_syntax::Kernel;
 use std::alloc::{AllocError, Global};
-use tile_skew::{Schedule, kept_orders_are_good_plans, tiled};
+use tile_skew::{Schedule, kept_orders_are_good_plans, tiling_and_sets};
 use tree_simplification::simplified;
 
 /// The tiling of a kernel's schedule, and its scan sets, which can be scanned together.
@@ -45,7 +45,7 @@ fn tiled_sets(
     ensures few { IfOk result (λ found. dimensions_of found.1.items < 2 ^ 32) }
 {
     sets_can_be_scanned();
-    let found = tiled(alloc, schedule, size)?;
+    let found = tiling_and_sets(alloc, schedule, size)?;
     Ok(found)
 }
 

@@ -30,12 +30,12 @@ use std::alloc::{AllocError, Global};
 use tile_skew::{
     kept_orders_are_good_plans, places_are_in_order, rows_that_are_not_parallel_carry,
     scan_sets_are_alike, scan_sets_hold_the_instances, tiled, tiled_flows_are_flow_plans,
-    tiled_schedules_are_good_plans, tilings_have_the_items_of_schedules,
+    tiled_schedules_are_good_plans, tiling, tiling_and_sets, tilings_have_the_items_of_schedules,
 };
 
-/// The tiling of no statement has this size and no items, and no statement has no scan set, by the clauses of `tiled`
-/// of these names.
-pub fn tiles_of_size(
+/// The tiling of no statement has this size and no items, and no statement has no scan set, by the clauses of
+/// `tiling_and_sets` of these names.
+pub fn tiles_and_sets(
     alloc: Global,
     schedule: &Schedule,
     size: u64,
@@ -45,6 +45,27 @@ pub fn tiles_of_size(
         → tiling_of found.0 ≡ tiled size []) }
     ensures sets { IfOk result (λ found. IsScheduled schedule.now → schedule.now.model.statements ≡ []
         → found.1.items ≡ []) }
+{
+    tiling_and_sets(alloc, schedule, size)
+}
+
+/// The same of the tiling, by the clause of `tiling`.
+pub fn tiles_of_size(alloc: Global, schedule: &Schedule, size: u64) -> Result<Tiling, AllocError>
+    requires { (0 < size) × (size ≤ 1024) }
+    ensures { IfOk result (λ found. IsScheduled schedule.now → length schedule.now.model.statements ≡ 0
+        → tiling_of found ≡ tiled size []) }
+{
+    tiling(alloc, schedule, size)
+}
+
+/// The same of the scan sets, by the clause of `tiled`.
+pub fn sets_of_tiles(
+    alloc: Global,
+    schedule: &Schedule,
+    size: u64,
+) -> Result<Vec<ScanSet>, AllocError>
+    requires { (0 < size) × (size ≤ 1024) }
+    ensures { IfOk result (λ sets. IsScheduled schedule.now → schedule.now.model.statements ≡ [] → sets.items ≡ []) }
 {
     tiled(alloc, schedule, size)
 }

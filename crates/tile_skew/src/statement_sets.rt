@@ -103,7 +103,7 @@ fn most_iterators(statements: &[StatementModel]) -> usize
 ///
 /// # Errors
 /// `AllocError` alone.
-pub fn tiled(
+pub fn tiling_and_sets(
     alloc: Global,
     schedule: &Schedule,
     size: u64,
@@ -125,4 +125,30 @@ pub fn tiled(
         tiles.push(items)?;
     }
     Ok((Tiling::Tiled(size, tiles), sets))
+}
+
+/// The tiling alone.
+///
+/// # Errors
+/// `AllocError` alone.
+pub fn tiling(alloc: Global, schedule: &Schedule, size: u64) -> Result<Tiling, AllocError>
+    requires { (0 < size) × (size ≤ 1024) }
+    ensures { IfOk result (λ found. (s : IsScheduled schedule.now)
+        → tiling_of found ≡ schedule_tiling size (length schedule.now.model.statements) s.blocks) }
+{
+    let (tiling, _sets) = tiling_and_sets(alloc, schedule, size)?;
+    Ok(tiling)
+}
+
+/// The scan sets alone.
+///
+/// # Errors
+/// `AllocError` alone.
+pub fn tiled(alloc: Global, schedule: &Schedule, size: u64) -> Result<Vec<ScanSet>, AllocError>
+    requires { (0 < size) × (size ≤ 1024) }
+    ensures { IfOk result (λ sets. (s : IsScheduled schedule.now)
+        → sets.items ≡ scan_sets (pos size) s.blocks schedule.now.model) }
+{
+    let (_tiling, sets) = tiling_and_sets(alloc, schedule, size)?;
+    Ok(sets)
 }

@@ -3,7 +3,7 @@ use Rattle.loop_tree.specs.TilingView.{items_of}
 use Rattle.schedule_rows.specs.Schedule.{IsScheduled}
 use Rattle.tile_skew.specs.ScanSets.{scan_set, scan_sets, most_iterators}
 use Rattle.tile_skew.specs.Tilings.{statement_items, statements_from}
-use Rattle.tile_skew.proofs.statement_sets.tiled.Given as goal
+use Rattle.tile_skew.proofs.statement_sets.tiling_and_sets.Given as goal
 
 abbrev pub invariant-loop-k : goal.invariant-loop-k
 invariant-loop-k l =

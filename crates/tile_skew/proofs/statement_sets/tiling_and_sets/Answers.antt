@@ -9,7 +9,7 @@ use Rattle.tile_skew.specs.ScanSets.{scan_set, most_iterators}
 use Rattle.tile_skew.specs.Tilings.{statement_items, statements_from}
 use Rattle.tile_skew.proofs.ItemSteps.{mapped_step, nothing_left, statements_step}
 use Rattle.tile_skew.proofs.ModelStatements.{within_there, found_there, loops_there}
-use Rattle.tile_skew.proofs.statement_sets.tiled.Goals as goal
+use Rattle.tile_skew.proofs.statement_sets.tiling_and_sets.Goals as goal
 
 pub scan_set-requires-clause-most : goal.scan_set-requires-clause-most
 scan_set-requires-clause-most c =
