@@ -163,7 +163,7 @@ pub fn steps_of_one_worker<V, M: Play<(), V>>()
         → Allows (Held two 2 worker (λ v. 1) clock) 0 0 me 1 (λ n. (n + 1) % 2 ^ 64)
         (M.then (table.step 0 1 1 0 none) me) }
 {
-    table_laws::events_are_allowed::<V, M>();
+    events_are_allowed::<V, M>();
 }
 
 /// Where one seat alone goes on by one step, what its clock says that this left in word 1 is there, by `steps` of
@@ -181,7 +181,7 @@ pub fn clocks_of_one_seat<V>()
         → Held two 2 worker (λ v. 1) clock s
         → ((i : ℕ) (v : V) → get_elem? s.views i ≡ some v → (clock v).steps ≡ 0) → slice_index s.words 2 ≡ 0 }
 {
-    table_laws::clocks_tell::<V>();
+    clocks_tell::<V>();
 }
 
 /// Where a seat is the number of workers for whom it stands, an idle seat of three is split into one of one and one of
@@ -193,5 +193,5 @@ pub fn seats_of_three_workers()
     ensures end { (s : State (Unit {0}) ℕ) → Held two 3 (λ v. ended) (λ v. v) (λ v. unmoved) s → s.views ≡ 3 ∷ []
         → slice_index s.words 3 ≡ 6 }
 {
-    table_laws::seats_are_allowed::<u64>();
+    seats_are_allowed::<u64>();
 }
