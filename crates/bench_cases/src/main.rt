@@ -59,29 +59,39 @@ fn repeat_named(rt: &HostRuntime, case: &str, rounds: u64) -> io::Result<bool> {
     }
 }
 
-/// Does what `polypar` does over standard input, output and error, and tells the time.
-fn run_clocked(rt: &HostRuntime, words: &[String]) -> io::Result<()> {
+/// The words of the command line; none where they cannot be read as a whole.
+fn words<R: Env + AllocGlobal>(rt: &R) -> Vec<String> {
+    match env::args(rt) {
+        Ok(args) => args.collect(rt.alloc()).unwrap_or(Vec::new(rt.alloc())),
+        Err(_) => Vec::new(rt.alloc()),
+    }
+}
+
+/// The case and the rounds that words ask for, where they are a name and a number.
+fn case_of(words: &[String]) -> Option<(&str, u64)> {
+    if words.len() != 3 {
+        return None;
+    }
+    match words[2].as_str().parse::<u64>() {
+        Ok(rounds) => Some((words[1].as_str(), rounds)),
+        Err(_) => None,
+    }
+}
+
+/// Does a case, or what `polypar` does over standard input, output and error, with a clock.
+fn main(rt: HostRuntime) -> ExitCode {
+    let words = words(&rt);
+    if let Some((case, rounds)) = case_of(&words) {
+        return match repeat_named(&rt, case, rounds) {
+            Ok(true) => ExitCode::SUCCESS,
+            _ => ExitCode::FAILURE,
+        };
+    }
     let mut source = StdSource::of(rt.stdin());
     let mut out = StdSink::of(rt.stdout());
     let mut err = StdSink::of(rt.stderr());
-    clocked(rt, rt.alloc(), words, &mut source, &mut out, &mut err)
-}
-
-/// Does what the words of the command line ask for: a case where they are a name and a number.
-fn run_words(rt: &HostRuntime) -> io::Result<bool> {
-    let words: Vec<String> = env::args(rt)?.collect(rt.alloc())?;
-    if words.len() == 3 {
-        if let Ok(rounds) = words[2].as_str().parse::<u64>() {
-            return repeat_named(rt, words[1].as_str(), rounds);
-        }
-    }
-    run_clocked(rt, &words)?;
-    Ok(true)
-}
-
-fn main(rt: HostRuntime) -> ExitCode {
-    match run_words(&rt) {
-        Ok(true) => ExitCode::SUCCESS,
-        _ => ExitCode::FAILURE,
+    match clocked(&rt, rt.alloc(), &words, &mut source, &mut out, &mut err) {
+        Ok(()) => ExitCode::SUCCESS,
+        Err(_) => ExitCode::FAILURE,
     }
 }
