@@ -16,6 +16,10 @@ use crate::table::{Row, Table};
 use scop_syntax::Instance;
 use std::alloc::{AllocError, Global};
 
+/// How many entries of room stand behind each list of a desk, which nobody uses: so no two workers' lists share a line
+/// of a cache.
+const MARGIN: usize = 16;
+
 /// Room for one statement's instances: the lanes of its cells, the place first, then the reads, those of its affine
 /// parts, and the slots of its code.
 #[derive(Drop)]
@@ -32,9 +36,12 @@ impl Desk {
             × (length desk.slots.items ≡ slots)) }
     {
         let none = Lane { at: 0, step: 0 };
-        let cells = Vec::from_elem(alloc, none, cells)?;
-        let leaves = Vec::from_elem(alloc, none, leaves)?;
-        let slots = Vec::from_elem(alloc, 0u64, slots)?;
+        let mut cells = Vec::from_elem(alloc, none, cells)?;
+        cells.reserve(MARGIN)?;
+        let mut leaves = Vec::from_elem(alloc, none, leaves)?;
+        leaves.reserve(MARGIN)?;
+        let mut slots = Vec::from_elem(alloc, 0u64, slots)?;
+        slots.reserve(MARGIN)?;
         Ok(Desk {
             cells,
             leaves,
