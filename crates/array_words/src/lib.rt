@@ -8,12 +8,12 @@ mod adding;
 mod closing;
 mod gathering;
 mod loading;
-mod opening;
+mod opening_state;
 mod storing;
 
 pub use adding::{Adding, add, add_at};
 pub use closing::{Closed, close};
 pub use gathering::Merge;
 pub use loading::{Loading, load, load_at};
-pub use opening::{Cut, start};
+pub use opening_state::{Cut, start};
 pub use storing::{Storing, store, store_at};

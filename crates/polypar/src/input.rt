@@ -1,6 +1,6 @@
 //! What a command that reads an input does: the source is read to its end and cut into a kernel and its data. For `run`
 //! the data's case is run by the kernel's plan, and the final arrays are printed; for the other commands see `kernel` and
-//! `checking`.
+//! `check`.
 
 ghost use Rattle.std.specs.Prelude.{◌≡◌, MatchResult, Some, option_map};
 ghost use Rattle.io_ports.specs.Writes.{Writes};

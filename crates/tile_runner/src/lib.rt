@@ -9,9 +9,9 @@ mod ahead;
 mod copies;
 mod joins;
 mod rounds;
-mod running;
 mod stretches;
-mod working;
+mod worker;
+mod workers;
 
-pub use running::run_plan;
-pub use working::{do_tile, is_opened, release_all, work};
+pub use worker::{do_tile, is_opened, release_all, work};
+pub use workers::run_plan;

@@ -4,8 +4,8 @@ ghost use Rattle.std.specs.Prelude.{◌≡◌, ◌+◌, ◌≤◌, IfErr, IfOk, 
 ghost use Rattle.tile_core.specs.Plans.{IsPlan, extents_in, is_expanded, plain_shape, program_in, shape_of, walk_shape};
 ghost use Rattle.tile_runs.specs.steps.Rows.{Begins, Executes, HasZeros};
 
+use crate::copies::settle;
 use crate::rows::append_zeros;
-use crate::settling::settle;
 use crate::workers::Workers;
 use loop_tree::{Spot, Tree};
 use std::alloc::{AllocError, Global};

@@ -6,17 +6,17 @@
 #![tactic(auto)]
 
 mod alone;
+mod cases;
+mod copies;
 mod counters;
-mod expanding;
+mod expansion;
 mod pairs;
 mod rows;
-mod running;
-mod settling;
 mod threads;
 mod workers;
 
-pub use expanding::sources_of;
-pub use running::{Counts, plan_of, run_case, tiles_of};
+pub use cases::{Counts, plan_of, run_case, tiles_of};
+pub use expansion::sources_of;
 pub use threads::{By, run_on_threads};
 pub use workers::{OneWorker, Workers};
 

@@ -11,7 +11,7 @@ use Rattle.tile_core.specs.Views.{at_stage, behind, plan_at, tile_at, needs_at}
 use Rattle.tile_core.specs.Passes.{plan_in}
 use Rattle.tile_events.specs.Rule.{gate_word}
 use Rattle.wave_barrier.specs.declared.counting.Short.{Short}
-use Rattle.wave_barrier.specs.declared.opening.NotYet.{NotYet}
+use Rattle.wave_barrier.specs.declared.waves.NotYet.{NotYet}
 
 -- it holds a tile that it has not opened
 abbrev pub IsHolding : Stage → Type 0

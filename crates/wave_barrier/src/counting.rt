@@ -8,7 +8,7 @@ ghost use Rattle.tile_events.specs.Core.{needed_by};
 ghost use Rattle.tile_events.specs.Rule.{gate_word};
 ghost use Rattle.wave_barrier.specs.Opens.{DoesOpenBy, DoesOpenTile, IsHolding};
 
-use crate::opening::{Opening, needed};
+use crate::waves::{Opening, needed};
 use tile_core::{Pass, Stage, View, Words};
 use tile_events::events_are_allowed;
 

@@ -7,10 +7,10 @@
 
 mod counting;
 mod finishing;
-mod opening;
 mod releasing;
+mod waves;
 
 pub use counting::{Short, try_open_tile};
 pub use finishing::{Finishing, finish};
-pub use opening::{NotYet, Opening, try_open};
 pub use releasing::{Releasing, release};
+pub use waves::{NotYet, Opening, try_open};
