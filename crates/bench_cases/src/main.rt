@@ -10,11 +10,10 @@ mod rows;
 mod steps;
 
 use crate::clocked::clocked;
-use io_ports::{StdSink, StdSource};
+use io_ports::{StdSink, StdSource, words};
+use std::io;
 use std::io::Read;
 use std::process::ExitCode;
-use std::rt::Env;
-use std::{env, io};
 
 /// Every case by its name.
 const CASES: [&str; 7] = [
@@ -56,14 +55,6 @@ fn repeat_named(rt: &HostRuntime, case: &str, rounds: u64) -> io::Result<bool> {
     match case {
         "all" => repeat_each(rt, rounds, &text),
         _ => repeat(rt, case, rounds, &text),
-    }
-}
-
-/// The words of the command line; none where they cannot be read as a whole.
-fn words<R: Env + AllocGlobal>(rt: &R) -> Vec<String> {
-    match env::args(rt) {
-        Ok(args) => args.collect(rt.alloc()).unwrap_or(Vec::new(rt.alloc())),
-        Err(_) => Vec::new(rt.alloc()),
     }
 }
 

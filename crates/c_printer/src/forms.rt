@@ -2,12 +2,12 @@
 
 ghost use Rattle.std.specs.Prelude.{◌≡◌, ◌++◌, ◌+ℤ◌, ◌*ℤ◌, pos, drop, take, get_or, map, IfOk, OnOk};
 ghost use Rattle.whole_numbers.specs.Affine.{form_of};
-ghost use Rattle.whole_numbers.specs.Lists.{multiples, sums, zeros};
+ghost use Rattle.whole_numbers.specs.Lists.{multiples, sums};
 ghost use Rattle.form_text.specs.Forms.{form_text};
 ghost use Rattle.c_printer.specs.Forms.{iterator_form, spread, tree_form_text, turned};
 
 use form_text::{put_constant, put_term};
-use scop_syntax::{Aff, Loop, Name};
+use scop_syntax::{Aff, Loop, Name, zeros};
 use std::alloc::{AllocError, Global};
 
 /// Puts a form with these coefficients, one for each name, and this constant.
@@ -53,13 +53,6 @@ pub fn turned(alloc: Global, loops: usize, coefficients: &[i64]) -> Result<Vec<i
     let mut all = Vec::from_slice(alloc, back)?;
     all.extend_from_slice(front)?;
     Ok(all)
-}
-
-/// So many zeros.
-fn zeros(alloc: Global, count: usize) -> Result<Vec<i64>, AllocError>
-    ensures { IfOk result (λ v. v.items ≡ zeros count) }
-{
-    vec![in alloc; 0; count]
 }
 
 /// The coefficients of a form of the source in the order of the text.

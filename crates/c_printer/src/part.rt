@@ -1,29 +1,19 @@
 //! What reading an emitted text gives: a part of the tree, and what stands behind it.
 
-ghost use Rattle.std.specs.Prelude.{◌≡◌, ◌++◌, ◌∷◌, [], OnOk};
+ghost use Rattle.std.specs.Prelude.{◌≡◌};
 ghost use Rattle.form_text.specs.Reading.{strip};
 ghost use Rattle.form_text.specs.View.{text_in};
 ghost use Rattle.c_printer.specs.Nodes.{repeated};
 ghost use Rattle.c_printer.specs.steps.Reading.{behind_between};
 
+pub use affine_forms::push;
 use form_text::strip;
-use std::alloc::AllocError;
 
 /// A part of a tree, and what stands behind it in the text.
 #[derive(Drop)]
 pub struct Read<'a, T> {
     pub part: T,
     pub rest: &'a [u8],
-}
-
-/// A part behind others.
-pub fn push<T: Drop>(parts: &mut Vec<T>, part: T) -> Result<(), AllocError>
-    ensures { OnOk result (parts.new.items ≡ parts.old.items ++ part ∷ []) }
-{
-    match parts.push(part) {
-        Ok(()) => Ok(()),
-        Err(_) => Err(AllocError),
-    }
 }
 
 /// What stands behind a text between two others.

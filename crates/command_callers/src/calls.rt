@@ -31,7 +31,7 @@ ghost use Rattle.loop_tree.specs.Tree.{Trees};
 ghost use Rattle.loop_tree.specs.Walk.{Visit, walk_all};
 ghost use Rattle.tile_list.specs.Counting.{HasTiles, HasWaves};
 ghost use Rattle.c_printer.specs.Nodes.{text_of};
-ghost use Rattle.plan_check.specs.Goals.{InRange};
+ghost use Rattle.scop_syntax.specs.Limits.{AreInRange};
 ghost use Rattle.plan_check.specs.Judged.{SaysPlan, judged, rejected_at};
 ghost use Rattle.plan_check.specs.Plans.{Plan, tiling_of};
 ghost use Rattle.plan_check.specs.declared.kinds.FaultKind.{FaultKind};
@@ -136,8 +136,8 @@ pub fn answered_certificate<S: Source, O: Sink, E: Sink>(
     ensures checked { IsCheckCommand (map string_bytes words.now) → result ≡ Done
         → (input : List ℕ) × (kernel : Spelled input) × (plan : Plan) × IsAllOf (S.shows source.old).left input
         × SaysPlan kernel.program (data_part input) plan
-        × ((params : List ℤ) (size : ℕ) → length params ≡ length kernel.program.parameters → InRange params → 0 < size
-        → IsGoodPlan kernel.program params (tiling_of size (length (model_of kernel.program).statements) plan))
+        × ((params : List ℤ) (size : ℕ) → length params ≡ length kernel.program.parameters → AreInRange params
+        → 0 < size → IsGoodPlan kernel.program params (tiling_of size (length (model_of kernel.program).statements) plan))
         × Appends (O.shows out.old).taken (O.shows out.new).taken (codes "yes\n") }
     ensures certified { (budget : ℕ) → IsCertifyCommand budget (map string_bytes words.now) → result ≡ Done
         → GainsCertificate budget (S.shows source.old).left (O.shows out.old).taken (O.shows out.new).taken }

@@ -3,7 +3,8 @@ use Rattle.conflict_deps.proofs.Common.{◌≡◌, ℕ, ◌+◌, ℤ, List, [], 
 use Rattle.conflict_deps.proofs.Common.{Visit, Dependence, KernelModel, IsPoint, IsEnd, HasParts}
 use Rattle.scop_syntax.proofs.Common.{instance}
 use Rattle.iteration_domains.specs.Dependence.{binds_in}
-use Rattle.iteration_domains.specs.Related.{InRange, Relates}
+use Rattle.scop_syntax.specs.Limits.{AreInRange}
+use Rattle.iteration_domains.specs.Related.{Relates}
 
 -- its dimensions are the turns of both ends
 pub dimensions_are : (model : KernelModel) (d : Dependence) → HasParts model d
@@ -16,7 +17,7 @@ pub none_bound : (model : KernelModel) (d : Dependence) → HasParts model d →
 none_bound model d h = let e = dimensions_are model d h in omega (arith, e)
 
 -- the pair of a dependence that binds no quotient
-pub pair_of : (program : Program) (params : List ℤ) (d : Dependence) (v w : Visit) (a b : ℕ) → InRange params
+pub pair_of : (program : Program) (params : List ℤ) (d : Dependence) (v w : Visit) (a b : ℕ) → AreInRange params
     → IsPoint program params d v.turns w.turns → IsEnd d.source v a → IsEnd d.target w b
     → All (λ z. pos 0 ≤ℤ z) v.turns → All (λ z. pos 0 ≤ℤ z) w.turns → binds_in d ≡ 0
     → Relates params d (instance v) (instance w)

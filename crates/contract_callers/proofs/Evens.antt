@@ -1,6 +1,6 @@
 -- The worked dependence that binds a quotient, at its points.
 use Rattle.scop_syntax.proofs.Common.{◌≡◌, refl, arith, ℕ, ℤ, pos, negsuc, List, [], ◌∷◌, ◌++◌, length, All, ◌+◌, ◌+ℤ◌}
-use Rattle.scop_syntax.proofs.Common.{◌≤ℤ◌, ints, All-cons, All-head, All-nil, Affine, form_of, value_of}
+use Rattle.scop_syntax.proofs.Common.{◌≤ℤ◌, ints, All-cons, All-head, All-nil, Affine, form_of, value_of, IsInRange}
 use Rattle.iteration_domains.specs.Related.{Relates}
 use Rattle.contract_callers.specs.Worked.{every_other_turn, turn}
 
@@ -19,7 +19,7 @@ pair q =
     let Zero = λ (f : Affine). value_of f (x ∷ y ∷ pos q ∷ []) ≡ pos 0 in
     let Least = λ (z : ℤ). pos 0 ≤ℤ z in
     record {
-      range = All-nil (λ (z : ℤ). (pos 0 ≤ℤ z) × (z ≤ℤ pos 65536));
+      range = All-nil IsInRange;
       source = refl;
       target = refl;
       source_size = refl;

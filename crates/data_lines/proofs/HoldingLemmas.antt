@@ -3,7 +3,7 @@ use Rattle.scop_syntax.proofs.Common.{◌≡◌, ◌∙◌, sym, ap, ap₂, subs
 use Rattle.scop_syntax.proofs.Common.{true, false, leb, if◌then◌else◌, List, [], ◌∷◌, ◌++◌, length, get_or, set}
 use Rattle.scop_syntax.proofs.Common.{append_assoc, append-nil, arith, length-append, get_or-append_seam, cases_lt}
 use Rattle.scop_syntax.proofs.Common.{get_or_append_left, get_or_past, length-replicate, Option, Some, None, Result, Ok}
-use Rattle.scop_syntax.proofs.Common.{Err, replicate, is_some, not, Program}
+use Rattle.scop_syntax.proofs.Common.{Err, replicate, is_some, not, Program, most_parameter}
 use Rattle.std.proofs.Common.{leb-true, leb-false, length-set, get_or-set_same, get_or-set_other}
 use Rattle.std.proofs.lemmas.Bool.{cases_eq}
 use Rattle.scop_lexer.specs.Bytes.{Text}
@@ -315,10 +315,10 @@ one_number word none = ap (λ o. with_number o (Some [])) none
 -- a line that names a parameter
 value_by_size : (s : Spot) (i value : ℕ) (word : Text) (small : Bool) → ListsAt s (Parameter i) (word ∷ [])
     → IsUnnamed s.program (Parameter i) s.old → is_seed word ≡ false → number_of word ≡ Some value
-    → leb value 65536 ≡ small
+    → leb value most_parameter ≡ small
     → Leaves s (with_value s.sheet i (if small then Ok value else Err (ParameterRange s.k)))
 value_by_size s i value word true lists unnamed plain number is = value_holds s i value (word ∷ []) lists unnamed
-    (record { word = word; one = refl; number = number; small = omega (arith, leb-true value 65536 is) })
+    (record { word = word; one = refl; number = number; small = omega (arith, leb-true value most_parameter is) })
 value_by_size s i value word false lists unnamed plain number is =
     let here = lists_all s (Parameter i) (word ∷ []) lists in
     let numeral : numbers_of (numerals (word ∷ [])) ≡ Some (value ∷ []) =
@@ -329,7 +329,7 @@ value_by_size s i value word false lists unnamed plain number is =
       value = value;
       lists = here;
       number = number;
-      above = leb-false value 65536 is;
+      above = leb-false value most_parameter is;
     }) (
       keeps_form s (Parameter i) (word ∷ []) (λ same. cc) lists unnamed (ap not plain),
       λ other. let same = same_line s.program (Parameter i) other.0 (word ∷ []) other.1 (s.all s.k) here other.2 in
@@ -341,7 +341,7 @@ value_by_number : (s : Spot) (i : ℕ) (word : Text) (o : Option ℕ) → ListsA
     → IsUnnamed s.program (Parameter i) s.old → is_seed word ≡ false → number_of word ≡ o
     → Leaves s (with_value s.sheet i (value_of_number s.k o))
 value_by_number s i word (Some value) lists unnamed plain is =
-    value_by_size s i value word (leb value 65536) lists unnamed plain is refl
+    value_by_size s i value word (leb value most_parameter) lists unnamed plain is refl
 value_by_number s i word None lists unnamed plain is =
     no_number_told s (Parameter i) (word ∷ []) (λ same. cc) lists unnamed (ap not plain)
     (ap numbers_of (numerals_all word [] plain) ∙ one_number word is)

@@ -3,6 +3,7 @@
 use Rattle.std.specs.Prelude.{◌≡◌, ℕ, ◌+◌, Bool, true, false, nat_le, if◌then◌else◌, List, [], ◌∷◌, codes, Option}
 use Rattle.std.specs.Prelude.{Some, None, slice_index_or, slice_set, is_some, Result, Ok, Err, ⊤}
 use Rattle.std.specs.Str.{bytes_eq}
+use Rattle.scop_syntax.specs.Limits.{most_parameter}
 use Rattle.scop_syntax.specs.Tree.{Program}
 use Rattle.scop_lexer.specs.Bytes.{Text}
 use Rattle.data_lines.specs.declared.refusal.DataRefusal.{DataRefusal}
@@ -23,10 +24,10 @@ is_seed word = bytes_eq word (codes "seed")
 
 -- the value that a number gives a parameter
 abbrev pub value_of_number : ℕ → Option ℕ → Result ℕ DataRefusal
-value_of_number line (Some value) = if nat_le value 65536 then Ok value else Err (ParameterRange line)
+value_of_number line (Some value) = if nat_le value most_parameter then Ok value else Err (ParameterRange line)
 value_of_number line None = Err (Number line)
 
--- the value that words give a parameter: one word, which is a number of at most 65536
+-- the value that words give a parameter: one word, which is a number within the limit
 abbrev pub value_said : ℕ → List Text → Result ℕ DataRefusal
 value_said line [] = Err (Line line)
 value_said line (word ∷ []) = if is_seed word then Err (Line line) else value_of_number line (number_of word)

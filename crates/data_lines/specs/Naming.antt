@@ -3,6 +3,7 @@
 use Rattle.std.specs.Prelude.{◌≡◌, ◌≢◌, ◌⊎◌, ℕ, ◌<◌, ◌≤◌, Bool, true, false, not, if◌then◌else◌, List, []}
 use Rattle.std.specs.Prelude.{◌∷◌, length, slice_index_or, Option, Some, None, ⊤}
 use Rattle.scop_lexer.specs.Bytes.{Text}
+use Rattle.scop_syntax.specs.Limits.{most_parameter}
 use Rattle.scop_syntax.specs.Tree.{Program}
 use Rattle.data_lines.specs.declared.places.Place.{Place}
 use Rattle.data_lines.specs.declared.places.Place.TheVariants.{Nowhere, Parameter, Array}
@@ -56,12 +57,12 @@ pub record AreLines (program : Program) (lines : ℕ → Text) : Type 0 where
   pub each : (n : ℕ) → IsBlank (lines n) ⊎ ((place : Place) × (place ≢ Nowhere) × Names program place (lines n))
   pub once : (m n : ℕ) (place : Place) → Names program place (lines m) → Names program place (lines n) → m ≡ n
 
--- one word, a number of at most 65536
+-- one word, a number that a parameter may be
 pub record IsValue (value : ℕ) (words : List Text) : Type 0 where
   pub word : Text
   pub one : words ≡ word ∷ []
   pub number : number_of word ≡ Some value
-  pub small : value ≤ 65536
+  pub small : value ≤ most_parameter
 
 -- numbers, at least one, which the cells of an array hold, be it narrow or not
 pub record AreNumbers (narrow : Bool) (cells : List ℕ) (words : List Text) : Type 0 where
@@ -147,14 +148,14 @@ abbrev pub ListsNoNumber : Program → Text → Type 0
 ListsNoNumber program line = (place : Place) × (words : List Text) × Lists program place words line
     × (cells_of (are_narrow program place words) (numerals words) ≡ None)
 
--- a line gives a parameter a number above 65536
+-- a line gives a parameter a number above the greatest
 pub record IsAbove (program : Program) (line : Text) : Type 0 where
   pub parameter : ℕ
   pub word : Text
   pub value : ℕ
   pub lists : Lists program (Parameter parameter) (word ∷ []) line
   pub number : number_of word ≡ Some value
-  pub above : 65536 < value
+  pub above : most_parameter < value
 
 -- a line names what an earlier line names
 pub record IsRepeated (program : Program) (lines : ℕ → Text) (n : ℕ) : Type 0 where

@@ -3,6 +3,7 @@ use Rattle.std.specs.Prelude.{◌≡◌, ◌<◌, ◌≤◌, ⊤, ℕ, Bool, fal
 use Rattle.std.specs.Prelude.{slice_index_or, Option, Some, None}
 use Rattle.std.specs.List.{position_from}
 use Rattle.std.specs.Str.{bytes_eq}
+use Rattle.scop_syntax.specs.Limits.{most_parameter}
 use Rattle.scop_syntax.specs.Tree.{Program}
 use Rattle.scop_syntax.specs.Kernel.{narrow_arrays}
 use Rattle.scop_lexer.specs.Bytes.{Text}
@@ -71,9 +72,9 @@ IsPlaceOf parameters arrays Nowhere = ⊤
 IsPlaceOf parameters arrays (Parameter i) = i < parameters
 IsPlaceOf parameters arrays (Array j) = j < arrays
 
--- the values on a sheet are at most 65536
+-- the values on a sheet are those that a parameter may have
 abbrev pub AreSmall : List (Option ℕ) → Type 0
-AreSmall values = All (λ value. IfSome value (λ n. n ≤ 65536)) values
+AreSmall values = All (λ value. IfSome value (λ n. n ≤ most_parameter)) values
 
 -- a sheet of a program has a place for each parameter and each array
 pub record IsSheetOf (program : Program) (sheet : Sheet) : Type 0 where

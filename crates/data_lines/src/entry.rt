@@ -1,6 +1,7 @@
 //! What a line says of a parameter or an array, by the words behind its `=`.
 
 ghost use Rattle.std.specs.Prelude.{◌≡◌, ◌<◌, ◌≤◌, Ok, Err, IfOk, IfErr, OnOk, length};
+ghost use Rattle.scop_syntax.specs.Limits.{most_parameter};
 ghost use Rattle.scop_syntax.specs.View.{program_of};
 ghost use Rattle.data_lines.specs.Words.{words_of};
 ghost use Rattle.data_lines.specs.Sheets.{KeepsShape, IsSheetOf, given_of, seeded, sheet_of};
@@ -25,7 +26,7 @@ fn is_seed(word: &[u8]) -> bool
 /// The value that a list gives a parameter.
 fn value_said(line: u64, list: &[u8]) -> Result<u64, DataRefusal>
     ensures value { result ≡ value_said line (words_of list.now) }
-    ensures small { IfOk result (λ value. value ≤ 65536) }
+    ensures small { IfOk result (λ value. value ≤ most_parameter) }
 {
     let Some(first) = first_word(list) else {
         return Err(DataRefusal::Line(line));

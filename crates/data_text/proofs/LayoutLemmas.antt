@@ -2,7 +2,8 @@
 use Rattle.scop_syntax.proofs.Common.{◌≡◌, refl, ℕ, zero, suc, ◌+◌, ◌*◌, ◌^◌, ◌≤◌, Bool, true, false, if◌then◌else◌}
 use Rattle.scop_syntax.proofs.Common.{List, [], ◌∷◌, map, length, arith, ℤ, pos, negsuc, ◌≤ℤ◌, int_le, All, IfSome}
 use Rattle.scop_syntax.proofs.Common.{Option, Some, None, unsigned_abs, ints, length-map, All-cons, Affine, value_of}
-use Rattle.scop_syntax.proofs.Common.{Declaration, values, size_of, IsAffine, IsDeclaration}
+use Rattle.scop_syntax.proofs.Common.{Declaration, values, size_of, AreInRange, IsAffine, IsDeclaration, IsInRange}
+use Rattle.scop_syntax.proofs.Common.{most_parameter}
 use Rattle.std.proofs.Common.{leb-true}
 use Rattle.data_lines.specs.Sheets.{AreSmall}
 use Rattle.data_lines.specs.declared.refusal.DataRefusal.{DataRefusal}
@@ -18,11 +19,8 @@ all_tail P x xs all k d within = all (suc k) d (omega (arith, within))
 all_none : {X : Type 0} (P : X → Type 0) → All P (let e : List X = [] in e)
 all_none P k d within = absurd (omega (arith, within))
 
-abbrev Lies : ℤ → Type 0
-Lies p = (pos 0 ≤ℤ p) × (p ≤ℤ pos 65536)
-
 abbrev IsLow : Option ℕ → Type 0
-IsLow value = IfSome value (λ n. n ≤ 65536)
+IsLow value = IfSome value (λ n. n ≤ most_parameter)
 
 abbrev IsPositive : List ℤ → Affine → Type 0
 IsPositive params form = pos 1 ≤ℤ value_of form params
@@ -33,14 +31,14 @@ ArePositive params d = All (IsPositive params) d.extents
 abbrev IsSize : ℕ → Type 0
 IsSize e = e ≤ 2 ^ 23
 
--- the values of the parameters lie from 0 to 65536
-param_lies : (value : Option ℕ) → IsLow value → Lies (param_of value)
+-- the values of the parameters lie in range
+param_lies : (value : Option ℕ) → IsLow value → IsInRange (param_of value)
 param_lies (Some n) small = (omega (arith, ints), omega (arith, ints, small))
 param_lies None small = (omega (arith, ints), omega (arith, ints))
 
-params_lie : (values : List (Option ℕ)) → AreSmall values → All Lies (params_of values)
-params_lie [] small = all_none Lies
-params_lie (value ∷ values) small = All-cons Lies (param_of value) (params_of values)
+params_lie : (values : List (Option ℕ)) → AreSmall values → AreInRange (params_of values)
+params_lie [] small = all_none IsInRange
+params_lie (value ∷ values) small = All-cons IsInRange (param_of value) (params_of values)
     (param_lies value (small 0 None (omega arith))) (params_lie values (all_tail IsLow value values small))
 
 pub are_parameters : (values : List (Option ℕ)) → AreSmall values → length values ≤ 4 → AreParameters (params_of values)

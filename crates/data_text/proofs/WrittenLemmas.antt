@@ -4,7 +4,7 @@ use Rattle.scop_syntax.proofs.Common.{Bool, false, List, [], ◌∷◌, ◌++◌
 use Rattle.scop_syntax.proofs.Common.{append_assoc, length-append, arith, ints, get_or_append_left, get_or-append-add}
 use Rattle.scop_syntax.proofs.Common.{get_or-map, get_or_default, length-map, All-nil, All-cons, All-append, All-map}
 use Rattle.scop_syntax.proofs.Common.{All, ℤ, pos, negsuc, ◌≤ℤ◌, ⊤, list_all, Declaration, Program, IsShaped}
-use Rattle.scop_syntax.proofs.Common.{cell_count, layout, size_of, WithinLimits}
+use Rattle.scop_syntax.proofs.Common.{cell_count, layout, size_of, IsInRange, WithinLimits, most_parameter}
 use Rattle.std.proofs.Common.{ne_eqb}
 use Rattle.std.proofs.Math.Nat.{one-le-mul}
 use Rattle.std.proofs.lemmas.List.Splits.{slice_split_at}
@@ -142,16 +142,16 @@ text_is program params contents count =
     (sym (parameter_count params ∙ count))
 
 -- numbers of parameters
-small_value : (p : ℤ) → pos 0 ≤ℤ p → p ≤ℤ pos 65536 → (size_of p ≤ 65536) × (p ≡ pos (size_of p))
-small_value (pos n) low high = (omega (arith, ints, high), refl)
-small_value (negsuc n) low high = absurd (omega (arith, ints, low))
+small_value : (p : ℤ) → IsInRange p → (size_of p ≤ most_parameter) × (p ≡ pos (size_of p))
+small_value (pos n) lies = (omega (arith, ints, lies.1), refl)
+small_value (negsuc n) lies = absurd (omega (arith, ints, lies.0))
 
 value_at : (program : Program) (params : List ℤ) (i : ℕ) → WithinLimits program params → i < length params
-    → (let p = get_or params i (pos 0) in (size_of p ≤ 65536) × (p ≡ pos (size_of p)))
+    → (let p = get_or params i (pos 0) in (size_of p ≤ most_parameter) × (p ≡ pos (size_of p)))
 value_at program params i limits within =
-    let lies = limits.parameters i (pos 0) within in small_value (get_or params i (pos 0)) lies.0 lies.1
+    small_value (get_or params i (pos 0)) (limits.parameters i (pos 0) within)
 
-parameter_row : (n : ℕ) → n ≤ 65536 → IsRow (n ∷ [])
+parameter_row : (n : ℕ) → n ≤ most_parameter → IsRow (n ∷ [])
 parameter_row n small = (
   omega arith,
   All-cons (λ cell. cell < 2 ^ 64) n [] (omega (arith, small)) (All-nil (λ cell. cell < 2 ^ 64)),

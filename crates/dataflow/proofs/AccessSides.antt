@@ -4,7 +4,7 @@ use Rattle.dataflow.proofs.Common.{Ok, sym, ap, ap₂, subst, ◌∙◌, refl, a
 use Rattle.dataflow.proofs.Common.{values_of, NotNegative, get_map, Cell, accesses, cell_of, In, Placed, Runs}
 use Rattle.dataflow.proofs.Common.{statements_of, visit_of, Access, Program, Visit, walk_of, place_of, Satisfies, found}
 use Rattle.dataflow.proofs.Common.{LeafPath, AreOver, Goes, binds_in, leaf_paths, live_paths, Source, Tree, Speaks}
-use Rattle.dataflow.proofs.Common.{BindsUp, value, Dependence, Modelled, model_of, modelled, InRange, IsKernelModel}
+use Rattle.dataflow.proofs.Common.{BindsUp, value, Dependence, Modelled, model_of, modelled, AreInRange, IsKernelModel}
 use Rattle.dataflow.proofs.Common.{instance_is_point, Side, side, loops_of, sides_in, sides_of, IsEnd, TouchesAt}
 use Rattle.dataflow.proofs.Common.{in_flat_map_from, side_to, Writes, written_of, Names, IsWritePoint, reader_end}
 use Rattle.dataflow.proofs.Common.{wanted_writer, writer_end, read_variables, writers_run}
@@ -35,7 +35,7 @@ pub record CoverLaws (program : Program) (params : List ℤ) (budget : ℕ) : Ty
   pub number : (k : ℕ) (p : Placed) → slice_get (statements_of program) k ≡ Some p → p.number ≡ k
   pub model : IsKernelModel (model_of program)
   pub count : length params ≡ length program.parameters
-  pub range : InRange params
+  pub range : AreInRange params
   pub up : NotNegative params
   pub turns : (v : Visit) → In v (walk_of program params) → All (λ z. pos 0 ≤ℤ z) v.turns
   pub points : (way : Way) (j k : ℕ) (w : Visit) (b : ℕ) (c : Cell) → TouchesAt program params j w b c

@@ -9,7 +9,7 @@ use Rattle.dataflow.proofs.Common.{loops_of, source_form, target_form, cell_rows
 use Rattle.dataflow.proofs.Common.{HasParts, value_of-source, value_of-target, flipped, IsWanted, writer_end}
 use Rattle.dataflow.proofs.Common.{reader_end, writer_side, reader_side, IsCandidate, IsWritePoint, top, turned, moved}
 use Rattle.dataflow.proofs.Common.{flat, own, own_equalities_of, own_rows_of, all_below, posed_rows, posed_context}
-use Rattle.dataflow.proofs.Common.{turned_leaf, writer_turns}
+use Rattle.dataflow.proofs.Common.{turned_leaf, writer_turns, AreInRange, most_parameter, params_not_negative}
 use Rattle.scop_syntax.proofs.Common.{append_assoc}
 use Rattle.tableau_rows.specs.Problem.{Problem, IsPoint as IsProblemPoint}
 use Rattle.quast_trees.specs.Leaf.{initial}
@@ -333,14 +333,6 @@ not_above (x ∷ xs) all =
     let h1 = h.1 in
     (omega (arith, ints), not_above xs (All-tail (λ (z : ℤ). (pos 0 ≤ℤ z) × (z <ℤ pos (2 ^ 46))) x xs all))
 
-pub up_bounded : (most : ℤ) (xs : List ℤ) → All (λ x. (pos 0 ≤ℤ x) × (x ≤ℤ most)) xs → NotNegative xs
-up_bounded most [] all = tt
-up_bounded most (x ∷ xs) all = (
-  (All-head (λ (z : ℤ). (pos 0 ≤ℤ z) × (z ≤ℤ most)) x xs all).0,
-  up_bounded most xs
-      (All-tail (λ (z : ℤ). (pos 0 ≤ℤ z) × (z ≤ℤ most)) x xs all),
-)
-
 up_turns : (xs : List ℤ) → All (λ x. (pos 0 ≤ℤ x) × (x <ℤ pos (2 ^ 46))) xs → NotNegative xs
 up_turns [] all = tt
 up_turns (x ∷ xs) all = (
@@ -427,8 +419,7 @@ answer_wanted way program params j w b c dep p number loops l laws count small t
         (refl, m.0, m.1)
 
 -- the context holds at the kernel's parameters and an instance's turns
-pub context_up : (params ys : List ℤ) (t : Modelled) → Reads params ys t
-    → All (λ x. (pos 0 ≤ℤ x) × (x ≤ℤ pos 65536)) params
+pub context_up : (params ys : List ℤ) (t : Modelled) → Reads params ys t → AreInRange params
     → NotNegative (row_values (posed_context t (length params)) (params ++ ys))
 context_up params ys t reads bounds =
     let m = length params in
@@ -441,16 +432,17 @@ context_up params ys t reads bounds =
     let eqs = flat_up (map h t.domain.equalities) x (zero_mapped h t.domain.equalities (ys ++ params) x same
     (zero_of_all t.domain.equalities (ys ++ params) reads.holds.0)) in
     let rows = up_mapped h t.domain.rows (ys ++ params) x same (up_of_all t.domain.rows (ys ++ params) reads.holds.1) in
-    let most = below_up (pos 65536) (m + e) 0 m x params size refl (goes_on [] params ys) bounds in
+    let below = all_below (pos most_parameter) (m + e) 0 m in
+    let most = below_up (pos most_parameter) (m + e) 0 m x params size refl (goes_on [] params ys) bounds in
     up_rows (posed_context t m) x
-    (up-append (flat (map h t.domain.equalities)) (map h t.domain.rows ++ all_below (pos 65536) (m + e) 0 m) x eqs
-    (up-append (map h t.domain.rows) (all_below (pos 65536) (m + e) 0 m) x rows most))
+    (up-append (flat (map h t.domain.equalities)) (map h t.domain.rows ++ below) x eqs
+    (up-append (map h t.domain.rows) below x rows most))
 
 -- the minimum of a candidate's problem, turned back, is the wanted writer
 pub minimum_wanted : (way : Way) (program : Program) (params : List ℤ) (j : ℕ) (w : Visit) (b : ℕ) (c : Cell)
     (dep : Dependence) (p : HasParts (model_of program) dep) (number : ℕ) (loops : List ℕ) (t : Tree)
     → Laws program params → length params ≡ length program.parameters
-    → All (λ x. (pos 0 ≤ℤ x) × (x ≤ℤ pos 65536)) params
+    → AreInRange params
     → ((k : ℕ) (u : Visit) → slice_get (walk_of program params) k ≡ Some u
     → All (λ x. (pos 0 ≤ℤ x) × (x <ℤ pos (2 ^ 46))) u.turns)
     → TouchesAt program params j w b c → IsCandidate way program w b dep
@@ -464,7 +456,7 @@ pub minimum_wanted : (way : Way) (program : Program) (params : List ℤ) (j : �
     (turned_leaf way number loops (value t (params ++ w.turns)))
 minimum_wanted way program params j w b c dep p number loops t laws count bounds small touches cand inside least =
     let reader = (reader_side way p.from p.to).statement in
-    let up = up_bounded (pos 65536) params bounds in
+    let up = params_not_negative params bounds in
     let reads : Reads params w.turns reader = record { size = inside.0; holds = inside.1; up = up } in
     let long : length (params ++ w.turns) ≡ length params + loops_of (reader_side way p.from p.to) =
     (let a = length-append params w.turns in let e = inside.0 in omega arith) in

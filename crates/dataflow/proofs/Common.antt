@@ -51,7 +51,7 @@ pub use Rattle.iteration_domains.proofs.TreeStatements.{model_is_one, one_model}
 pub use Rattle.iteration_domains.specs.Constraints.{equalities_in, rows_in}
 pub use Rattle.iteration_domains.specs.Dependence.{Dependence}
 pub use Rattle.iteration_domains.specs.Model.{KernelModel, Modelled, model_of, modelled}
-pub use Rattle.iteration_domains.specs.Related.{InRange, Relates}
+pub use Rattle.iteration_domains.specs.Related.{Relates}
 pub use Rattle.iteration_domains.specs.Rows.{variable, variables}
 pub use Rattle.iteration_domains.specs.Sizes.{CanCompose, IsKernelModel, IsNarrow, form_size, size}
 pub use Rattle.pip_solver.proofs.KeptSolutions.{lexmin-forms, lexmin-speaks}
@@ -75,6 +75,7 @@ pub use Rattle.quast_trees.specs.Tree.{LeavesHave, Speaks, Tree, bind, branch, c
 pub use Rattle.quast_trees.specs.Turns.{BindsUp, CanTell, IsHeld}
 pub use Rattle.quast_trees.specs.Value.{by_sign, value}
 pub use Rattle.quast_trees.specs.PathView.{turn_held, turns_held}
+pub use Rattle.scop_syntax.proofs.Common.{AreInRange, most_parameter, params_not_negative}
 pub use Rattle.scop_syntax.proofs.Common.{Access, Affine, All, All-append, All-cons, All-drop, All-get_or, All-head}
 pub use Rattle.scop_syntax.proofs.Common.{All-nil, All-tail, All-take, Before, Bool, Cell, Contains, Err, FitsSigned}
 pub use Rattle.scop_syntax.proofs.Common.{HasParameters, IfOk, IfOk-weaker, In, Instance, IsKernel, IsPlaced, LexLe}

@@ -1,9 +1,8 @@
 -- What the laws of walks, quasts and points say of covers, from the laws themselves.
 use Rattle.dataflow.proofs.Common.{ℕ, ℤ, pos, ◌≤ℤ◌, ◌<ℤ◌, ◌^◌, List, All, refl, HasParameters, In, Placed, Program}
-use Rattle.dataflow.proofs.Common.{Runs, statements_of, model_of, one_model}
+use Rattle.dataflow.proofs.Common.{Runs, params_not_negative, statements_of, model_of, one_model}
 use Rattle.dataflow.proofs.AccessSides.{CoverLaws, PathLaws}
 use Rattle.dataflow.proofs.AccessWriters.{Laws, small_turns, writer_is_point}
-use Rattle.dataflow.proofs.CandidateSolutions.{up_bounded}
 use Rattle.dataflow.proofs.HeldCovers.{all_up}
 use Rattle.dataflow.proofs.QuastSigns.{resolved_up, turns_up}
 use Rattle.dataflow.proofs.ResolvedWriters.{access_at, resolved_wanted}
@@ -17,7 +16,7 @@ pub cover_laws : (program : Program) (params : List ℤ) (budget : ℕ) → HasP
 cover_laws program params budget has laws values paths =
     let small = small_turns program params has laws values in
     let walk = laws.places.walk in
-    let up = up_bounded (pos 65536) params has.parameters in
+    let up = params_not_negative params has.parameters in
     record {
       walk = walk;
       number = laws.number;

@@ -7,8 +7,8 @@ use Rattle.dataflow.proofs.Common.{Cell, accesses, cell_at, cell_of, In, is_mark
 use Rattle.dataflow.proofs.Common.{walk_of, last_writer, next_writer, in_back, in_from_place, in_front, member_at}
 use Rattle.dataflow.proofs.Common.{last_is, next_is, Satisfies, condensed_points, found, Turn, up, down, bound}
 use Rattle.dataflow.proofs.Common.{LeafPath, AreOver, Goes, binds_in, live_paths, Source, source_of, Tree, value}
-use Rattle.dataflow.proofs.Common.{Dependence, Modelled, KernelModel, model_of, InRange, Relates, IsKernelModel, Side}
-use Rattle.dataflow.proofs.Common.{loops_of, sides_in, conflicts_of, IsEnd, TouchesAt, in_flat_map, parts_of}
+use Rattle.dataflow.proofs.Common.{Dependence, Modelled, KernelModel, model_of, AreInRange, Relates, IsKernelModel}
+use Rattle.dataflow.proofs.Common.{Side, loops_of, sides_in, conflicts_of, IsEnd, TouchesAt, in_flat_map, parts_of}
 use Rattle.dataflow.proofs.Common.{none_bound, Writes, covers_at, covers_of, is_in_role, next_deps, role_deps, roles_at}
 use Rattle.dataflow.proofs.Common.{told_deps, path_rows, turn_equalities, deps_of_leaf, deps_with, leaf_dep, leaf_deps}
 use Rattle.dataflow.proofs.Common.{leaf_layout, pair_dep, pair_equalities, pair_rows, pair_system, writer_begins}
@@ -41,7 +41,7 @@ goes_size (bound f d ∷ ts) point (q ∷ qs) h = ap suc (goes_size ts (point ++
 
 -- a point of a leaf's system is a pair that it relates
 relates : (params : List ℤ) (s t : Side) (v w : Visit) (qs : List ℤ) (turns path : List Affine) (m k : ℕ)
-    → length params ≡ m → length qs ≡ k → IsLeafPair s t v.turns w.turns qs params turns path → InRange params
+    → length params ≡ m → length qs ≡ k → IsLeafPair s t v.turns w.turns qs params turns path → AreInRange params
     → v.number ≡ s.statement.number → w.number ≡ t.statement.number → All (λ z. pos 0 ≤ℤ z) v.turns
     → All (λ z. pos 0 ≤ℤ z) w.turns → NotNegative qs
     → Relates params (pair_dep m k s t turns path) (instance v) (instance w)
@@ -168,7 +168,7 @@ leaf_pair Earlier m reader writer p w u qs params first second holds writes cell
     }
 
 leaf_relates : (way : Way) (m : ℕ) (reader writer : Side) (p : LeafPath) (w u : Visit) (qs params : List ℤ)
-    → length params ≡ m → InRange params → binds_in p.turns ≡ length qs
+    → length params ≡ m → AreInRange params → binds_in p.turns ≡ length qs
     → w.number ≡ reader.statement.number → u.number ≡ writer.statement.number
     → All (λ z. pos 0 ≤ℤ z) w.turns → All (λ z. pos 0 ≤ℤ z) u.turns → NotNegative qs
     → IsLeafPair (first_of way reader writer) (second_of way reader writer) (earlier_visit way w u).turns
@@ -253,7 +253,7 @@ in_role way statement access dep first second =
     rw (a, b) refl
 
 conflict_pair : (way : Way) (program : Program) (params : List ℤ) (w u : Visit) (a : ℕ) (dep : Dependence)
-    → IsKernelModel (model_of program) → InRange params → IsWritePoint way program params dep u.turns w.turns
+    → IsKernelModel (model_of program) → AreInRange params → IsWritePoint way program params dep u.turns w.turns
     → IsEnd (writer_end way dep) u 0 → IsEnd (reader_end way dep) w a → All (λ z. pos 0 ≤ℤ z) w.turns
     → All (λ z. pos 0 ≤ℤ z) u.turns
     → In dep (conflicts_of (model_of program)) × Relates params dep (instance (earlier_visit way w u))

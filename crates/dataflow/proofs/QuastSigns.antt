@@ -8,6 +8,7 @@ use Rattle.dataflow.proofs.Common.{LeavesWithin, join_within, join-speaks, Model
 use Rattle.dataflow.proofs.Common.{parts_of, all_below, posed_context, posed_rows, top, writer_end, reader_end}
 use Rattle.dataflow.proofs.Common.{writer_side, reader_side, IsCandidate, candidates_of, fitting, solve_between}
 use Rattle.dataflow.proofs.Common.{sourced, turned_back, read_variables, turned_tree, turns_in, writers_run}
+use Rattle.dataflow.proofs.Common.{params_not_negative}
 use Rattle.wide_math.specs.declared.Wide.{Wide}
 use Rattle.pip_solver.proofs.BoundSigns.{lexmin-up}
 use Rattle.pip_solver.proofs.TurnNumbers.{lexmin-tells}
@@ -18,7 +19,7 @@ use Rattle.quast_joins.specs.declared.way.Way.TheVariants.{Later, Earlier}
 use Rattle.quast_joins.proofs.JoinSigns.{join-up}
 use Rattle.quast_joins.proofs.JoinTurns.{join-tells}
 use Rattle.dataflow.specs.WriterRuns.{solve_run, posed_run}
-use Rattle.dataflow.proofs.CandidateSolutions.{Reads, context_up, in_statements, reader_slot, up_bounded, writer_slot}
+use Rattle.dataflow.proofs.CandidateSolutions.{Reads, context_up, in_statements, reader_slot, writer_slot}
 use Rattle.dataflow.proofs.Fits.{fitting_is, named_within}
 use Rattle.dataflow.proofs.JoinedRuns.{run_keeps}
 use Rattle.dataflow.proofs.ResolvedWriters.{AccessAt, candidate_of, candidate_solved, context-speaks, posed-speaks}
@@ -64,7 +65,7 @@ candidate_up way program params j w access c budget dep tree at cand run =
     let slot : slice_get model.statements w.number ≡ Some t = subst
     (λ (k : ℕ). slice_get model.statements k ≡ Some t) cand.access.statement (reader_slot way program dep p) in
     let dims = at.inside t (in_statements way program dep p) (sym (at.model.places w.number t slot)) in
-    let up = up_bounded (pos 65536) params at.bounds in
+    let up = params_not_negative params at.bounds in
     let reads : Reads params w.turns t = record { size = dims.0; holds = dims.1; up = up } in
     let long : length point ≡ n = (let a = length-append params w.turns in let b = dims.0 in omega arith) in
     let above : NotNegative (row_values (posed_context t m) point) = subst

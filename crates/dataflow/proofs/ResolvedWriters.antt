@@ -14,7 +14,7 @@ use Rattle.dataflow.proofs.Common.{wanted_writer, IsCandidate, IsSolved, IsWrite
 use Rattle.dataflow.proofs.Common.{below, all_below, turned, moved_pair, moved, moved_variables, flat}
 use Rattle.dataflow.proofs.Common.{own_equalities_of, own_rows_of, posed_rows, posed_context, turned_leaf, leaves_fit}
 use Rattle.dataflow.proofs.Common.{fitting, sourced, turned_back, turned_tree, solve_between, is_candidate, chosen_deps}
-use Rattle.dataflow.proofs.Common.{candidates_of, turns_in, writers_run}
+use Rattle.dataflow.proofs.Common.{candidates_of, turns_in, writers_run, AreInRange, most_parameter, params_not_negative}
 use Rattle.scop_syntax.proofs.Common.{floor, length-set}
 use Rattle.whole_numbers.proofs.Values.{length-combination}
 use Rattle.wide_math.specs.declared.Wide.{Wide}
@@ -28,7 +28,7 @@ use Rattle.quast_joins.specs.declared.way.Way.{Way}
 use Rattle.quast_joins.specs.declared.way.Way.TheVariants.{Later, Earlier}
 use Rattle.dataflow.proofs.JoinedRuns.{run_joined}
 use Rattle.dataflow.proofs.AccessWriters.{Laws, wanted_is_found}
-use Rattle.dataflow.proofs.CandidateSolutions.{writer_slot, reader_slot, minimum_wanted, in_statements, up_bounded}
+use Rattle.dataflow.proofs.CandidateSolutions.{writer_slot, reader_slot, minimum_wanted, in_statements}
 use Rattle.dataflow.specs.Sources.{loops_in}
 use Rattle.dataflow.specs.WriterRuns.{solve_run}
 use Rattle.dataflow.proofs.ProblemPoints.{all_below-values}
@@ -172,11 +172,11 @@ context-speaks t m =
     (size-variables n m e) (size-variables n 0 m) in
     let each : (f : Affine) → OfSize n (moved m e f) = λ f. size-composed f (moved_variables m e) n all in
     rows-append n (flat (map (moved m e) t.domain.equalities))
-    (map (moved m e) t.domain.rows ++ all_below (pos 65536) n 0 m)
+    (map (moved m e) t.domain.rows ++ all_below (pos most_parameter) n 0 m)
     (rows-flat n (map (moved m e) t.domain.equalities) (rows-mapped n (moved m e) t.domain.equalities each))
-    (rows-append n (map (moved m e) t.domain.rows) (all_below (pos 65536) n 0 m)
+    (rows-append n (map (moved m e) t.domain.rows) (all_below (pos most_parameter) n 0 m)
     (rows-mapped n (moved m e) t.domain.rows each)
-    (rows-all n (all_below (pos 65536) n 0 m) (size-below (pos 65536) n 0 m)))
+    (rows-all n (all_below (pos most_parameter) n 0 m) (size-below (pos most_parameter) n 0 m)))
 
 -- the answer of a named tree
 abbrev renamed : Source → Leaf → Leaf
@@ -304,7 +304,7 @@ pub record AccessAt (program : Program) (params : List ℤ) (j : ℕ) (w : Visit
   pub laws : Laws program params
   pub model : IsKernelModel (model_of program)
   pub count : length params ≡ length program.parameters
-  pub bounds : All (λ x. (pos 0 ≤ℤ x) × (x ≤ℤ pos 65536)) params
+  pub bounds : AreInRange params
   pub small : (k : ℕ) (u : Visit) → slice_get (walk_of program params) k ≡ Some u
       → All (λ x. (pos 0 ≤ℤ x) × (x <ℤ pos (2 ^ 46))) u.turns
   pub inside : (t : Modelled) → In t (model_of program).statements → w.number ≡ t.number
@@ -407,7 +407,7 @@ resolved_wanted way program params j w access c budget u at run =
     arith) in
     ap_names (sym r.0)
     (wanted_is_found way program params j w access c n (params ++ w.turns) (λ d. or_initial (solve d)) deps at.laws count
-    (up_bounded (pos 65536) params at.bounds) at.touches long
+    (params_not_negative params at.bounds) at.touches long
     (λ d h. of_candidate way program w access d h) (λ d h. candidate_of way program w access d h)
     (λ d h. candidate_solved way program params j w access c budget d
     (or_initial (solve d)) at (candidate_of way program w access d h) (r.1 d h)))

@@ -7,6 +7,7 @@ use Rattle.quast_trees.specs.Source.{source_of}
 use Rattle.quast_trees.specs.Leaf.{Leaf, initial, found}
 use Rattle.quast_joins.specs.declared.way.Way.{Way}
 use Rattle.quast_joins.specs.declared.way.Way.TheVariants.{Later, Earlier}
+use Rattle.scop_syntax.specs.Limits.{most_parameter}
 use Rattle.iteration_domains.specs.Rows.{variable, variables}
 use Rattle.iteration_domains.specs.Model.{Modelled}
 use Rattle.iteration_domains.specs.Dependence.{Dependence}
@@ -15,10 +16,6 @@ use Rattle.dataflow.specs.Flips.{flipped}
 -- a number above all turns
 abbrev pub top : ℤ
 top = pos (2 ^ 46)
-
--- the greatest parameter
-abbrev pub most_parameter : ℤ
-most_parameter = pos 65536
 
 -- a number less the variable j of n
 abbrev pub below : ℤ → ℕ → ℕ → Affine
@@ -84,11 +81,11 @@ posed_rows way s t m dep =
     flat (map (turned way s.domain.dimensions m t.domain.dimensions) (own_equalities_of way s t dep))
     ++ map (turned way s.domain.dimensions m t.domain.dimensions) (own_rows_of way s t m dep)
 
--- the context: the reader's domain, and no parameter above 65536
+-- the context: the reader's domain, and no parameter above the greatest
 abbrev pub posed_context : Modelled → ℕ → List Affine
 posed_context t m =
     flat (map (moved m t.domain.dimensions) t.domain.equalities)
-    ++ (map (moved m t.domain.dimensions) t.domain.rows ++ all_below most_parameter (m + t.domain.dimensions) 0 m)
+    ++ (map (moved m t.domain.dimensions) t.domain.rows ++ all_below (pos most_parameter) (m + t.domain.dimensions) 0 m)
 
 -- the writer's turns by the unknowns
 abbrev pub writer_turns : Way → List ℤ → List ℤ

@@ -2,7 +2,8 @@
 -- variable.
 use Rattle.whole_numbers.proofs.Common.{◌≡◌, ℕ, zero, suc, ◌+◌, ◌-◌, ◌<◌, ℤ, pos, List, [], ◌∷◌, ◌++◌, length, get_or}
 use Rattle.whole_numbers.proofs.Common.{refl, sym, ◌∙◌, ap, subst, All, arith, length-append, negsuc, ◌≤◌, ◌≤ℤ◌, ◌+ℤ◌}
-use Rattle.whole_numbers.proofs.Common.{◌-ℤ◌, ◌*ℤ◌, ints, All-cons, All-nil, All-append, dot, zeros, Affine, value_of}
+use Rattle.whole_numbers.proofs.Common.{◌-ℤ◌, ◌*ℤ◌, ints, All-cons, All-head, All-nil, All-tail, All-append, dot, zeros}
+use Rattle.whole_numbers.proofs.Common.{Affine, value_of}
 use Rattle.whole_numbers.proofs.Common.{mul_zero_right, mul_one_left, mul_neg_left, dot-set_left, dot-zeros}
 use Rattle.whole_numbers.proofs.Common.{get_or-zeros, length-zeros}
 use Rattle.std.proofs.lemmas.List.{append-nil}
@@ -10,7 +11,7 @@ use Rattle.affine_forms.specs.Parts.{variables_of}
 use Rattle.integer_sets.specs.Constraints.{Constraints, IsSized, variables_in}
 use Rattle.integer_sets.specs.Points.{Satisfies}
 use Rattle.fm_projection.specs.Projecting.{all_gone}
-use Rattle.fm_projection.specs.Alone.{place_form, range_rows, ranged, last_alone, AreInRange}
+use Rattle.fm_projection.specs.Alone.{place_form, range_rows, ranged, last_alone, AreInRange, IsInRange}
 use Rattle.fm_projection.proofs.WholePoints.{one_more}
 use Rattle.fm_projection.proofs.FractionPoints.{all_to}
 use Rattle.fm_projection.proofs.Law.{whole_point}
@@ -64,22 +65,17 @@ satisfies_fitted s outer xs n sized h = (
       (sym (value_fitted (get_or s.rows k d) outer xs n (sized.rows_sized k d inside))) (h.1 k d inside),
 )
 
--- a value in range
-abbrev pub IsInRange : ℤ → Type 0
-IsInRange z = (pos 0 ≤ℤ z) × (z ≤ℤ pos 65536)
-
+-- parameters in range, cut or filled with zeros, are so
 zero_in_range : IsInRange (pos 0)
 zero_in_range = (omega (arith, ints), omega (arith, ints))
 
-fitted_range : (n : ℕ) (xs : List ℤ) → ((k : ℕ) → IsInRange (get_or xs k (pos 0))) → (k : ℕ)
-    → IsInRange (get_or (fitted n xs) k (pos 0))
-fitted_range zero xs h k = zero_in_range
-fitted_range (suc n) [] h zero = zero_in_range
-fitted_range (suc n) [] h (suc k) = fitted_range n [] (λ j. zero_in_range) k
-fitted_range (suc n) (x ∷ xs) h zero = h 0
-fitted_range (suc n) (x ∷ xs) h (suc k) = fitted_range n xs (λ j. h (suc j)) k
+pub fitted_range : (n : ℕ) (xs : List ℤ) → AreInRange xs → AreInRange (fitted n xs)
+fitted_range zero xs range = All-nil IsInRange
+fitted_range (suc n) [] range = All-cons IsInRange (pos 0) (fitted n []) zero_in_range (fitted_range n [] range)
+fitted_range (suc n) (x ∷ xs) range = All-cons IsInRange x (fitted n xs) (All-head IsInRange x xs range)
+    (fitted_range n xs (All-tail IsInRange x xs range))
 
-at_each : (xs : List ℤ) → All IsInRange xs → (k : ℕ) → IsInRange (get_or xs k (pos 0))
+at_each : (xs : List ℤ) → AreInRange xs → (k : ℕ) → IsInRange (get_or xs k (pos 0))
 at_each [] h k = zero_in_range
 at_each (x ∷ xs) h zero = h 0 (pos 0) (omega arith)
 at_each (x ∷ xs) h (suc k) = at_each xs (λ j d inside. h (suc j) d (omega (arith, inside))) k
@@ -146,7 +142,7 @@ ranged_point s outer x params sized size range h =
     let total : length front ≡ s.dimensions = omega (arith, length-append outer (x ∷ []), size) in
     let own = subst (λ n. IsSized (n + p) s.equalities s.rows) (sym total) sized in
     let fit = satisfies_fitted s front params p own (subst (Satisfies s) (sym (one_more outer x params)) h) in
-    let each = fitted_range p params (at_each params range) in
+    let each = at_each qs (fitted_range p params range) in
     let rows = range_holds (s.dimensions + p) s.dimensions p (front ++ qs) (omega arith)
     (λ k past. behind_range front qs each k (omega (arith, past, total))) in
     let P : Affine → Type 0 = λ f. pos 0 ≤ℤ value_of f (front ++ qs) in

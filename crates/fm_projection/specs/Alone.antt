@@ -70,13 +70,19 @@ LeavesAlone s (Err (fm.Crowded pairs)) = StopsAlone s (fm.Crowded pairs)
 LeavesAlone s (Err (fm.Large number)) = ⊥
 LeavesAlone s (Err fm.NoMemory) = ⊤
 
--- whole parameters lie in 0..=65536
-abbrev pub AreInRange : List ℤ → Type 0
-AreInRange params = All (λ p. (pos 0 ≤ℤ p) × (p ≤ℤ pos 65536)) params
+-- a whole parameter lies in 0..=65536; each does
+abbrev pub IsInRange : ℤ → Type 0
+IsInRange p = (pos 0 ≤ℤ p) × (p ≤ℤ pos 65536)
 
--- parameters of fractions do
+abbrev pub AreInRange : List ℤ → Type 0
+AreInRange params = All IsInRange params
+
+-- a parameter of fractions does; each does
+abbrev pub IsInRangeOver : ℤ → ℤ → Type 0
+IsInRangeOver d p = (pos 0 ≤ℤ p) × (p ≤ℤ (pos 65536 *ℤ d))
+
 abbrev pub AreInRangeOver : ℤ → List ℤ → Type 0
-AreInRangeOver d params = All (λ p. (pos 0 ≤ℤ p) × (p ≤ℤ (pos 65536 *ℤ d))) params
+AreInRangeOver d params = All (IsInRangeOver d) params
 
 -- for parameters in 0..=65536 each dimension lies within 2^64 over fractions: |x / d| <= 2^64
 abbrev pub IsBounded : Constraints → Type 0

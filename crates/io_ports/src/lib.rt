@@ -5,6 +5,7 @@
 //! chosen calls; `StdSource` and `StdSink` adapt std's readers and writers.
 #![tactic(auto)]
 
+mod arguments;
 mod calls;
 mod fault;
 mod gate;
@@ -15,6 +16,7 @@ mod source;
 mod source_in_memory;
 mod streams;
 
+pub use arguments::words;
 pub use fault::Failed;
 pub use gate::{Gate, OpenGate};
 pub use pieces::Pieces;

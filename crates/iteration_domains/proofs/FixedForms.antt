@@ -5,7 +5,7 @@ use Rattle.scop_syntax.proofs.Common.{◌↔◌, unsigned_abs, ints, map-append,
 use Rattle.scop_syntax.proofs.Common.{All-tail, All-append, zeros, multiples, Affine, value_of, form_of}
 use Rattle.scop_syntax.proofs.Common.{multiple_of_form, sum_of_forms, dot-zeros, length-multiples, length-sums}
 use Rattle.scop_syntax.proofs.Common.{length-zeros, value_of-sum, value_of-multiple, value_of-composed, values}
-use Rattle.scop_syntax.proofs.Common.{AreAtMost, IsForm}
+use Rattle.scop_syntax.proofs.Common.{AreAtMost, AreInRange, IsForm, IsInRange, most_parameter, parameter_size}
 use Rattle.integer_sets.specs.Constraints.{Constraints, IsSized}
 use Rattle.integer_sets.specs.Parts.{variables_of}
 use Rattle.integer_sets.specs.Points.{Satisfies}
@@ -26,21 +26,13 @@ length-fixed d params =
     let c = length-map params (form_of (zeros d)) in
     omega (arith, a, v, c)
 
--- a parameter's value
-abbrev pub IsValue : ℤ → Type 0
-IsValue p = (pos 0 ≤ℤ p) × (p ≤ℤ pos 65536)
-
-abs_within : (p : ℤ) → IsValue p → unsigned_abs p ≤ 65536
-abs_within (pos n) h = let k = h.1 in omega (arith, ints)
-abs_within (negsuc n) h = let k = h.0 in absurd (omega (arith, ints))
-
-sizes-constants : (d : ℕ) (ps : List ℤ) → All (λ p. (pos 0 ≤ℤ p) × (p ≤ℤ pos 65536)) ps
-    → forms_size (map (form_of (zeros d)) ps) ≤ 65536 * length ps
+sizes-constants : (d : ℕ) (ps : List ℤ) → AreInRange ps
+    → forms_size (map (form_of (zeros d)) ps) ≤ most_parameter * length ps
 sizes-constants d [] all = omega arith
 sizes-constants d (p ∷ ps) all =
     let z = size-zeros d in
-    let own = abs_within p (All-head IsValue p ps all) in
-    let rest = sizes-constants d ps (All-tail IsValue p ps all) in
+    let own = parameter_size p (All-head IsInRange p ps all) in
+    let rest = sizes-constants d ps (All-tail IsInRange p ps all) in
     omega arith
 
 sizes-join : (fs gs : List Affine) → forms_size (fs ++ gs) ≡ forms_size fs + forms_size gs
@@ -53,8 +45,8 @@ sized-constants d (p ∷ ps) =
     All-cons (λ f. variables_of f ≡ d) (form_of (zeros d) p) (map (form_of (zeros d)) ps) (length-zeros d)
     (sized-constants d ps)
 
-pub are_fixed : (d : ℕ) (params : List ℤ) → d ≤ 5 → length params ≤ 4
-    → All (λ p. (pos 0 ≤ℤ p) × (p ≤ℤ pos 65536)) params → AreFixed d (fixed_forms d params)
+pub are_fixed : (d : ℕ) (params : List ℤ) → d ≤ 5 → length params ≤ 4 → AreInRange params
+    → AreFixed d (fixed_forms d params)
 are_fixed d params few four all =
     let v = size-variables d 0 d in
     let c = sizes-constants d params all in

@@ -1,12 +1,9 @@
 -- Which pairs of instances a dependence relates.
 use Rattle.std.specs.Prelude.{◌≡◌, ℤ, pos, ◌≤ℤ◌, List, ◌++◌, length, All}
 use Rattle.whole_numbers.specs.Affine.{value_of}
+use Rattle.scop_syntax.specs.Limits.{AreInRange}
 use Rattle.scop_syntax.specs.Walk.{Instance}
 use Rattle.iteration_domains.specs.Dependence.{Dependence, binds_in}
-
--- parameters in 0..=65536
-abbrev pub InRange : List ℤ → Type 0
-InRange params = All (λ p. (pos 0 ≤ℤ p) × (p ≤ℤ pos 65536)) params
 
 -- where a pair stands: the turns of both, the quotients that are bound, then the parameters
 abbrev pub point_of : List ℤ → List ℤ → Instance → Instance → List ℤ
@@ -15,7 +12,7 @@ point_of params bound x y = x.turns ++ (y.turns ++ (bound ++ params))
 -- at the parameters the target y depends on the source x: with quotients from 0 on the pair is a whole point >= 0 of the
 -- system
 pub record Relates (params : List ℤ) (d : Dependence) (x y : Instance) : Type 0 where
-  pub range : InRange params
+  pub range : AreInRange params
   pub source : x.number ≡ d.source.statement
   pub target : y.number ≡ d.target.statement
   pub source_size : length x.turns ≡ d.source.loops

@@ -5,9 +5,9 @@ use Rattle.scop_syntax.proofs.Common.{slice_index_or, range_with_len, ints, Affi
 use Rattle.scop_syntax.proofs.Common.{Statement, combined, plus, read, trees_of, In, statements_in_all, Placed}
 use Rattle.scop_syntax.proofs.Common.{in_loop_of, placed_all, accesses, cell_of, AreWithin, IsCell, IsInside, layout}
 use Rattle.scop_syntax.proofs.Common.{size_of, in_append, in_map_from, AreTrees, HasWidth, IsAccess, IsAffine, IsKernel}
-use Rattle.scop_syntax.proofs.Common.{KeepWidths, WithinLimits}
+use Rattle.scop_syntax.proofs.Common.{IsInRange, KeepWidths, WithinLimits}
 use Rattle.kernel_gen.specs.Programs.{chain, chain_body, chained, digit, linked, upwards}
-use Rattle.kernel_gen.proofs.Forms.{IsParameter, IsPositive, all_one, declared, in_order, is_form, is_head, positive}
+use Rattle.kernel_gen.proofs.Forms.{IsPositive, all_one, declared, in_order, is_form, is_head, positive}
 use Rattle.kernel_gen.proofs.InsideAccesses.{PlacedInside, inside_by}
 
 digit_small : (seed at : ℕ) → digit seed at < 4
@@ -178,7 +178,7 @@ chain_within seed n high =
     record {
       kernel = chain_is seed;
       count = refl;
-      parameters = all_one IsParameter (pos n) (omega (arith, ints), omega (arith, ints));
+      parameters = all_one IsInRange (pos n) (omega (arith, ints), omega (arith, ints));
       extents = positive 1 names extents (pos n ∷ []) (all_one (IsPositive (pos n ∷ [])) length_of_line some);
       cells = omega arith;
     }

@@ -43,10 +43,6 @@ is_head n iterator first condition is_first is_condition down =
       direction = inl (down, omega (arith, ints));
     }
 
--- a value that a parameter may have
-abbrev pub IsParameter : ℤ → Type 0
-IsParameter p = (pos 0 ≤ℤ p) × (p ≤ℤ pos 65536)
-
 pub all_one : {A : Type 0} (P : A → Type 0) (x : A) → P x → All P (x ∷ [])
 all_one P x is = All-cons P x [] is (All-nil P)
 

@@ -3,10 +3,10 @@ use Rattle.scop_syntax.proofs.Common.{◌≡◌, ◌≤◌, ◌<◌, ◌+◌, �
 use Rattle.scop_syntax.proofs.Common.{ℤ, pos, negsuc, ◌≤ℤ◌, ◌<ℤ◌, slice_index_or, codes, ints, Affine, form_of}
 use Rattle.scop_syntax.proofs.Common.{value_of, Access, Statement, combined, plus, times, binary, read, In, Placed}
 use Rattle.scop_syntax.proofs.Common.{in_loop_of, accesses, cell_of, AreWithin, IsCell, IsInside, layout, IsAccess}
-use Rattle.scop_syntax.proofs.Common.{IsAffine, IsKernel, IsStatement, ranks_of, WithinLimits}
+use Rattle.scop_syntax.proofs.Common.{IsAffine, IsInRange, IsKernel, IsStatement, ranks_of, WithinLimits}
 use Rattle.std.proofs.Math.Nat.{mul-le-mul_right}
 use Rattle.kernel_gen.specs.Programs.{product, place, upwards, i_of_cube, j_of_cube, k_of_cube}
-use Rattle.kernel_gen.proofs.Forms.{IsParameter, IsPositive, all_one, all_two, declared, in_order, is_form, is_head}
+use Rattle.kernel_gen.proofs.Forms.{IsPositive, all_one, all_two, declared, in_order, is_form, is_head}
 use Rattle.kernel_gen.proofs.Forms.{positive}
 use Rattle.kernel_gen.proofs.InsideAccesses.{PlacedInside, inside_by}
 
@@ -164,7 +164,7 @@ product_within n low high =
     record {
       kernel = product_is;
       count = refl;
-      parameters = all_one IsParameter (pos n) (omega (arith, ints), omega (arith, ints));
+      parameters = all_one IsInRange (pos n) (omega (arith, ints), omega (arith, ints));
       extents = positive 1 names extents (pos n ∷ []) (all_two (IsPositive (pos n ∷ [])) side side some some);
       cells = squares _ (omega arith);
     }

@@ -2,9 +2,10 @@
 use Rattle.scop_syntax.proofs.Common.{◌+◌, ◌^◌, ◌≤◌, refl, List, [], ◌∷◌, ℕ, inl, inr, sym, subst, arith, ℤ, pos}
 use Rattle.scop_syntax.proofs.Common.{negsuc, ◌≤ℤ◌, ◌<ℤ◌, codes, ints, Affine, form_of, Access, Statement, assigned}
 use Rattle.scop_syntax.proofs.Common.{binary, plus, read, In, Placed, in_loop_of, accesses, cell_of, IsCell, IsInside}
-use Rattle.scop_syntax.proofs.Common.{layout, IsAccess, IsAffine, IsKernel, IsStatement, ranks_of, WithinLimits}
+use Rattle.scop_syntax.proofs.Common.{layout, IsAccess, IsAffine, IsInRange, IsKernel, IsStatement, ranks_of}
+use Rattle.scop_syntax.proofs.Common.{WithinLimits}
 use Rattle.kernel_gen.specs.Programs.{near, sweep, upwards}
-use Rattle.kernel_gen.proofs.Forms.{IsParameter, IsPositive, all_one, all_two, declared, in_order, is_form, is_head}
+use Rattle.kernel_gen.proofs.Forms.{IsPositive, all_one, all_two, declared, in_order, is_form, is_head}
 use Rattle.kernel_gen.proofs.Forms.{positive}
 use Rattle.kernel_gen.proofs.InsideAccesses.{PlacedInside, inside_by}
 
@@ -118,7 +119,7 @@ sweep_within n high =
     record {
       kernel = sweep_is;
       count = refl;
-      parameters = all_two IsParameter (pos n) (pos (n + 2)) (omega (arith, ints), omega (arith, ints))
+      parameters = all_two IsInRange (pos n) (pos (n + 2)) (omega (arith, ints), omega (arith, ints))
           (omega (arith, ints), omega (arith, ints));
       extents = positive 2 names extents (at_size n) (all_one (IsPositive (at_size n)) length_of_line some);
       cells = omega arith;

@@ -12,7 +12,7 @@ use Rattle.plain_scan.specs.declared.set_outline.Outline.{Outline}
 use Rattle.integer_sets.specs.Scanned.{Scanned}
 use Rattle.plain_scan.specs.Sets.{IsKeyOf, Keys, NumbersRise, leaves}
 use Rattle.plain_scan.specs.steps.Serving.{AllAtLeast, HaveDimensions, sets_of, AreTested, ServesOn}
-use Rattle.fm_projection.specs.Alone.{AreInRange}
+use Rattle.scop_syntax.specs.Limits.{AreInRange}
 use Rattle.plain_scan.specs.steps.Pieces.{Piece, loops_of, AreEnough, hull_piece}
 use Rattle.plain_scan.specs.Hulls.{HoldsAt, IsAlike, IsHull, IsHullRow, AreHullRows, sets_in, own_leaf}
 use Rattle.plain_scan.proofs.ConstraintLists.{zeros_of, of_zeros, rows_of, of_rows}

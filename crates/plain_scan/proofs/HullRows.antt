@@ -7,7 +7,7 @@ use Rattle.std.proofs.Math.ListN.{length-set}
 use Rattle.affine_forms.specs.Parts.{variables_of}
 use Rattle.fm_projection.proofs.WholePoints.{one_more}
 use Rattle.fm_projection.proofs.Ranges.{place_value}
-use Rattle.fm_projection.specs.Alone.{AreInRange}
+use Rattle.scop_syntax.specs.Limits.{AreInRange}
 use Rattle.integer_sets.specs.Scanned.{Scanned}
 use Rattle.fm_projection.specs.Alone.{place_form}
 use Rattle.plain_scan.specs.Between.{HasSmallNumbers}

@@ -2,7 +2,7 @@
 use Rattle.scop_syntax.proofs.Common.{◌≡◌, ℕ, ◌<◌, ℤ, List, [], ◌∷◌, ◌++◌, inl, inr, sym, refl, subst, All, All-cons}
 use Rattle.scop_syntax.proofs.Common.{All-head, All-nil, All-tail, In}
 use Rattle.integer_sets.specs.Scanned.{Scanned}
-use Rattle.fm_projection.specs.Alone.{AreInRange}
+use Rattle.scop_syntax.specs.Limits.{AreInRange}
 use Rattle.plain_scan.specs.Sets.{AllAbove, IsKeyOf, Keys, NumbersRise}
 use Rattle.plain_scan.specs.Outlines.{HasNoPoint}
 use Rattle.plain_scan.specs.Leaving.{LeavesOut}

@@ -5,15 +5,16 @@ use Rattle.scop_syntax.proofs.Common.{length-append, mul-le-mul, ◌≤◌, ◌^
 use Rattle.scop_syntax.proofs.Common.{unsigned_abs-mul, cases_lt, All-cons, All-head, All-nil, All-tail, dot, multiples}
 use Rattle.scop_syntax.proofs.Common.{Affine, value_of, mul_zero_left, mul_assoc_int, mul_comm_int, mul_one_right}
 use Rattle.scop_syntax.proofs.Common.{mul_one_left, mul_neg_left, mul_positive, mul_le_left, mul_not_negative}
-use Rattle.scop_syntax.proofs.Common.{length-multiples, multiples-append, abs_low, abs_high, get_or_same}
+use Rattle.scop_syntax.proofs.Common.{length-multiples, multiples-append, abs_low, abs_high, get_or_same, AreInRange}
+use Rattle.scop_syntax.proofs.Common.{most_parameter}
 use Rattle.std.proofs.lemmas.List.{append-nil}
 use Rattle.fractions.specs.Fractions.{HoldsOver, value_over}
 use Rattle.fractions.specs.Elimination.{coefficient_of}
 use Rattle.integer_sets.specs.Constraints.{Constraints, IsSized, variables_in}
 use Rattle.integer_sets.specs.Points.{Satisfies}
 use Rattle.fm_projection.specs.Projecting.{projected}
-use Rattle.fm_projection.specs.Alone.{AreInRange, AreInRangeOver, IsBounded, last_alone, last_with_parameters, ranged}
-use Rattle.fm_projection.specs.Alone.{range_rows}
+use Rattle.fm_projection.specs.Alone.{AreInRangeOver, IsBounded, IsInRangeOver, last_alone, last_with_parameters}
+use Rattle.fm_projection.specs.Alone.{range_rows, ranged}
 use Rattle.fm_projection.proofs.Law.{whole_point}
 use Rattle.fm_projection.proofs.WholePoints.{one_more, projected_sized}
 use Rattle.fm_projection.proofs.FractionPoints.{all_left, front_of, projected_left}
@@ -96,7 +97,7 @@ parted (suc i) (x ∷ xs) inside =
 
 -- a row of the range tells that its variable is in range
 range_over : (n i m : ℕ) (d : ℤ) (xs : List ℤ) → i + m ≤ n → All (λ f. pos 0 ≤ℤ value_over f d xs) (range_rows n i m)
-    → (k : ℕ) → i ≤ k → k < i + m → (pos 0 ≤ℤ get_or xs k (pos 0)) × (get_or xs k (pos 0) ≤ℤ (pos 65536 *ℤ d))
+    → (k : ℕ) → i ≤ k → k < i + m → IsInRangeOver d (get_or xs k (pos 0))
 range_over n i zero d xs few h k past less = absurd (omega (arith, past, less))
 range_over n i (suc m) d xs few h k past less = elim (cases_lt i k) [
   | inl further ↦
@@ -104,7 +105,7 @@ range_over n i (suc m) d xs few h k past less = elim (cases_lt i k) [
       (most_row n i ∷ rest) h)) k further (omega (arith, less))
   | inr here ↦
       let e : i ≡ k = omega (arith, past, here) in
-      subst (λ j. (pos 0 ≤ℤ get_or xs j (pos 0)) × (get_or xs j (pos 0) ≤ℤ (pos 65536 *ℤ d))) e first
+      subst (λ j. IsInRangeOver d (get_or xs j (pos 0))) e first
 ]
   where
     P : Affine → Type 0
@@ -116,7 +117,7 @@ range_over n i (suc m) d xs few h k past less = elim (cases_lt i k) [
     inside : i < n
     inside = omega (arith, few)
 
-    first : (pos 0 ≤ℤ get_or xs i (pos 0)) × (get_or xs i (pos 0) ≤ℤ (pos 65536 *ℤ d))
+    first : IsInRangeOver d (get_or xs i (pos 0))
     first =
         let a = All-head P (least_row n i) (most_row n i ∷ rest) h in
         let b = All-head P (most_row n i) rest (All-tail P (least_row n i) (most_row n i ∷ rest) h) in
@@ -196,7 +197,7 @@ alone_from t y some h =
           let j = length b.between + 1 + k in
           let g = behind b.between x ps k (pos 0) in
           let own = get_or_same ps k (pos 0) v inside in
-          subst (λ z. (pos 0 ≤ℤ z) × (z ≤ℤ (pos 65536 *ℤ d))) (g ∙ own)
+          subst (IsInRangeOver d) (g ∙ own)
           (range j (omega (arith, size)) (omega (arith, size, inside, count)));
       holds = subst (λ z. HoldsOver t.equalities t.rows d (b.between ++ z ∷ ps)) same
           (b.holds.0, all_front P t.rows (range_rows n t.dimensions p) rows);
@@ -238,18 +239,17 @@ far_value s n y less bounded h =
     within (m *ℤ d) y positive (subst P same own)
   where
     range_times : (k e : ℤ) (ps : List ℤ) → pos 0 <ℤ k → AreInRangeOver e ps → AreInRangeOver (k *ℤ e) (multiples k ps)
-    range_times k e [] h r = All-nil (λ q. (pos 0 ≤ℤ q) × (q ≤ℤ (pos 65536 *ℤ (k *ℤ e))))
+    range_times k e [] h r = All-nil (IsInRangeOver (k *ℤ e))
     range_times k e (q ∷ ps) h r =
-        let P : ℤ → Type 0 = λ z. (pos 0 ≤ℤ z) × (z ≤ℤ (pos 65536 *ℤ e)) in
-        let f = All-head P q ps r in
+        let f = All-head (IsInRangeOver e) q ps r in
+        let most = pos most_parameter in
         let low = mul_not_negative k q (omega (arith, ints, h)) f.0 in
-        let high = mul_le_left q (pos 65536 *ℤ e) k f.1 (omega (arith, ints, h)) in
+        let high = mul_le_left q (most *ℤ e) k f.1 (omega (arith, ints, h)) in
         let c = mul_comm_int k e in
-        let same : k *ℤ (pos 65536 *ℤ e) ≡ pos 65536 *ℤ (k *ℤ e) =
-        sym (mul_assoc_int k (pos 65536) e) ∙ ap (λ z. z *ℤ e) (mul_comm_int k (pos 65536))
-        ∙ mul_assoc_int (pos 65536) k e in
-        All-cons (λ z. (pos 0 ≤ℤ z) × (z ≤ℤ (pos 65536 *ℤ (k *ℤ e)))) (k *ℤ q) (multiples k ps)
-        (low, subst (λ z. (k *ℤ q) ≤ℤ z) same high) (range_times k e ps h (All-tail P q ps r))
+        let same : k *ℤ (most *ℤ e) ≡ most *ℤ (k *ℤ e) =
+        sym (mul_assoc_int k most e) ∙ ap (λ z. z *ℤ e) (mul_comm_int k most) ∙ mul_assoc_int most k e in
+        All-cons (IsInRangeOver (k *ℤ e)) (k *ℤ q) (multiples k ps)
+        (low, subst (λ z. (k *ℤ q) ≤ℤ z) same high) (range_times k e ps h (All-tail (IsInRangeOver e) q ps r))
 
     middle : (P : ℤ → Type 0) (xs : List ℤ) (z : ℤ) (ys : List ℤ) → All P (xs ++ z ∷ ys) → P z
     middle P [] z ys h = All-head P z ys h

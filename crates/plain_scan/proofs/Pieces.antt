@@ -11,7 +11,7 @@ use Rattle.plain_scan.specs.steps.Serving.{AllAtLeast, KeysAt, HaveDimensions, s
 use Rattle.plain_scan.specs.Sets.{Leaf, leaves}
 use Rattle.plain_scan.specs.Rows.{low_bounds, high_bounds}
 use Rattle.plain_scan.specs.steps.Serving.{AreLow, AreHigh, IsPlace, ServesOn, deeper}
-use Rattle.fm_projection.specs.Alone.{AreInRange}
+use Rattle.scop_syntax.specs.Limits.{AreInRange}
 use Rattle.fm_projection.proofs.WholePoints.{one_more}
 use Rattle.plain_scan.specs.steps.Pieces.{Piece, bounding, loop_of, loops_of, LiesIn, InSome, IsPiece, ArePieces}
 use Rattle.plain_scan.specs.steps.Pieces.{AreEnough}

@@ -8,7 +8,7 @@ use Rattle.whole_numbers.specs.Content.{lowest_of_form}
 use Rattle.fractions.proofs.PointValues.{value_over-one}
 use Rattle.fractions.proofs.Content.{lowest_sign}
 use Rattle.affine_forms.specs.Parts.{variables_of}
-use Rattle.fm_projection.specs.Alone.{AreInRange}
+use Rattle.scop_syntax.specs.Limits.{AreInRange, IsInRange}
 use Rattle.fm_projection.proofs.Exact.{lowest_sized}
 use Rattle.loop_tree.specs.Walk.{max_z}
 use Rattle.loop_tree.proofs.Extremes.{below_max, max_below}
@@ -74,7 +74,7 @@ raised_dot (x ∷ xs) (z ∷ zs) [] (p ∷ params) raised range =
     let here = range 0 p (omega arith) in
     let first = mul_le x z p raised.0 here.0 in
     let rest = raised_dot xs zs [] params raised.1
-    (All-tail (λ (q : ℤ). (pos 0 ≤ℤ q) × (q ≤ℤ pos 65536)) p params range) in
+    (All-tail IsInRange p params range) in
     omega (arith, ints, first, rest)
 raised_dot (x ∷ xs) (z ∷ zs) (v ∷ front) params raised range =
     let first = ap (λ (w : ℤ). w *ℤ v) raised.0 in

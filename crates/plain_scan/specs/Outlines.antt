@@ -8,7 +8,7 @@ use Rattle.integer_sets.specs.Points.{Satisfies}
 use Rattle.integer_sets.specs.Scanned.{Scanned}
 use Rattle.fm_projection.specs.declared.stop.FmStop.{FmStop}
 use Rattle.fm_projection.specs.declared.stop.FmStop.TheVariants as fm
-use Rattle.fm_projection.specs.Alone.{AreInRange}
+use Rattle.scop_syntax.specs.Limits.{AreInRange}
 use Rattle.traced_projections.specs.declared.projections.Projection.{Projection}
 use Rattle.traced_projections.specs.declared.projections.Projection.TheVariants.{Exact, Traced}
 use Rattle.traced_projections.specs.Tracing.{traced}

@@ -4,7 +4,8 @@ use Rattle.integer_sets.specs.Scanned.{Scanned, iterators_at}
 use Rattle.scop_syntax.specs.Members.{In}
 use Rattle.fm_projection.specs.declared.stop.FmStop.{FmStop}
 use Rattle.fm_projection.specs.declared.stop.FmStop.TheVariants as fm
-use Rattle.fm_projection.specs.Alone.{AreInRange, IsBounded}
+use Rattle.fm_projection.specs.Alone.{IsBounded}
+use Rattle.scop_syntax.specs.Limits.{AreInRange}
 use Rattle.loop_tree.specs.Fits.{AreSmallTrees, FitsAll}
 use Rattle.loop_tree.specs.Marks.{FlatAll, MarksAll}
 use Rattle.loop_tree.specs.Scans.{Exact}

@@ -4,13 +4,14 @@ use Rattle.scop_syntax.proofs.Common.{[], ◌∷◌, ◌++◌, length, set, get_
 use Rattle.scop_syntax.proofs.Common.{inr, flat_map, ints, All-nil, All-cons, All-append, All-push, All-head, All-tail}
 use Rattle.scop_syntax.proofs.Common.{get_or-append_seam, Affine, form_of, value_of, complement, dot, multiples, zeros}
 use Rattle.scop_syntax.proofs.Common.{dot-append, dot-multiples, dot-zeros, dot-set_left, length-multiples}
-use Rattle.scop_syntax.proofs.Common.{length-zeros, get_or-zeros, le_or_lt, value_of-complement, In}
+use Rattle.scop_syntax.proofs.Common.{length-zeros, get_or-zeros, le_or_lt, value_of-complement, AreInRange, In}
+use Rattle.scop_syntax.proofs.Common.{IsInRange, most_parameter}
 use Rattle.std.proofs.lemmas.List.{length-append, append_assoc}
 use Rattle.integer_sets.specs.Points.{Satisfies}
 use Rattle.iteration_domains.specs.Dependence.{Dependence}
 use Rattle.iteration_domains.specs.Restrictions.{equality_behind, row_behind}
 use Rattle.iteration_domains.specs.declared.dep.DepEnd.{DepEnd}
-use Rattle.plan_check.specs.Goals.{difference, above, upper_rows, bounded, InRange, HasNoPoint}
+use Rattle.plan_check.specs.Goals.{difference, above, upper_rows, bounded, HasNoPoint}
 use Rattle.plan_check.specs.Plans.{form_for}
 
 -- the turns xs of the source and ys of the target are a whole point of a dependence at parameters in range
@@ -18,7 +19,7 @@ pub record IsPairOf (m : ℕ) (d : Dependence) (xs ys params : List ℤ) : Type 
   pub source : length xs ≡ d.source.loops
   pub target : length ys ≡ d.target.loops
   pub count : length params ≡ m
-  pub range : InRange params
+  pub range : AreInRange params
   pub dimensions : d.system.dimensions ≡ length xs + length ys
   pub holds : Satisfies d.system (xs ++ (ys ++ params))
 
@@ -55,7 +56,8 @@ value_of-above f point = omega (arith, ints)
 
 -- parameters in range satisfy their rows
 upper_value : (n j : ℕ) (point : List ℤ) → j < n
-    → value_of (form_of (set (zeros n) j (negsuc 0)) (pos 65536)) point ≡ pos 65536 -ℤ get_or point j (pos 0)
+    → value_of (form_of (set (zeros n) j (negsuc 0)) (pos most_parameter)) point
+    ≡ pos most_parameter -ℤ get_or point j (pos 0)
 upper_value n j point h =
     let e = dot-set_left (zeros n) point j (negsuc 0) (rw (length-zeros n) h) in
     let z = dot-zeros n point in
@@ -66,22 +68,22 @@ upper_value n j point h =
     let s : negsuc 0 *ℤ x ≡ neg_ℤ x = omega (arith, ints) in
     omega (arith, ints)
 
-upper_met : (n j k : ℕ) (front params : List ℤ) → length front ≡ j → length params ≡ k → j + k ≤ n → InRange params
-    → All (λ f. pos 0 ≤ℤ value_of f (front ++ params)) (upper_rows n j k)
+upper_met : (n j k : ℕ) (front params : List ℤ) → length front ≡ j → length params ≡ k → j + k ≤ n
+    → AreInRange params → All (λ f. pos 0 ≤ℤ value_of f (front ++ params)) (upper_rows n j k)
 upper_met n j zero front params e l h range = All-nil (λ f. pos 0 ≤ℤ value_of f (front ++ params))
 upper_met n j (suc k) front [] e l h range = absurd (omega arith)
 upper_met n j (suc k) front (p ∷ params) e l h range =
     let point = front ++ (p ∷ params) in
-    let here = All-head (λ q. (pos 0 ≤ℤ q) × (q ≤ℤ pos 65536)) p params range in
+    let here = All-head IsInRange p params range in
     let seam : get_or point j (pos 0) ≡ p =
     subst (λ (i : ℕ). get_or point i (pos 0) ≡ p) e (get_or-append_seam front p params (pos 0)) in
     let v = upper_value n j point (omega arith) in
     let same : (front ++ p ∷ []) ++ params ≡ point = append_cons front p params in
-    All-cons (λ f. pos 0 ≤ℤ value_of f point) (form_of (set (zeros n) j (negsuc 0)) (pos 65536))
+    All-cons (λ f. pos 0 ≤ℤ value_of f point) (form_of (set (zeros n) j (negsuc 0)) (pos most_parameter))
     (upper_rows n (suc j) k) (omega (arith, ints))
     (subst (λ (q : List ℤ). All (λ f. pos 0 ≤ℤ value_of f q) (upper_rows n (suc j) k)) same
     (upper_met n (suc j) k (front ++ p ∷ []) params (sized front p j e) (omega arith) (omega arith)
-    (All-tail (λ q. (pos 0 ≤ℤ q) × (q ≤ℤ pos 65536)) p params range)))
+    (All-tail IsInRange p params range)))
   where
     append_cons : (xs : List ℤ) (x : ℤ) (ys : List ℤ) → (xs ++ x ∷ []) ++ ys ≡ xs ++ x ∷ ys
     append_cons [] x ys = refl

@@ -4,7 +4,7 @@ use Rattle.scop_syntax.proofs.Common.{◌++◌, inl, inr, All, Some, None, drop,
 use Rattle.scop_syntax.proofs.Common.{subst, arith, append_assoc, IfOk, Option, Result, ◌-◌, if◌then◌else◌, nat_lt, set}
 use Rattle.scop_syntax.proofs.Common.{slice_get, flat_map, length-map, All-nil, All-cons, All-head, All-tail}
 use Rattle.scop_syntax.proofs.Common.{AllocError, slice_get-map, slice_get_past, IfOk-weaker, Affine, complement}
-use Rattle.scop_syntax.proofs.Common.{form_of, multiples, zeros, length-multiples, length-zeros, In}
+use Rattle.scop_syntax.proofs.Common.{form_of, multiples, zeros, length-multiples, length-zeros, In, most_parameter}
 use Rattle.std.specs.Prelude.{option_map}
 use Rattle.std.proofs.Common.{length-set}
 use Rattle.std.proofs.lemmas.List.{length-append}
@@ -294,11 +294,11 @@ can_row_equal m p d next forms is can = subst (CanGo m p) (sym is) (can_equal m 
 
 -- an upper bound of a parameter more, one fewer to come
 pub bound_next : (n j m k : ℕ) (d next whole : Dependence) → k < m
-    → next ≡ row_behind d (form_of (set (zeros n) (j + k) (negsuc 0)) (pos 65536))
+    → next ≡ row_behind d (form_of (set (zeros n) (j + k) (negsuc 0)) (pos most_parameter))
     → rows_behind d (upper_rows n (j + k) (m - k)) ≡ whole
     → rows_behind next (upper_rows n (j + (k + 1)) (m - (k + 1))) ≡ whole
 bound_next n j m k d next whole less is so_far =
-    let f = form_of (set (zeros n) (j + k) (negsuc 0)) (pos 65536) in
+    let f = form_of (set (zeros n) (j + k) (negsuc 0)) (pos most_parameter) in
     let count : m - k ≡ suc (m - (k + 1)) = omega arith in
     let place : suc (j + k) ≡ j + (k + 1) = omega arith in
     let more = upper_rows n (j + (k + 1)) (m - (k + 1)) in
@@ -310,7 +310,7 @@ bound_next n j m k d next whole less is so_far =
 -- its row is over the variables
 pub bound_sized : (m n j : ℕ) (d whole : Dependence) (rs : List Affine) (row : Affine) → n ≡ variables_in d.system
     → rows_behind whole rs ≡ bounded m d
-    → row ≡ form_of (set (zeros n) j (negsuc 0)) (pos 65536)
+    → row ≡ form_of (set (zeros n) j (negsuc 0)) (pos most_parameter)
     → variables_of row ≡ variables_in whole.system
 bound_sized m n j d whole rs row count so_far is =
     let size : length (set (zeros n) j (negsuc 0)) ≡ n = simp length-set (length-zeros n) in

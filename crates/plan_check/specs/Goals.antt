@@ -6,8 +6,8 @@ use Rattle.whole_numbers.specs.Affine.{Affine, form_of, complement, multiple_of_
 use Rattle.whole_numbers.specs.Lists.{multiples, zeros}
 use Rattle.integer_sets.specs.Constraints.{IsSized, variables_in}
 use Rattle.integer_sets.specs.Points.{Satisfies}
+use Rattle.scop_syntax.specs.Limits.{most_parameter}
 use Rattle.iteration_domains.specs.Dependence.{Dependence}
-pub use Rattle.iteration_domains.specs.Related.{InRange}
 use Rattle.iteration_domains.specs.Restrictions.{equality_behind, row_behind}
 use Rattle.iteration_domains.specs.Model.{KernelModel}
 use Rattle.conflict_deps.specs.Conflicts.{conflicts_of}
@@ -25,12 +25,12 @@ difference m d forms = apart m (form_for forms d.source.statement) (form_for for
 abbrev pub above : Affine → Affine
 above f = form_of f.coefficients (f.constant +ℤ negsuc 0)
 
--- no parameter is above 65536: 65536 - p, of n variables, for k parameters from variable j on
+-- no parameter is above the greatest: that less p, of n variables, for k parameters from variable j on
 abbrev pub upper_rows : ℕ → ℕ → ℕ → List Affine
 upper_rows n j zero = []
-upper_rows n j (suc k) = form_of (set (zeros n) j (negsuc 0)) (pos 65536) ∷ upper_rows n (suc j) k
+upper_rows n j (suc k) = form_of (set (zeros n) j (negsuc 0)) (pos most_parameter) ∷ upper_rows n (suc j) k
 
--- a dependence at parameters of at most 65536
+-- a dependence at parameters in range
 abbrev pub bounded : ℕ → Dependence → Dependence
 bounded m d =
     record d {

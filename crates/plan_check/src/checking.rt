@@ -2,11 +2,12 @@
 ghost use Rattle.std.specs.Prelude.{◌≡◌, ◌<◌, ◌≤◌, ◌^◌, ◌-◌, [], All, IfOk, IsOk, List, Some, drop, length, take, true, ℤ, ℕ};
 ghost use Rattle.wide_math.specs.Gives.{Gives};
 ghost use Rattle.scop_syntax.specs.Kernel.{IsKernel};
+ghost use Rattle.scop_syntax.specs.Limits.{AreInRange};
 ghost use Rattle.scop_syntax.specs.View.{program_of};
 ghost use Rattle.iteration_domains.specs.Model.{KernelModel, model_of};
 ghost use Rattle.loop_tree.specs.Tiling.{IsGoodPlan};
 ghost use Rattle.schedule_lines.specs.View.{row_view, scalar_view};
-ghost use Rattle.plan_check.specs.Goals.{HasNoPoint, InRange, goals_in, loops_in};
+ghost use Rattle.plan_check.specs.Goals.{HasNoPoint, goals_in, loops_in};
 ghost use Rattle.plan_check.specs.Judged.{SaysPlan, end_judged, goals_ended, goals_opened, judged, line_judged, lines_judged};
 ghost use Rattle.plan_check.specs.Judged.{goal_judged, laid_stage, laying, nothing_laid, plan_of_lines, proving, proving_stage};
 ghost use Rattle.plan_check.specs.Judged.{row_judged, scalar_judged, step_judged};
@@ -349,7 +350,7 @@ pub fn check_plan(alloc: Global, kernel: &Kernel, text: &[u8]) -> Result<(), Che
     requires { IsKernel (program_of kernel.now) }
     ensures judged { Gives rejected_in (λ u. true) result (judged (program_of kernel.now) text.now) }
     ensures plan { IsOk result → (plan : Plan) × SaysPlan (program_of kernel.now) text.now plan
-        × ((params : List ℤ) (size : ℕ) → length params ≡ length (program_of kernel.now).parameters → InRange params
+        × ((params : List ℤ) (size : ℕ) → length params ≡ length (program_of kernel.now).parameters → AreInRange params
         → 0 < size → IsGoodPlan (program_of kernel.now) params
         (tiling_of size (length (model_of (program_of kernel.now)).statements) plan)) }
 {

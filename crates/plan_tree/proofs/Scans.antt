@@ -4,7 +4,7 @@ use Rattle.integer_sets.specs.Scanned.{Scanned}
 use Rattle.loop_tree.specs.Fits.{FitsAll}
 use Rattle.loop_tree.specs.Shape.{TreesAreOver}
 use Rattle.loop_tree.specs.Tree.{Trees}
-use Rattle.plain_scan.specs.Alone.{AreInRange}
+use Rattle.scop_syntax.specs.Limits.{AreInRange}
 use Rattle.plain_scan.specs.Scanning.{IsScan, parameters_of}
 
 pub own_over : (p : ℕ) (sets : List Scanned) (ts : Trees) → (0 < length sets → parameters_of sets ≡ p)

@@ -1,31 +1,13 @@
 -- What a question of emptiness says of a dependence.
 use Rattle.scop_syntax.proofs.Common.{◌≡◌, ℕ, ℤ, pos, List, [], ◌∷◌, ◌++◌, refl, sym, ◌∙◌, ap, subst, arith, All, take}
-use Rattle.scop_syntax.proofs.Common.{drop, append_assoc, ◌≤ℤ◌, length-take-le, length-drop, take-append-drop, All-nil}
-use Rattle.scop_syntax.proofs.Common.{All-cons, All-head, All-tail, All-append, not_negative_all, all_front, all_back}
+use Rattle.scop_syntax.proofs.Common.{drop, append_assoc, ◌≤ℤ◌, length-take-le, length-drop, take-append-drop}
+use Rattle.scop_syntax.proofs.Common.{All-append, not_negative_all, all_front, all_back, range_high, range_low}
 use Rattle.std.proofs.lemmas.List.{length-append}
 use Rattle.fractions.specs.Farkas.{AreNotNegative}
 use Rattle.integer_sets.specs.Points.{Satisfies}
 use Rattle.pip_solver.specs.Emptiness.{IsBoundedPoint, HasBoundedPoint}
 use Rattle.iteration_domains.specs.Dependence.{Dependence, IsDependence}
-use Rattle.schedule_rows.specs.Dependences.{IsEmptyDep, InRange}
-
-range_to : (params : List ℤ) → InRange params → AreNotNegative params × All (λ z. z ≤ℤ pos 65536) params
-range_to [] h = (All-nil (λ x. pos 0 ≤ℤ x), All-nil (λ z. z ≤ℤ pos 65536))
-range_to (p ∷ ps) h =
-    let P : ℤ → Type 0 = λ z. (pos 0 ≤ℤ z) × (z ≤ℤ pos 65536) in
-    let k = range_to ps (All-tail P p ps h) in
-    let o = All-head P p ps h in
-    (All-cons (λ x. pos 0 ≤ℤ x) p ps o.0 k.0, All-cons (λ z. z ≤ℤ pos 65536) p ps o.1 k.1)
-
-range_from : (params : List ℤ) → AreNotNegative params → All (λ z. z ≤ℤ pos 65536) params → InRange params
-range_from [] a b = All-nil (λ z. (pos 0 ≤ℤ z) × (z ≤ℤ pos 65536))
-range_from (p ∷ ps) a b =
-    All-cons (λ z. (pos 0 ≤ℤ z) × (z ≤ℤ pos 65536)) p ps (
-      All-head (λ x. pos 0 ≤ℤ x) p ps a,
-      All-head
-          (λ z. z ≤ℤ pos 65536) p ps b,
-    )
-    (range_from ps (All-tail (λ x. pos 0 ≤ℤ x) p ps a) (All-tail (λ z. z ≤ℤ pos 65536) p ps b))
+use Rattle.schedule_rows.specs.Dependences.{IsEmptyDep}
 
 -- no bounded point: no pair
 pub empty_is : (m : ℕ) (d : Dependence) → d.system.parameters ≡ m → IsDependence d
@@ -38,7 +20,6 @@ empty_is m d e i none params x y size r =
     let b = r.target_size in
     let c = r.bound_size in
     let t = i.turns in
-    let k = range_to params r.range in
     let same : turns ++ params ≡ x.turns ++ (y.turns ++ (r.bound ++ params)) =
     append_assoc x.turns (y.turns ++ r.bound) params
     ∙ ap (λ (zs : List ℤ). x.turns ++ zs) (append_assoc y.turns r.bound params) in
@@ -48,8 +29,8 @@ empty_is m d e i none params x y size r =
       not_negative = (not_negative_all (turns ++ params)).1
           (All-append (λ z. pos 0 ≤ℤ z) turns params
           (All-append (λ z. pos 0 ≤ℤ z) x.turns (y.turns ++ r.bound) r.source_from_0
-          (All-append (λ z. pos 0 ≤ℤ z) y.turns r.bound r.target_from_0 r.bound_from_0)) k.0);
-      bounded = k.1;
+          (All-append (λ z. pos 0 ≤ℤ z) y.turns r.bound r.target_from_0 r.bound_from_0)) (range_low params r.range));
+      bounded = range_high params r.range;
       inside = subst (λ (z : List ℤ). Satisfies d.system z) (sym same) (r.equalities, r.rows);
     })
 
@@ -83,7 +64,7 @@ point_is m d e i h empty =
     let inside = subst (λ (w : List ℤ). Satisfies d.system w) whole h.is.inside in
     empty p (record { number = d.source.statement; turns = xs }) (record { number = d.target.statement; turns = ys })
     (h.is.parameters ∙ e) (record {
-      range = range_from p (all_back P qs p last) h.is.bounded;
+      range = λ i x inside. (all_back P qs p last i x inside, h.is.bounded i x inside);
       source = refl;
       target = refl;
       source_size = ls;

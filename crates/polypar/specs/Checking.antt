@@ -3,7 +3,7 @@ use Rattle.std.specs.Prelude.{◌≡◌, ◌<◌, ℕ, ℤ, true, List, length, 
 use Rattle.scop_syntax.specs.Tree.{Program}
 use Rattle.iteration_domains.specs.Model.{model_of}
 use Rattle.loop_tree.specs.Tiling.{IsGoodPlan}
-use Rattle.plan_check.specs.Goals.{InRange}
+use Rattle.scop_syntax.specs.Limits.{AreInRange}
 use Rattle.plan_check.specs.Judged.{SaysPlan, judged}
 use Rattle.plan_check.specs.Plans.{Plan, tiling_of}
 use Rattle.polypar.specs.Told.{Told, text_alone}
@@ -11,7 +11,7 @@ use Rattle.polypar.specs.Told.{Told, text_alone}
 -- the plan's tiles of every size are good for all parameters in 0..=65536
 abbrev pub IsGoodAlways : Program → Plan → Type 0
 IsGoodAlways program plan =
-    (params : List ℤ) (size : ℕ) → length params ≡ length program.parameters → InRange params → 0 < size
+    (params : List ℤ) (size : ℕ) → length params ≡ length program.parameters → AreInRange params → 0 < size
     → IsGoodPlan program params (tiling_of size (length (model_of program).statements) plan)
 
 -- what is told of an accepted certificate

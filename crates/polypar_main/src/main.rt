@@ -2,19 +2,9 @@
 //! answer. Its stored run is Done.
 #![tactic(auto)]
 
-use io_ports::{OpenGate, StdSink, StdSource};
+use io_ports::{OpenGate, StdSink, StdSource, words};
 use polypar::polypar;
-use std::env;
 use std::process::ExitCode;
-use std::rt::Env;
-
-/// The words of the command line; none where they cannot be read as a whole, which is no command.
-fn words<R: Env + AllocGlobal>(rt: &R) -> Vec<String> {
-    match env::args(rt) {
-        Ok(args) => args.collect(rt.alloc()).unwrap_or(Vec::new(rt.alloc())),
-        Err(_) => Vec::new(rt.alloc()),
-    }
-}
 
 /// Does what the words ask for over standard input, output and error.
 fn main(rt: HostRuntime) -> ExitCode {

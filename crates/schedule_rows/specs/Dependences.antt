@@ -3,7 +3,7 @@ use Rattle.std.specs.Prelude.{◌≡◌, ℕ, ℤ, negsuc, ◌+ℤ◌, ◌≤ℤ
 use Rattle.whole_numbers.specs.Affine.{form_of}
 use Rattle.scop_syntax.specs.Walk.{Instance}
 use Rattle.iteration_domains.specs.Dependence.{Dependence, binds_in}
-pub use Rattle.iteration_domains.specs.Related.{InRange, Relates, point_of}
+pub use Rattle.iteration_domains.specs.Related.{Relates, point_of}
 use Rattle.iteration_domains.specs.Restrictions.{equality_behind, row_behind}
 use Rattle.farkas.specs.Unknowns.{Unknowns}
 use Rattle.farkas.specs.Claims.{distance}

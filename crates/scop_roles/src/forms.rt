@@ -6,15 +6,8 @@ ghost use Rattle.whole_numbers.specs.Lists.{multiples, sums, zeros};
 ghost use Rattle.scop_syntax.specs.Kernel.{AreAtMost, IsAffine, IsForm};
 ghost use Rattle.scop_roles.specs.Forms.{is_small, is_within};
 
-use scop_syntax::{Aff, MOST_COEFFICIENT, MOST_CONSTANT};
+use scop_syntax::{Aff, MOST_COEFFICIENT, MOST_CONSTANT, zeros};
 use std::alloc::{AllocError, Global};
-
-/// So many zeros.
-pub fn zeros(alloc: Global, count: usize) -> Result<Vec<i64>, AllocError>
-    ensures { IfOk result (λ v. v.items ≡ zeros count) }
-{
-    vec![in alloc; 0; count]
-}
 
 // The form of a constant.
 #[tactic(auto, using(crate::proofs::Sizes::constant_affine))]

@@ -14,7 +14,6 @@ mod roles;
 mod sides;
 mod values;
 
-pub use forms::zeros;
 pub use formula::{
     Argument, Formula, Meaning, Names, Role, has_subscripts, meaning_of, place, resolve,
     with_subscript,

@@ -8,7 +8,8 @@ pub use Rattle.scop_syntax.proofs.Members.{in_if, in_if_from, in_map, in_map_fro
 pub use Rattle.scop_syntax.proofs.Members.{place_of, sorted_append, sorted_map, sorted_places, there_is}
 pub use Rattle.scop_syntax.proofs.Memory.{offset_below}
 pub use Rattle.scop_syntax.proofs.NarrowValues.{applied_kept}
-pub use Rattle.scop_syntax.proofs.Sizes.{at_most_at, at_most_more, size, value_size}
+pub use Rattle.scop_syntax.proofs.Sizes.{at_most_at, at_most_more, parameter_size, params_not_negative, range_high}
+pub use Rattle.scop_syntax.proofs.Sizes.{range_low, size, size_params, value_size}
 pub use Rattle.scop_syntax.proofs.SortedLists.{StandOnce, walked_distinct}
 pub use Rattle.scop_syntax.proofs.Statements.{length-placed, one_instance}
 pub use Rattle.scop_syntax.proofs.Views.{expression_binary}
@@ -30,7 +31,8 @@ pub use Rattle.scop_syntax.specs.Kernel.{AreAtMost, AreScopes, AreTrees, HasWidt
 pub use Rattle.scop_syntax.specs.Kernel.{IsCondition, IsDeclaration, IsExpression, IsForm, IsHead, IsKernel, IsPlaced}
 pub use Rattle.scop_syntax.specs.Kernel.{IsRight, IsStatement, IsTree, KeepWidths, narrow_arrays, own, ranks_of}
 pub use Rattle.scop_syntax.specs.Kernel.{test_form}
-pub use Rattle.scop_syntax.specs.Limits.{HasParameters, WithinLimits, has_parameters}
+pub use Rattle.scop_syntax.specs.Limits.{AreInRange, HasParameters, IsInRange, WithinLimits, has_parameters}
+pub use Rattle.scop_syntax.specs.Limits.{most_parameter}
 pub use Rattle.scop_syntax.specs.Members.{In, Sorted}
 pub use Rattle.scop_syntax.specs.Order.{Before, common}
 pub use Rattle.scop_syntax.specs.Reductions.{AreMarked, added_by, is_marked, loads}

@@ -4,7 +4,7 @@ use Rattle.whole_numbers.proofs.Common.{All-cons, Affine, value_of}
 use Rattle.scop_syntax.specs.Tree.{Declaration}
 use Rattle.scop_syntax.specs.Kernel.{IsForm, IsAffine, IsAccess, IsDeclaration, IsKernel}
 use Rattle.scop_syntax.specs.Examples.{form, at, four_cells, falling_by_two}
-use Rattle.scop_syntax.specs.Limits.{WithinLimits}
+use Rattle.scop_syntax.specs.Limits.{IsInRange, WithinLimits}
 
 -- a subscript of the loop
 subscript : (k : ℤ) → IsForm 1 16 (2 ^ 20) (form (pos 1 ∷ []) k) → IsAccess (1 ∷ []) 1 (at k)
@@ -74,7 +74,7 @@ falling =
     record {
       kernel = kernel;
       count = refl;
-      parameters = All-nil (λ p. (pos 0 ≤ℤ p) × (p ≤ℤ pos 65536));
+      parameters = All-nil IsInRange;
       extents = All-cons (λ (d : Declaration). All (λ form. pos 1 ≤ℤ value_of form []) d.extents) four_cells []
           (All-cons (λ form. pos 1 ≤ℤ value_of form []) (form [] (pos 4)) [] (omega (arith, ints))
           (All-nil (λ (form : Affine). pos 1 ≤ℤ value_of form [])))

@@ -6,12 +6,12 @@ use Rattle.whole_numbers.proofs.Common.{get_or, negsuc, ◌+ℤ◌, ◌-ℤ◌, 
 use Rattle.whole_numbers.proofs.Common.{FitsSigned, w64, ints, unsigned_abs-mul, All-head, All-tail, All-nil, All-cons}
 use Rattle.whole_numbers.proofs.Common.{dot, zeros, NotNegative, Affine, value_of, mul_neg_left, mul_one_left}
 use Rattle.whole_numbers.proofs.Common.{mul_one_right, mul_zero_right, mul_distrib_left, mul_le, mul_not_negative}
-use Rattle.whole_numbers.proofs.Common.{abs_low, abs_high, abs_at_most, abs_sum}
+use Rattle.whole_numbers.proofs.Common.{abs_low, abs_high, abs_at_most, abs_sum, not_negative_all}
 use Rattle.scop_syntax.specs.Tree.{Head, Program}
 use Rattle.scop_syntax.specs.Walk.{turn_point, condition_at}
 use Rattle.scop_syntax.specs.Kernel.{own, AreAtMost, IsForm, IsAffine, IsHead, AreScopes}
 use Rattle.scop_syntax.specs.Statements.{Scope, round, under, loops_in, point_of, Runs}
-use Rattle.scop_syntax.specs.Limits.{HasParameters}
+use Rattle.scop_syntax.specs.Limits.{AreInRange, HasParameters, IsInRange, most_parameter}
 use Rattle.scop_syntax.proofs.Falls.{dot_last}
 
 -- the sum of the absolute values
@@ -224,18 +224,26 @@ value_within n f scopes point xs small heads runs few params =
     let v = value_size n 16 (2 ^ 20) f (point_of scopes point xs) small in
     omega arith
 
--- up to four parameters within 2^16 have a size within 2^18
-pub size_params : (xs : List ℤ) → All (λ p. (pos 0 ≤ℤ p) × (p ≤ℤ pos 65536)) xs → size xs ≤ length xs * 65536
+-- parameters in range: their sizes, and their bounds
+pub parameter_size : (x : ℤ) → IsInRange x → unsigned_abs x ≤ most_parameter
+parameter_size (pos n) h = let high = h.1 in omega (arith, ints)
+parameter_size (negsuc n) h = let low = h.0 in absurd (omega (arith, ints))
+
+pub size_params : (xs : List ℤ) → AreInRange xs → size xs ≤ length xs * most_parameter
 size_params [] all = omega arith
 size_params (x ∷ xs) all =
-    let h = All-head (λ p. (pos 0 ≤ℤ p) × (p ≤ℤ pos 65536)) x xs all in
-    let r = size_params xs (All-tail (λ p. (pos 0 ≤ℤ p) × (p ≤ℤ pos 65536)) x xs all) in
-    let a = parameter_size x h.0 h.1 in
+    let a = parameter_size x (All-head IsInRange x xs all) in
+    let r = size_params xs (All-tail IsInRange x xs all) in
     omega arith
-  where
-    parameter_size : (x : ℤ) → pos 0 ≤ℤ x → x ≤ℤ pos 65536 → unsigned_abs x ≤ 65536
-    parameter_size (pos n) low high = omega (arith, ints)
-    parameter_size (negsuc n) low high = absurd (omega (arith, ints))
+
+pub range_low : (xs : List ℤ) → AreInRange xs → All (λ z. pos 0 ≤ℤ z) xs
+range_low xs all = λ k d inside. (all k d inside).0
+
+pub range_high : (xs : List ℤ) → AreInRange xs → All (λ z. z ≤ℤ pos most_parameter) xs
+range_high xs all = λ k d inside. (all k d inside).1
+
+pub params_not_negative : (xs : List ℤ) → AreInRange xs → NotNegative xs
+params_not_negative xs all = (not_negative_all xs).1 (range_low xs all)
 
 pub params_size : (program : Program) (params : List ℤ) → HasParameters program params → size params ≤ 2 ^ 18
 params_size program params w =
@@ -243,13 +251,6 @@ params_size program params w =
     let few = w.kernel.few_parameters in
     let count = w.count in
     omega arith
-
--- no parameter is negative
-pub params_not_negative : (xs : List ℤ) → All (λ p. (pos 0 ≤ℤ p) × (p ≤ℤ pos 65536)) xs → NotNegative xs
-params_not_negative [] all = tt
-params_not_negative (x ∷ xs) all =
-    let P : ℤ → Type 0 = λ p. (pos 0 ≤ℤ p) × (p ≤ℤ pos 65536) in
-    ((All-head P x xs all).0, params_not_negative xs (All-tail P x xs all))
 
 -- turns within 2^46 have 64 bits
 pub turns_fit : (xs : List ℤ) → All (λ x. (pos 0 ≤ℤ x) × (x <ℤ pos (2 ^ 46))) xs → All (FitsSigned w64) xs

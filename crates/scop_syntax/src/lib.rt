@@ -53,7 +53,7 @@ pub use reduction_laws::marks_are_the_reduced_arrays;
 pub use standings::{Standing, standings_of};
 pub use tree::{
     Access, Aff, Array, Expr, Guard, Item, Kernel, Loop, Name, Narrowing, Operator, Right, Stmt,
-    Test,
+    Test, zeros,
 };
 pub use value_laws::{
     cells_hold_numbers_of_their_types, narrow_cells_stay_narrow, values_stay_below_2_64,

@@ -34,8 +34,8 @@ pub const MOST_CONSTANT: u64 = 1 << 20;
 /// By how much a loop's iterator rises or falls in a turn.
 pub const MOST_STRIDE: u64 = 16;
 
-/// The largest value of a parameter. `fm_projection`, `traced_projections` and `pip_solver`, which do not stand on this
-/// crate, have the number itself.
+/// The largest value of a parameter (`most_parameter` in specs/). `fm_projection`, `traced_projections`, `lexmin_runs`
+/// and `pip_solver`, which do not stand on this crate, have the number itself.
 pub const MOST_PARAMETER_VALUE: u64 = 65536;
 
 /// Cells of all arrays together; and instances of a walk of which each has a cell of its own.

@@ -2,6 +2,10 @@
 //! plain data of specs/Tree.antt, and the rest through the folds of specs/View.antt: an `Expr` by
 //! `expression_of`, a `Stmt` by `statement_of`, an `Item` by `tree_of`, a `Kernel` by `program_of`.
 //! Static-control parts: Feautrier, "Dataflow analysis of array and scalar references" (1991).
+ghost use Rattle.std.specs.Prelude.{◌≡◌, IfOk};
+ghost use Rattle.whole_numbers.specs.Lists.{zeros};
+
+use std::alloc::{AllocError, Global};
 use std::marker::Model;
 
 /// The bytes of a name, as the text spells it.
@@ -21,6 +25,16 @@ impl Model for Aff {
     ghost Value = { Affine };
 
     ghost view = { λ a. record { coefficients = a.coefficients.items; constant = a.constant } };
+}
+
+/// So many zeros: the coefficients of a constant.
+///
+/// # Errors
+/// `AllocError` alone.
+pub fn zeros(alloc: Global, count: usize) -> Result<Vec<i64>, AllocError>
+    ensures { IfOk result (λ v. v.items ≡ zeros count) }
+{
+    vec![in alloc; 0; count]
 }
 
 /// A cell of an array: the array's number in the order of declaration, and a subscript for each

@@ -4,8 +4,7 @@ ghost use Rattle.std.specs.Prelude.{◌≡◌, IfOk, map};
 ghost use Rattle.scop_units.specs.Units.{declared_over, padded};
 
 use crate::scope::copied;
-use scop_roles::zeros;
-use scop_syntax::{Aff, Array};
+use scop_syntax::{Aff, Array, zeros};
 use std::alloc::{AllocError, Global};
 
 // The form over so many entries at least.

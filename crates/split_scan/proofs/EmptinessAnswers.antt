@@ -1,34 +1,15 @@
 -- What the answer of a question means, for any number of parameters.
 use Rattle.scop_syntax.proofs.Common.{◌≡◌, ℕ, zero, suc, ◌+◌, ℤ, pos, List, [], ◌∷◌, ◌++◌, length, All, arith, ◌≤ℤ◌}
-use Rattle.scop_syntax.proofs.Common.{ints, All-cons, All-head, All-nil, All-tail, Affine, value_of, NotNegative}
-use Rattle.scop_syntax.proofs.Common.{not_negative-append, not_negative_all}
+use Rattle.scop_syntax.proofs.Common.{ints, All-nil, Affine, value_of, NotNegative}
+use Rattle.scop_syntax.proofs.Common.{not_negative-append, not_negative_all, params_not_negative, range_high}
 use Rattle.affine_forms.specs.Parts.{variables_of}
 use Rattle.integer_sets.specs.Constraints.{IsSized, system_of}
 use Rattle.pip_solver.specs.Emptiness.{IsBoundedPoint}
-use Rattle.fm_projection.specs.Alone.{AreInRange}
-use Rattle.fm_projection.proofs.Ranges.{fitted, fitted_length, satisfies_fitted}
+use Rattle.fm_projection.proofs.Ranges.{fitted, fitted_length, fitted_range, satisfies_fitted}
 use Rattle.plain_scan.proofs.ConstraintLists.{of_rows}
 use Rattle.plain_scan.proofs.Pieces.{all_append}
 use Rattle.split_scan.specs.steps.Questions.{AreNatural, HasNone, IsVoid}
 use Rattle.split_scan.proofs.Values.{one_size, one_point}
-
--- parameters in range, or zeros, are whole numbers within bounds
-abbrev IsInRange : ℤ → Type 0
-IsInRange z = (pos 0 ≤ℤ z) × (z ≤ℤ pos 65536)
-
-fitted_natural : (n : ℕ) (xs : List ℤ) → AreInRange xs → NotNegative (fitted n xs)
-fitted_natural zero xs h = tt
-fitted_natural (suc n) [] h = (omega (arith, ints), fitted_natural n [] h)
-fitted_natural (suc n) (x ∷ xs) h =
-    ((All-head IsInRange x xs h).0, fitted_natural n xs (All-tail IsInRange x xs h))
-
-fitted_bounded : (n : ℕ) (xs : List ℤ) → AreInRange xs → All (λ z. z ≤ℤ pos 65536) (fitted n xs)
-fitted_bounded zero xs h = All-nil (λ z. z ≤ℤ pos 65536)
-fitted_bounded (suc n) [] h =
-    All-cons (λ z. z ≤ℤ pos 65536) (pos 0) (fitted n []) (omega (arith, ints)) (fitted_bounded n [] h)
-fitted_bounded (suc n) (x ∷ xs) h =
-    All-cons (λ z. z ≤ℤ pos 65536) x (fitted n xs) (All-head IsInRange x xs h).1
-    (fitted_bounded n xs (All-tail IsInRange x xs h))
 
 -- a system that has no bounded point has none for parameters in range, whatever their number
 pub none_of : (d p : ℕ) (fs : List Affine) → All (λ f. variables_of f ≡ d + p) fs
@@ -37,6 +18,7 @@ none_of d p fs sized none params point range size natural hold =
     let s = system_of d p [] fs in
     let q = fitted p params in
     let count = fitted_length p params in
+    let within = fitted_range p params range in
     let all : IsSized (length point + p) [] fs = record {
       equalities_sized = All-nil (λ f. variables_of f ≡ length point + p);
       rows_sized = λ k e inside. let n = sized k e inside in omega (arith, n, size);
@@ -44,8 +26,8 @@ none_of d p fs sized none params point range size natural hold =
     none point q (record {
       dimensions = size;
       parameters = count;
-      not_negative = not_negative-append point q natural (fitted_natural p params range);
-      bounded = fitted_bounded p params range;
+      not_negative = not_negative-append point q natural (params_not_negative q within);
+      bounded = range_high q within;
       inside = satisfies_fitted s point params p all (
         All-nil (λ f. value_of f (point ++ params) ≡ pos 0),
         of_rows fs

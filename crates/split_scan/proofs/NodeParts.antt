@@ -15,7 +15,7 @@ use Rattle.plain_scan.specs.Hulls.{IsAlike, sets_in}
 use Rattle.plain_scan.proofs.CodeBounds.{take_next}
 use Rattle.plain_scan.proofs.Pieces.{all_append}
 use Rattle.plain_scan.proofs.HullLoops.{row_holds}
-use Rattle.fm_projection.specs.Alone.{AreInRange}
+use Rattle.scop_syntax.specs.Limits.{AreInRange}
 use Rattle.split_scan.specs.steps.Questions.{IsCut, IsVoid}
 use Rattle.split_scan.specs.steps.Parts.{Goes, HasMarks, Implies, InPart, IsCell, IsHeld, IsNext, IsPart, Keeps}
 use Rattle.split_scan.specs.steps.Parts.{staying}

@@ -8,6 +8,7 @@ use atomic_table::{Seat, Table};
 use scop_syntax::Instance;
 use std::alloc::Global;
 use tile_list::tiles_stand_one_behind_another;
+use tile_table::MARGIN;
 
 /// The plan, and the table of all words: the count of claims, the count of finished tiles, the cells, and behind these a
 /// counter for each tile where tiles are released one by one.
@@ -17,13 +18,12 @@ pub struct Words<'a> {
     pub table: Table<(), View, Key<'a>, WordRule, Global>,
 }
 
-/// A seat at the table, and where the worker that has it stands. Passes lie side by side, and each worker writes in its
-/// own at each instance: the margin, two cache lines wide, keeps that off the lines of the pass behind it.
+/// A seat at the table, and where the worker that has it stands. Passes lie side by side, so each has a margin.
 #[derive(Drop)]
 pub struct Pass {
     pub seat: Seat<(), View>,
     pub worker: Worker,
-    pub margin: [u64; 16],
+    pub margin: [u64; MARGIN],
 }
 
 impl Pass {
@@ -37,7 +37,7 @@ impl Pass {
         Pass {
             seat,
             worker,
-            margin: [0; 16],
+            margin: [0; MARGIN],
         }
     }
 

@@ -5,8 +5,9 @@ use Rattle.scop_syntax.proofs.Common.{◌*ℤ◌, ◌≤ℤ◌, ◌<ℤ◌, ◌�
 use Rattle.scop_syntax.proofs.Common.{All-cons, All-head, All-tail, Affine, composed, mul_neg_left, mul_one_left}
 use Rattle.scop_syntax.proofs.Common.{mul_le, abs_low, abs_high, abs_at_most, all_back, Program, Head, In, own, IsHead}
 use Rattle.scop_syntax.proofs.Common.{IsKernel, AreScopes, Scope, round, under, Placed, loops_in, dot_last, size}
+use Rattle.scop_syntax.proofs.Common.{most_parameter}
 use Rattle.fractions.specs.Fractions.{value_over, HoldsOver}
-use Rattle.fm_projection.specs.Alone.{AreInRangeOver}
+use Rattle.fm_projection.specs.Alone.{AreInRangeOver, IsInRangeOver}
 use Rattle.scop_syntax.proofs.Kernels.{kernel_placed}
 use Rattle.scop_syntax.proofs.Sizes.{grown, size-append, grown_up}
 use Rattle.scop_syntax.proofs.Sizes.{five}
@@ -139,16 +140,16 @@ scopes_within (round head ∷ scopes) n j forms d xs (y ∷ ys) t e g l are rows
     (subst (λ m. AreScopes m scopes) (sym long) are.1) (All-tail P condition there behind) sized few)
 
 -- the size of parameters in range
-params_size : (d : ℤ) (params : List ℤ) → AreInRangeOver d params → size params ≤ 65536 * unsigned_abs d * length params
+params_size : (d : ℤ) (params : List ℤ) → AreInRangeOver d params
+    → size params ≤ most_parameter * unsigned_abs d * length params
 params_size d [] range = omega arith
 params_size d (p ∷ ps) range =
-    let P : ℤ → Type 0 = λ p. (pos 0 ≤ℤ p) × (p ≤ℤ (pos 65536 *ℤ d)) in
-    let one = All-head P p ps range in
+    let one = All-head (IsInRangeOver d) p ps range in
     let low = one.0 in
     let high = one.1 in
     let top = abs_high d in
-    let a = abs_at_most p (65536 * unsigned_abs d) (omega (arith, ints)) (omega (arith, ints)) in
-    let r = params_size d ps (All-tail P p ps range) in
+    let a = abs_at_most p (most_parameter * unsigned_abs d) (omega (arith, ints)) (omega (arith, ints)) in
+    let r = params_size d ps (All-tail (IsInRangeOver d) p ps range) in
     omega arith
 
 -- the turns of a statement, with at most four parameters
@@ -169,8 +170,9 @@ placed_within p d turns params are loops few l range rows =
     ap length (sym params_are) ∙ length-map forms (λ form. value_over form d xs) in
     let small : size params ≤ 2 ^ 18 * unsigned_abs d =
     let a = params_size d params range in
-    let same : 65536 * unsigned_abs d ≤ 65536 * unsigned_abs d = omega arith in
-    let b : 65536 * unsigned_abs d * length params ≤ 65536 * unsigned_abs d * 4 = mul-le-mul same few in
+    let same : most_parameter * unsigned_abs d ≤ most_parameter * unsigned_abs d = omega arith in
+    let b : most_parameter * unsigned_abs d * length params ≤ most_parameter * unsigned_abs d * 4 =
+    mul-le-mul same few in
     omega arith in
     scopes_within p.scopes n 0 forms d xs turns (2 ^ 18) size_is (goes_on [] turns params) l
     (subst (λ k. AreScopes k p.scopes) count are) rows

@@ -16,9 +16,10 @@ use crate::table::{Row, Table};
 use scop_syntax::Instance;
 use std::alloc::{AllocError, Global};
 
-/// How many entries of room stand behind each list of a desk, which nobody uses: so no two workers' lists share a line
-/// of a cache.
-const MARGIN: usize = 16;
+/// How many entries of 8 bytes or more, which nobody uses, stand behind what a worker writes at each instance: its pass,
+/// and each list of a desk. They fill two lines of a cache, which processors fetch in pairs, so no two workers write in
+/// one line.
+pub const MARGIN: usize = 16;
 
 /// Room for one statement's instances: the lanes of its cells, the place first, then the reads, those of its affine
 /// parts, and the slots of its code.

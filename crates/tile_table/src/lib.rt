@@ -18,7 +18,7 @@ mod points;
 mod table;
 
 pub use code::{Change, Code, Step};
-pub use desk::Desk;
+pub use desk::{Desk, MARGIN};
 pub use join::{Join, JoinLanes};
 pub use lane::Lane;
 pub use table::{Row, Table};

@@ -8,9 +8,10 @@ use Rattle.affine_forms.specs.Parts.{variables_of}
 use Rattle.integer_sets.specs.Constraints.{Constraints, IsSized, system_of, variables_in}
 use Rattle.integer_sets.specs.Points.{Satisfies}
 use Rattle.fm_projection.specs.declared.stop.FmStop.{FmStop}
-use Rattle.fm_projection.specs.Alone.{AreInRange, LeavesAlone, range_rows}
+use Rattle.fm_projection.specs.Alone.{AreInRange, IsInRange, LeavesAlone, range_rows}
 use Rattle.fm_projection.proofs.RangeRows.{least_row, most_row}
-use Rattle.fm_projection.proofs.Ranges.{fitted, fitted_length, last_value, place_value, satisfies_fitted}
+use Rattle.fm_projection.proofs.Ranges.{fitted, fitted_length, fitted_range, last_value, place_value}
+use Rattle.fm_projection.proofs.Ranges.{satisfies_fitted}
 use Rattle.fm_projection.specs.Projecting.{Follow}
 use Rattle.fm_projection.proofs.WholePoints.{follow, one_more}
 use Rattle.traced_projections.specs.declared.projections.Projection.{Projection}
@@ -63,25 +64,14 @@ back_left : (t : Tracing) (x : ℤ) (rest : List ℤ) → Satisfies (constraints
 back_left t x [] h = h
 back_left t x (y ∷ rest) h = back_left (traced_gone 1 t) x rest (follow_traced 1 t (x ∷ []) y rest refl h)
 
--- parameters in range, cut or filled with zeros
-fitted_range : (n : ℕ) (xs : List ℤ) → AreInRange xs → AreInRange (fitted n xs)
-fitted_range zero xs range = All-nil (λ p. (pos 0 ≤ℤ p) × (p ≤ℤ pos 65536))
-fitted_range (suc n) [] range =
-    All-cons (λ p. (pos 0 ≤ℤ p) × (p ≤ℤ pos 65536)) (pos 0) (fitted n [])
-    (omega (arith, ints), omega (arith, ints)) (fitted_range n [] range)
-fitted_range (suc n) (x ∷ xs) range =
-    let P : ℤ → Type 0 = λ p. (pos 0 ≤ℤ p) × (p ≤ℤ pos 65536) in
-    All-cons P x (fitted n xs) (All-head P x xs range) (fitted_range n xs (All-tail P x xs range))
-
 -- the rows of the range hold there
 range_holds : (n i : ℕ) (front qs : List ℤ) → length front ≡ i → i + length qs ≤ n → AreInRange qs
     → All (λ f. pos 0 ≤ℤ value_of f (front ++ qs)) (range_rows n i (length qs))
 range_holds n i front [] size few range = All-nil (λ f. pos 0 ≤ℤ value_of f (front ++ []))
 range_holds n i front (q ∷ qs) size few range =
-    let I : ℤ → Type 0 = λ p. (pos 0 ≤ℤ p) × (p ≤ℤ pos 65536) in
     let point = front ++ q ∷ qs in
     let P : Affine → Type 0 = λ f. pos 0 ≤ℤ value_of f point in
-    let here = All-head I q qs range in
+    let here = All-head IsInRange q qs range in
     let low = here.0 in
     let high = here.1 in
     let entry : get_or point i (pos 0) ≡ q =
@@ -93,7 +83,7 @@ range_holds n i front (q ∷ qs) size few range =
     let least : P (least_row n i) = omega (arith, ints, a, p, entry, low) in
     let most : P (most_row n i) = omega (arith, ints, b, m, p, entry, high) in
     let longer : length (front ++ q ∷ []) ≡ suc i = omega (arith, length-append front (q ∷ []), size) in
-    let rest = range_holds n (suc i) (front ++ q ∷ []) qs longer (omega (arith, few)) (All-tail I q qs range) in
+    let rest = range_holds n (suc i) (front ++ q ∷ []) qs longer (omega (arith, few)) (All-tail IsInRange q qs range) in
     All-cons P (least_row n i) (most_row n i ∷ range_rows n (suc i) (length qs)) least
     (All-cons P (most_row n i) (range_rows n (suc i) (length qs)) most
     (subst (λ (zs : List ℤ). All (λ f. pos 0 ≤ℤ value_of f zs) (range_rows n (suc i) (length qs)))

@@ -12,7 +12,7 @@ pub use Rattle.tree_simplification.specs.steps.Strided.{AreEnds, AreTestsAt, Can
 pub use Rattle.tree_simplification.specs.steps.Strided.{blocks, lies, masked, turn_form}
 pub use Rattle.tree_simplification.specs.steps.Trimmed.{Among, CanTrim, Trims, TrimsAll, TrimsBounds, TrimsTests, under}
 pub use Rattle.affine_forms.specs.Parts.{variables_of}
-pub use Rattle.fm_projection.specs.Alone.{AreInRange}
+pub use Rattle.scop_syntax.specs.Limits.{AreInRange}
 pub use Rattle.integer_sets.specs.Constraints.{Constraints, system_of}
 pub use Rattle.iteration_domains.proofs.Surroundings.{length-composed}
 pub use Rattle.iteration_domains.specs.Rows.{variable, variables}

@@ -5,13 +5,14 @@ use Rattle.tree_simplification.proofs.Common.{le_z, if◌then◌else◌, ◌↔�
 use Rattle.tree_simplification.proofs.Common.{ints, All-append, All-cons, All-head, All-nil, All-tail, Affine, value_of}
 use Rattle.tree_simplification.proofs.Common.{widened, floor, ceiling, NotNegative, multiples, length-multiples}
 use Rattle.tree_simplification.proofs.Common.{floor_is, le_or_lt, mul_one_left, length-widened, both, holds_le_z}
-use Rattle.tree_simplification.proofs.Common.{le_z_holds, variables_of, AreInRange, system_of, IsBoundedPoint, form_in}
+use Rattle.tree_simplification.proofs.Common.{le_z_holds, variables_of, system_of, IsBoundedPoint, form_in}
 use Rattle.tree_simplification.proofs.Common.{AreBounds, Bound, Bounds, only, besides, bounds_of, at_least, equal}
 use Rattle.tree_simplification.proofs.Common.{multiple, all_hold, holds, lower, upper, ArePartsOver, Context}
 use Rattle.tree_simplification.proofs.Common.{IsSizedContext, Meets, NaturalAbove, NeverHolds, OnSide, form_row}
 use Rattle.tree_simplification.proofs.Common.{part_row, parts, sign_of, tested, tests_rows}
 use Rattle.scop_syntax.proofs.Common.{All-from_recursion, All-get_or, All-map, All-weaker, ceiling_at_most, ceiling_is}
 use Rattle.scop_syntax.proofs.Common.{floor_at_least, not_negative-append, not_negative_all, cancel_le, mul_zero_left}
+use Rattle.scop_syntax.proofs.Common.{range_high, range_low}
 use Rattle.std.proofs.lemmas.List.Edits.{length-insert}
 use Rattle.whole_numbers.proofs.Lists.{dot_not_negative}
 use Rattle.loop_tree.specs.Tree.{Test}
@@ -231,15 +232,6 @@ high_from (only b) point x h l = (high_side b point x h).1 l.0
 high_from (besides b bs) point x h l =
     above_min (floor (value_of b.form point) b.divisor) (upper bs point) x ((high_side b point x h.0).1 l.0)
     (high_from bs point x h.1 l.1)
-
--- parameters in range, from both sides
-range_low : (params : List ℤ) → AreInRange params → All (λ z. pos 0 ≤ℤ z) params
-range_low params h =
-    All-weaker (λ p. (pos 0 ≤ℤ p) × (p ≤ℤ pos 65536)) (λ z. pos 0 ≤ℤ z) (λ z k. k.0) params h
-
-range_high : (params : List ℤ) → AreInRange params → All (λ z. z ≤ℤ pos 65536) params
-range_high params h =
-    All-weaker (λ p. (pos 0 ≤ℤ p) × (p ≤ℤ pos 65536)) (λ z. z ≤ℤ pos 65536) (λ z k. k.1) params h
 
 -- what an answer that there is no point means
 pub never_from : (c : Context) (row : Affine) → c.natural ≡ true

@@ -11,7 +11,7 @@ use Rattle.tree_simplification.proofs.Common.{Trees, none, more, Visit, all_hold
 use Rattle.tree_simplification.proofs.Common.{walk_all, shown, StayWithin, AreNear, AreTestsFor, Inlines, IsInlined}
 use Rattle.tree_simplification.proofs.Common.{IsPlace, bounds_over, IsOnce, inside, side_tests, parts, joined, CanGoAt}
 use Rattle.tree_simplification.proofs.Common.{InlinesAt, lies, masked}
-use Rattle.scop_syntax.proofs.Common.{in_map, in_map_from}
+use Rattle.scop_syntax.proofs.Common.{in_map, in_map_from, IsInRange, parameter_size}
 use Rattle.loop_tree.specs.Marks.{Flat}
 use Rattle.loop_tree.specs.Shape.{NestsTo}
 use Rattle.loop_tree.specs.Tree.{Test}
@@ -606,11 +606,7 @@ leaf_stays m k loops forms number turns place small =
 range_small : (params : List ℤ) → AreInRange params → AreAtMost (2 ^ 16) params
 range_small [] h = tt
 range_small (x ∷ params) h =
-    let P : ℤ → Type 0 = λ p. (pos 0 ≤ℤ p) × (p ≤ℤ pos 65536) in
-    let own = All-head P x params h in
-    let low = own.0 in
-    let high = own.1 in
-    (abs_at_most x (2 ^ 16) (omega (arith, ints)) (omega (arith, ints)), range_small params (All-tail P x params h))
+    (parameter_size x (All-head IsInRange x params h), range_small params (All-tail IsInRange x params h))
 
 -- within no loop
 pub inlined_whole : (m d : ℕ) (old new : Trees) → m ≤ 2 ^ 32 → d ≤ 2 ^ 32 → NestAllTo d old → Inlines m 0 [] old new

@@ -1,6 +1,6 @@
 -- Trees that visit what others visit, with fewer tests, bounds and loops.
 use Rattle.std.specs.Prelude.{◌≡◌, ℕ, ◌^◌, ℤ, List, [], length, map}
-use Rattle.fm_projection.specs.Alone.{AreInRange}
+use Rattle.scop_syntax.specs.Limits.{AreInRange}
 use Rattle.scop_syntax.specs.Tree.{Program}
 use Rattle.loop_tree.specs.Fits.{FitsAll}
 use Rattle.loop_tree.specs.Marks.{FlatAll}

@@ -1,11 +1,12 @@
 -- What the steps of reading a case require; only for the code's own steps.
-use Rattle.std.specs.Prelude.{ℕ, ◌≤◌, ◌^◌, ℤ, pos, ◌≤ℤ◌, List, length, All}
+use Rattle.std.specs.Prelude.{ℕ, ◌≤◌, ◌^◌, ℤ, List, length, All}
 use Rattle.scop_syntax.specs.Execution.{total_cells}
+use Rattle.scop_syntax.specs.Limits.{AreInRange}
 
--- at most four parameters, each from 0 to 65536
+-- at most four parameters in range
 pub record AreParameters (params : List ℤ) : Type 0 where
   pub few : length params ≤ 4
-  pub values : All (λ p. (pos 0 ≤ℤ p) × (p ≤ℤ pos 65536)) params
+  pub values : AreInRange params
 
 -- at most four extents below 2^23
 pub record AreSizes (extents : List ℕ) : Type 0 where

@@ -2,6 +2,7 @@
 use Rattle.std.specs.Prelude.{◌≡◌, ℕ, ◌+◌, ◌<◌, ◌≤◌, ◌^◌, ℤ, pos, ◌≤ℤ◌, List, length, All, slice_get, Some}
 use Rattle.whole_numbers.specs.Affine.{Affine, value_of}
 use Rattle.integer_sets.specs.Parts.{variables_of}
+use Rattle.scop_syntax.specs.Limits.{AreInRange}
 use Rattle.scop_syntax.specs.Tree.{Access, Declaration}
 use Rattle.iteration_domains.specs.Model.{Modelled}
 use Rattle.iteration_domains.specs.Sizes.{IsNarrow, forms_size}
@@ -26,7 +27,7 @@ pub record CanAskAll (arrays : List Declaration) (params : List ℤ) (s : Modell
   pub few : s.domain.dimensions ≤ 5
   pub few_parameters : length params ≤ 4
   pub parameters : s.domain.parameters ≡ length params
-  pub values : All (λ p. (pos 0 ≤ℤ p) × (p ≤ℤ pos 65536)) params
+  pub values : AreInRange params
   pub equalities : All (IsNarrow (s.domain.dimensions + s.domain.parameters)) s.domain.equalities
   pub rows : All (IsNarrow (s.domain.dimensions + s.domain.parameters)) s.domain.rows
   pub accesses : All (CanAsk arrays params) s.accesses

@@ -8,7 +8,7 @@ use Rattle.loop_tree.specs.Walk.{all_hold}
 use Rattle.loop_tree.specs.steps.Scanning.{Covers, ScansAll}
 use Rattle.plain_scan.specs.Sets.{Keys, Leaf}
 use Rattle.fractions.specs.Elimination.{coefficient_of}
-use Rattle.fm_projection.specs.Alone.{AreInRange}
+use Rattle.scop_syntax.specs.Limits.{AreInRange}
 
 -- each form is 0 at the point
 abbrev pub AllZero : List Affine → List ℤ → Type 0

@@ -1,7 +1,7 @@
 -- Rows that are not negative where others are not, since parameters are not.
 use Rattle.std.specs.Prelude.{◌≡◌, ℕ, ℤ, pos, ◌≤ℤ◌, List, [], ◌∷◌, ◌++◌, length}
 use Rattle.whole_numbers.specs.Affine.{Affine, form_of, value_of}
-use Rattle.fm_projection.specs.Alone.{AreInRange}
+use Rattle.scop_syntax.specs.Limits.{AreInRange}
 use Rattle.loop_tree.specs.Walk.{max_z}
 use Rattle.affine_forms.specs.Parts.{variables_of}
 use Rattle.plain_scan.specs.Between.{HasSmallNumbers}

@@ -3,7 +3,8 @@ use Rattle.std.specs.Prelude.{◌≡◌, ℕ, suc, ◌+◌, ◌<◌, Bool, ℤ, 
 use Rattle.std.specs.Prelude.{◌++◌, length, map, All, ⊤}
 use Rattle.whole_numbers.specs.Affine.{Affine, widened}
 use Rattle.integer_sets.specs.Scanned.{Scanned}
-use Rattle.fm_projection.specs.Alone.{AreInRange, place_form}
+use Rattle.fm_projection.specs.Alone.{place_form}
+use Rattle.scop_syntax.specs.Limits.{AreInRange}
 use Rattle.std.specs.Option.{option_eq}
 use Rattle.loop_tree.specs.Tree.{Tree, Trees}
 use Rattle.plain_scan.specs.Sets.{Keys, row_tests, under}

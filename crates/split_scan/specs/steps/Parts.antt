@@ -2,7 +2,7 @@
 use Rattle.std.specs.Prelude.{◌≡◌, ℕ, Bool, true, false, ℤ, pos, ◌≤ℤ◌, List, [], ◌∷◌, ◌++◌, length, ◌⊎◌, All}
 use Rattle.whole_numbers.specs.Affine.{Affine, value_of}
 use Rattle.integer_sets.specs.Scanned.{Scanned}
-use Rattle.fm_projection.specs.Alone.{AreInRange}
+use Rattle.scop_syntax.specs.Limits.{AreInRange}
 use Rattle.plain_scan.specs.Sets.{IsKeyOf, Keys}
 use Rattle.plain_scan.specs.steps.Serving.{AllAtLeast}
 use Rattle.split_scan.specs.steps.Questions.{IsCut, IsIn}

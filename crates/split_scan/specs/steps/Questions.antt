@@ -4,7 +4,7 @@ use Rattle.whole_numbers.specs.Affine.{Affine}
 use Rattle.whole_numbers.specs.Lists.{NotNegative}
 use Rattle.affine_forms.specs.Parts.{variables_of}
 use Rattle.fractions.specs.Elimination.{coefficient_of}
-use Rattle.fm_projection.specs.Alone.{AreInRange}
+use Rattle.scop_syntax.specs.Limits.{AreInRange}
 use Rattle.plain_scan.specs.steps.Serving.{AllAtLeast}
 use Rattle.plain_scan.specs.Between.{HasSmallNumbers}
 

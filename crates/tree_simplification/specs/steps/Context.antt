@@ -5,7 +5,7 @@ use Rattle.std.specs.List.{AllByRecursion}
 use Rattle.whole_numbers.specs.Affine.{Affine, form_of, value_of, widened}
 use Rattle.whole_numbers.specs.Lists.{NotNegative, multiples}
 use Rattle.affine_forms.specs.Parts.{variables_of}
-use Rattle.fm_projection.specs.Alone.{AreInRange}
+use Rattle.scop_syntax.specs.Limits.{AreInRange}
 use Rattle.scop_syntax.specs.Members.{In}
 use Rattle.loop_tree.specs.Tree.{Bound, Bounds, only, besides, Test, at_least, equal, multiple}
 

@@ -2,7 +2,7 @@
 use Rattle.std.specs.Prelude.{◌≡◌, ℕ, ◌+◌, ◌^◌, ◌≤◌, Bool, true, false, ℤ, ◌*ℤ◌, not, List, [], ◌∷◌, ◌++◌, All}
 use Rattle.std.specs.Prelude.{◌⊎◌, ◌≤ℤ◌, length, map, neg_ℤ, pos, ⊤}
 use Rattle.whole_numbers.specs.Affine.{Affine, composed, multiple_of_form, sum_of_forms, values_of, widened}
-use Rattle.fm_projection.specs.Alone.{AreInRange}
+use Rattle.scop_syntax.specs.Limits.{AreInRange}
 use Rattle.scop_syntax.specs.Kernel.{AreAtMost}
 use Rattle.scop_syntax.specs.Members.{In}
 use Rattle.scop_syntax.specs.Tree.{Program}

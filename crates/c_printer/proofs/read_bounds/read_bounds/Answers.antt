@@ -43,9 +43,9 @@ loop-at-preserved c =
     let some : Some behind ≡ strip a.chosen.now l.rest.now = search rules in
     let is : Some (bound.part, bound.rest.now)
     ≡ chosen_bound (read_bound a.divided.now a.parameters names behind) = search rules in
-    bounds_more a.steps l.at a.divided.now a.chosen.now a.parameters names l.bounds.items c.push.new.parts.items
+    bounds_more a.steps l.at a.divided.now a.chosen.now a.parameters names l.bounds.items c.push.new.list.items
     bound.part l.rest.now behind bound.rest.now
-    (read_bounds a.steps a.divided.now a.chosen.now a.parameters names a.text.now) h some c.in-Ok.ensures is
+    (read_bounds a.steps a.divided.now a.chosen.now a.parameters names a.text.now) h some c.in-Ok.ensures.pushed is
     l.invariant
 
 pub returns : goal.returns

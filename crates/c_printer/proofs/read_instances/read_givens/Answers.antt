@@ -16,8 +16,8 @@ loop-at-preserved c =
     let named : map (λ n. n.items) c.push_name.new.names.items ≡ names ++ head.now.iterator ∷ [] = search rules in
     let is : Some (turn.part, turn.rest.now) ≡ read_given c.args.parameters c.args.loops names head.now l.rest.now =
     search rules in
-    givens_more _ _ names _ head.now _ _ l.turns.items c.push.new.parts.items turn.part l.rest.now turn.rest.now _ here
-    named c.in-Ok.ensures is l.invariant
+    givens_more _ _ names _ head.now _ _ l.turns.items c.push.new.list.items turn.part l.rest.now turn.rest.now _ here
+    named c.in-Ok.ensures.pushed is l.invariant
 
 pub returns : goal.returns
 returns c =

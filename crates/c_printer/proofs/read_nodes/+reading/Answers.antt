@@ -88,7 +88,7 @@ read_nodes-loop-at-preserved t c =
     let some : Some behind ≡ strip (indent level) l.rest.now = search rules in
     let is : Some (tree_of node.part, node.rest.now)
     ≡ read_node (read_nodes program left) program left level loops behind = search rules in
-    let pushed = ap (map tree_of) c.in-Ok.ensures ∙ map-append tree_of l.nodes.items (node.part ∷ []) in
-    nodes_more program a.steps l.at level loops (map tree_of l.nodes.items) (map tree_of c.push.new.parts.items)
+    let pushed = ap (map tree_of) c.in-Ok.ensures.pushed ∙ map-append tree_of l.nodes.items (node.part ∷ []) in
+    nodes_more program a.steps l.at level loops (map tree_of l.nodes.items) (map tree_of c.push.new.list.items)
     (tree_of node.part) l.rest.now behind node.rest.now (read_nodes program a.steps level loops a.text.now) h some
     pushed is l.invariant

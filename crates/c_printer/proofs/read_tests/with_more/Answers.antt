@@ -38,7 +38,7 @@ loop-at-preserved c =
     let h : l.at < a.steps = search rules in
     let some : Some behind ≡ strip (codes " && ") l.rest.now = search rules in
     let is : Some (test_of test.part, test.rest.now) ≡ read_test a.parameters names behind = search rules in
-    let pushed = ap (map test_of) c.in-Ok.ensures ∙ map-append test_of l.tests.items (test.part ∷ []) in
-    tests_more a.steps l.at a.parameters names (map test_of l.tests.items) (map test_of c.push.new.parts.items)
+    let pushed = ap (map test_of) c.in-Ok.ensures.pushed ∙ map-append test_of l.tests.items (test.part ∷ []) in
+    tests_more a.steps l.at a.parameters names (map test_of l.tests.items) (map test_of c.push.new.list.items)
     (test_of test.part) l.rest.now behind test.rest.now
     (with_test (read_more_tests a.steps a.parameters names) (Some (test_part a.first))) h some pushed is l.invariant

@@ -1,6 +1,5 @@
-use Rattle.dataflow.proofs.Common.{pos, [], refl, one_model}
+use Rattle.dataflow.proofs.Common.{[], refl, one_model, params_not_negative}
 use Rattle.dataflow.proofs.AccessWriters.{laws_of}
-use Rattle.dataflow.proofs.CandidateSolutions.{up_bounded}
 use Rattle.dataflow.proofs.CoverFacts.{cover_laws}
 use Rattle.dataflow.proofs.CoverPoints.{stopped_points, told_points}
 use Rattle.dataflow.proofs.cover_laws.covering_points_are_covers.Goals as goal
@@ -36,6 +35,6 @@ returns-clause-stopped c = λ program params budget way reader stop x y has run.
     (pair.0, pair.1, pair.2))
     (λ i j pair.
     let found = points.conflicts program params [] i j pair refl has.count
-    (up_bounded (pos 65536) params has.parameters) in
+    (params_not_negative params has.parameters) in
     (found.0, found.1, found.2, found.3))
     run

@@ -1,4 +1,5 @@
 use Rattle.scop_syntax.proofs.Common.{rules, ◌≡◌, ◌∙◌, ◌+◌, ◌<◌, ℕ, ap, ap₂, negsuc, pos, set, form_of, zeros}
+use Rattle.scop_syntax.proofs.Common.{most_parameter}
 use Rattle.iteration_domains.specs.Dependence.{Dependence}
 use Rattle.iteration_domains.specs.Restrictions.{row_behind}
 use Rattle.plan_check.specs.Goals.{bounded}
@@ -21,6 +22,6 @@ loop-step-preserved c =
     c.in_ok-variables.ensures ∙ ap (λ (i : ℕ). d.system.dimensions + i) c.requires in
     bound_next n d.system.dimensions m k c.loop-step.whole _ (bounded m d) less
     (c.in_ok-whole-2.ensures.dependence ∙ ap (row_behind c.loop-step.whole) (c.in_ok-row.ensures
-    ∙ ap₂ (λ (i j : ℕ). form_of (set (zeros i) (j + k) (negsuc 0)) (pos 65536)) count
+    ∙ ap₂ (λ (i j : ℕ). form_of (set (zeros i) (j + k) (negsuc 0)) (pos most_parameter)) count
     (c.dimensions-first.ensures ∙ ap (λ (z : Dependence). z.system.dimensions) c.dep.view_is)))
     c.loop-step.invariant

@@ -1,5 +1,0 @@
-use Rattle.scop_syntax.proofs.Common.{rules, sym, replicate-zeros}
-use Rattle.c_printer.proofs.forms.zeros.Goals as goal
-
-pub returns : goal.returns
-returns c = rw (sym (replicate-zeros c.args.count)) (search rules)
