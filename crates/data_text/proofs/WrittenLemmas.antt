@@ -3,7 +3,7 @@ use Rattle.scop_syntax.proofs.Common.{◌≡◌, ◌∙◌, sym, ap, subst, refl
 use Rattle.scop_syntax.proofs.Common.{Bool, false, List, [], ◌∷◌, ◌++◌, map, length, get_or, codes, decimal}
 use Rattle.scop_syntax.proofs.Common.{append_assoc, length-append, arith, ints, get_or_append_left, get_or-append-add}
 use Rattle.scop_syntax.proofs.Common.{get_or-map, get_or_default, length-map, All-nil, All-cons, All-append, All-map}
-use Rattle.scop_syntax.proofs.Common.{All, ℤ, pos, negsuc, ◌≤ℤ◌, ⊤, list_all, Declaration, Program, IsShaped}
+use Rattle.scop_syntax.proofs.Common.{All, ℤ, pos, negsuc, ⊤, list_all, Declaration, Program, IsShaped}
 use Rattle.scop_syntax.proofs.Common.{cell_count, layout, size_of, IsInRange, WithinLimits, most_parameter}
 use Rattle.std.proofs.Common.{ne_eqb}
 use Rattle.std.proofs.Math.Nat.{one-le-mul}

@@ -1,7 +1,7 @@
 -- Forms over a statement's turns alone: their lengths and sizes, and the values of forms and systems over them.
 use Rattle.scop_syntax.proofs.Common.{◌≡◌, ℕ, ◌+◌, ◌*◌, ◌^◌, ◌≤◌, ℤ, pos, negsuc, List, [], ◌∷◌, ◌++◌, length, map, ap}
 use Rattle.scop_syntax.proofs.Common.{ap₂, subst, sym, ◌∙◌, refl, arith, length-append, ◌≤ℤ◌, ◌+ℤ◌, ◌*ℤ◌, neg_ℤ, All}
-use Rattle.scop_syntax.proofs.Common.{◌↔◌, unsigned_abs, ints, map-append, length-map, All-nil, All-cons, All-head}
+use Rattle.scop_syntax.proofs.Common.{◌↔◌, ints, map-append, length-map, All-nil, All-cons, All-head}
 use Rattle.scop_syntax.proofs.Common.{All-tail, All-append, zeros, multiples, Affine, value_of, form_of}
 use Rattle.scop_syntax.proofs.Common.{multiple_of_form, sum_of_forms, dot-zeros, length-multiples, length-sums}
 use Rattle.scop_syntax.proofs.Common.{length-zeros, value_of-sum, value_of-multiple, value_of-composed, values}

@@ -1,5 +1,5 @@
 -- What a question of emptiness says of a dependence.
-use Rattle.scop_syntax.proofs.Common.{◌≡◌, ℕ, ℤ, pos, List, [], ◌∷◌, ◌++◌, refl, sym, ◌∙◌, ap, subst, arith, All, take}
+use Rattle.scop_syntax.proofs.Common.{◌≡◌, ℕ, ℤ, pos, List, ◌++◌, refl, sym, ◌∙◌, ap, subst, arith, All, take}
 use Rattle.scop_syntax.proofs.Common.{drop, append_assoc, ◌≤ℤ◌, length-take-le, length-drop, take-append-drop}
 use Rattle.scop_syntax.proofs.Common.{All-append, not_negative_all, all_front, all_back, range_high, range_low}
 use Rattle.std.proofs.lemmas.List.{length-append}

@@ -1,6 +1,6 @@
 -- What the answer of a question means, for any number of parameters.
-use Rattle.scop_syntax.proofs.Common.{◌≡◌, ℕ, zero, suc, ◌+◌, ℤ, pos, List, [], ◌∷◌, ◌++◌, length, All, arith, ◌≤ℤ◌}
-use Rattle.scop_syntax.proofs.Common.{ints, All-nil, Affine, value_of, NotNegative}
+use Rattle.scop_syntax.proofs.Common.{◌≡◌, ℕ, ◌+◌, ℤ, pos, List, [], ◌∷◌, ◌++◌, length, All, arith}
+use Rattle.scop_syntax.proofs.Common.{All-nil, Affine, value_of}
 use Rattle.scop_syntax.proofs.Common.{not_negative-append, not_negative_all, params_not_negative, range_high}
 use Rattle.affine_forms.specs.Parts.{variables_of}
 use Rattle.integer_sets.specs.Constraints.{IsSized, system_of}
