@@ -1,6 +1,6 @@
 -- Counts that hang on no value of the loops within: forms that do not name them have one value, so bounds, tests and
 -- bodies are alike there.
-use Rattle.scop_syntax.proofs.Common.{◌≡◌, ◌∙◌, ℕ, zero, suc, ◌+◌, ◌*◌, ◌<◌, ℤ, pos, Bool, true, false, List, [], ◌∷◌}
+use Rattle.scop_syntax.proofs.Common.{◌≡◌, ◌∙◌, ℕ, zero, suc, ◌+◌, ◌*◌, ◌<◌, ℤ, pos, Bool, false, List, [], ◌∷◌}
 use Rattle.scop_syntax.proofs.Common.{◌++◌, ap, ap₂, arith, drop, get_or, length, length-append, refl, subst, sym, take}
 use Rattle.scop_syntax.proofs.Common.{◌+ℤ◌, ◌-ℤ◌, ◌*ℤ◌, if◌then◌else◌, le_z, ints, length-map, Affine, value_of}
 use Rattle.scop_syntax.proofs.Common.{ceiling, floor, dot, dot-split, mul_zero_left, Instance, most_turns}

@@ -1,5 +1,8 @@
 pub mod Extremes
 pub mod Lists
+pub mod Filters
+pub mod Shuffles
+pub mod Interleavings
 pub mod Visits
 pub mod Marks
 pub mod Fits

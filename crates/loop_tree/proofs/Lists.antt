@@ -43,17 +43,18 @@ pub turns_reach : (z : ℤ) (x first last : ℤ) → z ≡ last -ℤ first → f
 turns_reach (pos n) x first last e a b = omega (arith, ints)
 turns_reach (negsuc n) x first last e a b = absurd (omega (arith, ints))
 
+pub turns_within : (z : ℤ) (x first last : ℤ) → z ≡ last -ℤ first → first ≤ℤ x → x ≤ℤ last
+    → x <ℤ (first +ℤ pos (most_turns z))
+turns_within (pos n) x first last e a b = omega (arith, ints)
+turns_within (negsuc n) x first last e a b = absurd (omega (arith, ints))
+
 reached : (z : ℤ) (x first last : ℤ) → z ≡ last -ℤ first → first ≤ℤ x → x ≤ℤ last
     → (d : ℕ) × (d < most_turns z) × (x ≡ first +ℤ pos d)
 reached z x first last e a b = at (x -ℤ first) refl
   where
     at : (y : ℤ) → y ≡ x -ℤ first → (d : ℕ) × (d < most_turns z) × (x ≡ first +ℤ pos d)
     at (negsuc d) f = absurd (omega (arith, ints))
-    at (pos d) f = (d, few z e, omega (arith, ints))
-      where
-        few : (w : ℤ) → w ≡ last -ℤ first → d < most_turns w
-        few (pos n) g = omega (arith, ints)
-        few (negsuc n) g = absurd (omega (arith, ints))
+    at (pos d) f = let w = turns_within z x first last e a b in (d, omega (arith, ints), omega (arith, ints))
 
 -- what stands in a loop's run stands at one of its values
 pub in_between_from : {A : Type 0} (body : ℤ → List A) (v : A) (first last : ℤ) → In v (between body first last)

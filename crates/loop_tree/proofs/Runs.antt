@@ -1,5 +1,5 @@
 -- What a visitor sees of a loop's values at once: so many instances, or whatever is shown.
-use Rattle.scop_syntax.proofs.Common.{◌≡◌, ◌∙◌, ℕ, zero, suc, ℤ, pos, negsuc, List, [], ◌∷◌, ◌++◌, ap, sym, refl, arith}
+use Rattle.scop_syntax.proofs.Common.{◌≡◌, ◌∙◌, ℕ, zero, suc, ℤ, pos, negsuc, List, [], ◌∷◌, ◌++◌, ap, sym, arith}
 use Rattle.scop_syntax.proofs.Common.{length, map, ◌+ℤ◌, ◌-ℤ◌, ◌≤ℤ◌, ints, map-append, Instance}
 use Rattle.std.proofs.lemmas.List.{append_assoc}
 use Rattle.loop_tree.specs.Tree.{Trees}

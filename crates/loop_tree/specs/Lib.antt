@@ -14,6 +14,8 @@ pub mod Tiling
 pub mod TilingView
 pub mod Plans
 pub mod Runs
+pub mod Interleavings
+pub mod TwoIterations
 pub mod Stretches
 pub mod Braids
 pub mod Bookmarks

@@ -16,6 +16,7 @@ mod outer;
 mod passing;
 mod ranges;
 mod resting;
+mod run_laws;
 mod source;
 mod source_laws;
 mod spot;
@@ -29,6 +30,7 @@ mod walking;
 
 pub use bookmark::Step;
 pub use braid::Braid;
+pub use run_laws::{loops_interleave_their_iterations, two_iterations_in_both_orders};
 pub use source_laws::source_trees_visit_the_walk;
 pub use spot::{Mark, Spot};
 pub use stretch::Stretch;

@@ -1,17 +1,8 @@
--- Two statements: S0 at 0 <= x <= p, S1 at 2 <= x <= p + 1; once as a hull with guards, once in pieces. A loop of two
--- iterations, parallel or not.
-use Rattle.std.specs.Prelude.{Bool, true, if◌then◌else◌, ℤ, pos, negsuc, List, [], ◌∷◌}
+-- Two statements: S0 at 0 <= x <= p, S1 at 2 <= x <= p + 1; once as a hull with guards, once in pieces.
+use Rattle.std.specs.Prelude.{true, ℤ, pos, negsuc, List, [], ◌∷◌}
 use Rattle.whole_numbers.specs.Affine.{form_of}
-use Rattle.loop_tree.specs.Tree.{Bound, only, besides, at_least, Tree, loop, guard, instance, Trees, none, more}
-use Rattle.loop_tree.specs.Walk.{Visit}
-
--- a bound: variables are the loop's value, if there is one, and the parameter
-abbrev over : List ℤ → ℤ → ℤ → Bound
-over cs c d = record { form = form_of cs c; divisor = d }
-
--- the first statement
-abbrev one : Tree
-one = instance 0 (form_of (pos 1 ∷ []) (pos 0) ∷ [])
+use Rattle.loop_tree.specs.Tree.{only, besides, at_least, Tree, loop, guard, instance, Trees, none, more}
+use Rattle.loop_tree.specs.TwoIterations.{one, over}
 
 -- the second
 abbrev two : Tree
@@ -39,12 +30,3 @@ abbrev pub keys_of_three : List (List ℤ)
 keys_of_three =
     (pos 0 ∷ pos 0 ∷ []) ∷ (pos 1 ∷ pos 0 ∷ []) ∷ (pos 2 ∷ pos 0 ∷ []) ∷ (pos 2 ∷ pos 1 ∷ [])
     ∷ (pos 3 ∷ pos 0 ∷ []) ∷ (pos 3 ∷ pos 1 ∷ []) ∷ (pos 4 ∷ pos 1 ∷ []) ∷ []
-
--- the first statement at 0 and 1
-abbrev pub twice : Bool → Trees
-twice flag = more (loop flag (only (over [] (pos 0) (pos 1))) (only (over [] (pos 1) (pos 1))) (more one none)) none
-
--- its visit at x
-abbrev pub visit_at : Bool → ℤ → Visit
-visit_at flag x =
-    record { values = x ∷ []; parallel = if flag then x ∷ [] else []; number = 0; turns = x ∷ [] }

@@ -1,4 +1,4 @@
-use Rattle.scop_syntax.proofs.Common.{rules, ◌≡◌, ◌∙◌, ℤ, ◌+◌, ◌*◌, ◌<◌, List, [], ◌∷◌, ◌++◌, drop, length, map, Bool}
+use Rattle.scop_syntax.proofs.Common.{rules, ◌≡◌, ◌∙◌, ℤ, ◌+◌, ◌*◌, ◌<◌, List, [], ◌∷◌, ◌++◌, drop, length, map}
 use Rattle.scop_syntax.proofs.Common.{true, false, ap, ap₂, arith, drop_of_length-le, refl, subst, sym, to_z, of_z}
 use Rattle.scop_syntax.proofs.Common.{◌≤ℤ◌, ◌<ℤ◌, ◌-ℤ◌, FitsSigned, w128, ints, to_z-of_z, IfSome_then, most_turns}
 use Rattle.loop_tree.specs.steps.Chain.{values_in}

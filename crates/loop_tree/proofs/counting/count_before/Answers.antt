@@ -1,5 +1,5 @@
-use Rattle.scop_syntax.proofs.Common.{◌≡◌, ◌∙◌, ℤ, pos, List, [], ◌∷◌, ◌++◌, arith, refl, subst, sym, to_z, of_z, ◌-ℤ◌}
-use Rattle.scop_syntax.proofs.Common.{◌≤ℤ◌, w128, ints, to_z-of_z, IfSome_then}
+use Rattle.scop_syntax.proofs.Common.{◌≡◌, ◌∙◌, ℤ, pos, List, [], ◌∷◌, arith, refl, subst, sym, to_z, of_z, ◌-ℤ◌}
+use Rattle.scop_syntax.proofs.Common.{w128, ints, to_z-of_z, IfSome_then}
 use Rattle.loop_tree.specs.steps.Chain.{values_in}
 use Rattle.loop_tree.specs.Conditions.{CanWalk}
 use Rattle.loop_tree.specs.View.{nodes_of}

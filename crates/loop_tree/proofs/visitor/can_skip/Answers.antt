@@ -1,4 +1,4 @@
-use Rattle.scop_syntax.proofs.Common.{◌++◌, [], List, append-nil, refl, subst, Instance}
+use Rattle.scop_syntax.proofs.Common.{[], List, append-nil, refl, subst, Instance}
 use Rattle.loop_tree.proofs.visitor.can_skip.Goals as goal
 
 pub returns-then-skip : goal.returns-then-skip

@@ -1,9 +1,9 @@
 use Rattle.scop_syntax.proofs.Common.{◌≡◌, ◌∙◌, ap, ap₂, refl, inl, inr, ℤ, pos, Bool, true, false, [], ◌∷◌, ◌++◌, List}
 use Rattle.scop_syntax.proofs.Common.{map}
-use Rattle.loop_tree.specs.steps.Examples.{twice, visit_at}
+use Rattle.loop_tree.specs.TwoIterations.{twice, visit_at}
 use Rattle.loop_tree.specs.Runs.{MayRunAll}
 use Rattle.loop_tree.specs.Walk.{Visit, through}
-use Rattle.loop_tree.proofs.examples.two_iterations_in_both_orders.Goals as goal
+use Rattle.loop_tree.proofs.run_laws.two_iterations_in_both_orders.Goals as goal
 
 -- the run of the body at x
 abbrev body : ℤ → List Visit
