@@ -1,48 +1,13 @@
--- Shuffles, and runs of a loop: their elements are those of the walk, and they are sorted as it is where no iterations
--- mind their order.
-use Rattle.scop_syntax.proofs.Common.{◌≡◌, ℕ, zero, suc, Bool, true, false, ℤ, pos, List, [], ◌∷◌, ◌++◌, ◌⊎◌, inl, inr}
+-- Runs of a loop: their elements are those of the walk, and they are sorted as it is where no iterations mind their
+-- order.
+use Rattle.scop_syntax.proofs.Common.{◌≡◌, ℕ, zero, suc, Bool, true, false, ℤ, pos, List, [], ◌∷◌, ◌++◌, inl, inr}
 use Rattle.scop_syntax.proofs.Common.{subst, sym, refl, arith, ◌↔◌, ◌+ℤ◌, ◌≤ℤ◌, ◌<ℤ◌, ints, In, Sorted, in_append}
 use Rattle.scop_syntax.proofs.Common.{in_front, in_back, sorted_append}
 use Rattle.scop_syntax.proofs.SortedLists.{sorted_front, sorted_back, sorted_across}
 use Rattle.loop_tree.specs.Runs.{IsShuffle, Joins, RunsAlong}
 use Rattle.loop_tree.specs.Walk.{along}
 use Rattle.loop_tree.proofs.Lists.{in_along_from}
-
--- the elements of a shuffle are those of its two lists
-shuffle_from : {A : Type 0} (xs ys zs : List A) → IsShuffle xs ys zs → (v : A) → In v zs → In v xs ⊎ In v ys
-shuffle_from xs ys [] h v i = absurd i
-shuffle_from xs ys (z ∷ zs) (inl (rest, e, h)) v (inl f) = inl (subst (In v) (sym e) (inl f))
-shuffle_from xs ys (z ∷ zs) (inl (rest, e, h)) v (inr i) = elim (shuffle_from rest ys zs h v i) [
-  | inl j ↦ inl (subst (In v) (sym e) (inr j))
-  | inr j ↦ inr j
-]
-shuffle_from xs ys (z ∷ zs) (inr (rest, e, h)) v (inl f) = inr (subst (In v) (sym e) (inl f))
-shuffle_from xs ys (z ∷ zs) (inr (rest, e, h)) v (inr i) = elim (shuffle_from xs rest zs h v i) [
-  | inl j ↦ inl j
-  | inr j ↦ inr (subst (In v) (sym e) (inr j))
-]
-
-shuffle_left : {A : Type 0} (xs ys zs : List A) → IsShuffle xs ys zs → (v : A) → In v xs → In v zs
-shuffle_left xs ys [] h v i = subst (In v) h.0 i
-shuffle_left xs ys (z ∷ zs) (inl (rest, e, h)) v i = elim (subst (In v) e i) [
-  | inl f ↦ inl f
-  | inr j ↦ inr (shuffle_left rest ys zs h v j)
-]
-shuffle_left xs ys (z ∷ zs) (inr (rest, e, h)) v i = inr (shuffle_left xs rest zs h v i)
-
-shuffle_right : {A : Type 0} (xs ys zs : List A) → IsShuffle xs ys zs → (v : A) → In v ys → In v zs
-shuffle_right xs ys [] h v i = subst (In v) h.1 i
-shuffle_right xs ys (z ∷ zs) (inl (rest, e, h)) v i = inr (shuffle_right rest ys zs h v i)
-shuffle_right xs ys (z ∷ zs) (inr (rest, e, h)) v i = elim (subst (In v) e i) [
-  | inl f ↦ inl f
-  | inr j ↦ inr (shuffle_right xs rest zs h v j)
-]
-
--- one after the other is a shuffle
-pub append_is_shuffle : {A : Type 0} (xs ys : List A) → IsShuffle xs ys (xs ++ ys)
-append_is_shuffle [] [] = (refl, refl)
-append_is_shuffle [] (y ∷ ys) = inr (ys, refl, append_is_shuffle [] ys)
-append_is_shuffle (x ∷ xs) ys = inl (xs, refl, append_is_shuffle xs ys)
+use Rattle.loop_tree.proofs.Shuffles.{append_is_shuffle, joins_members, shuffle_from}
 
 -- a shuffle of sorted lists is sorted where elements of the two stand in the relation both ways
 shuffle_sorted : {A : Type 0} (R : A → A → Type 0) (xs ys zs : List A) → IsShuffle xs ys zs → Sorted R xs → Sorted R ys
@@ -65,22 +30,7 @@ shuffle_sorted R xs ys (z ∷ zs) (inr (rest, e, h)) a b across =
       shuffle_sorted R xs rest zs h a s.1 (λ v w i j. across v w i (subst (In w) (sym e) (inr j))),
     )
 
--- the elements of what an iteration and all later ones make are those of the two
-joins_members : {A : Type 0} (flag : Bool) (xs ys zs : List A) → Joins flag xs ys zs → (v : A)
-    → In v zs ↔ In v (xs ++ ys)
-joins_members true xs ys zs h v = (
-  λ i. elim (shuffle_from xs ys zs h v i) [
-    | inl j ↦ in_front v xs ys j
-    | inr j ↦ in_back v xs ys j
-  ],
-  λ i. elim (in_append v xs ys i) [
-    | inl j ↦ shuffle_left xs ys zs h v j
-    | inr j ↦ shuffle_right xs ys zs h v j
-  ],
-)
-joins_members false xs ys zs h v = (λ i. subst (In v) h i, λ i. subst (In v) (sym h) i)
-
--- and sorted where they are
+-- what an iteration and all later ones make is sorted where they are
 joins_sorted : {A : Type 0} (R : A → A → Type 0) (flag : Bool) (xs ys zs : List A) → Joins flag xs ys zs → Sorted R xs
     → Sorted R ys → ((v w : A) → In v xs → In w ys → R v w)
     → (flag ≡ true → (v w : A) → In v xs → In w ys → R w v) → Sorted R zs
