@@ -1,5 +1,6 @@
 -- The tiling that the code's stands for.
 use Rattle.std.specs.Prelude.{map}
+use Rattle.std.specs.Int.NonZero.{non_zero_u64_get}
 use Rattle.loop_tree.specs.Tiling.{Tiling, Items, Item, row, scalar, kept, tiled}
 use Rattle.loop_tree.specs.declared.tiling.TileItem.TheVariants as code_item
 use Rattle.loop_tree.specs.declared.tiling.TileItems.{TileItems}
@@ -17,4 +18,4 @@ items_of s = record { leading = s.leading.items; band = s.band.items; behind = m
 -- a tiling
 abbrev pub tiling_of : code.the_data → Tiling
 tiling_of code.Kept = kept
-tiling_of (code.Tiled size statements) = tiled size (map items_of statements.items)
+tiling_of (code.Tiled size statements) = tiled (non_zero_u64_get size) (map items_of statements.items)

@@ -3,6 +3,7 @@
 //! specs/Tiling.antt, which says what tile, wave and order of an instance are (U. Bondhugula and others, PLDI 2008).
 use scop_syntax::Aff;
 use std::marker::Model;
+use std::num::NonZeroU64;
 
 /// A row of the first band: its form over the turns of the loops round its statement, outermost first, and whether it
 /// carries a dependence.
@@ -39,5 +40,5 @@ pub struct TileItems {
 #[derive(Drop)]
 pub enum Tiling {
     Kept,
-    Tiled(u64, Vec<TileItems>),
+    Tiled(NonZeroU64, Vec<TileItems>),
 }

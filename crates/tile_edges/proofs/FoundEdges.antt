@@ -245,7 +245,6 @@ can_pass program params ts tiling list table limits inside told order fits is = 
   limits = limits;
   inside = inside;
   told = told;
-  size = fits.size;
   fits = λ x i. fits.rows x (in_scan program params tiling (visits ts params) order x i);
   firsts = λ t tile at. fits.rows _ (first_visited ts params tiling list is t tile at);
   rise = tiles_rise ts params tiling list is;

@@ -9,7 +9,7 @@ ghost use Rattle.loop_tree.specs.Tiling.{coordinates, wave_sum};
 ghost use Rattle.loop_tree.specs.TilingView.{tiling_of};
 ghost use Rattle.loop_tree.specs.Conditions.{IsHeld};
 ghost use Rattle.loop_tree.specs.Stretches.{left_of};
-ghost use Rattle.tile_list.specs.Tiles.{HasSize, RowsFit};
+ghost use Rattle.tile_list.specs.Tiles.{RowsFit};
 ghost use Rattle.tile_list.specs.steps.Stretching.{AllRowsFit};
 ghost use Rattle.tile_edges.specs.Edges.{IsTileOf};
 ghost use Rattle.tile_edges.specs.steps.Ahead.{LieIn};
@@ -160,8 +160,7 @@ impl Place {
 
     /// Becomes that of an instance.
     fn set(&mut self, tiling: &Tiling, instance: &Instance) -> Result<(), AllocError>
-        requires size { HasSize (tiling_of tiling.now) }
-        requires fits { RowsFit (tiling_of tiling.now) (instance_of instance.now) }
+        requires { RowsFit (tiling_of tiling.now) (instance_of instance.now) }
         ensures { OnOk result (IsPlaceOf (tiling_of tiling.now) (instance_of instance.now) self.new) }
     {
         match tiling {
@@ -170,7 +169,7 @@ impl Place {
                 Ok(())
             }
             Tiling::Tiled(size, statements) => self.put(
-                *size,
+                size.get(),
                 leading_at(statements, instance.statement),
                 band_at(statements, instance.statement),
                 instance.turns(),
@@ -180,8 +179,7 @@ impl Place {
 
     /// The place of an instance.
     fn of(alloc: Global, tiling: &Tiling, instance: &Instance) -> Result<Place, AllocError>
-        requires size { HasSize (tiling_of tiling.now) }
-        requires fits { RowsFit (tiling_of tiling.now) (instance_of instance.now) }
+        requires { RowsFit (tiling_of tiling.now) (instance_of instance.now) }
         ensures { IfOk result (IsPlaceOf (tiling_of tiling.now) (instance_of instance.now)) }
     {
         let mut place = Place::empty(alloc);
@@ -236,8 +234,7 @@ fn search(places: &[Place], place: &Place) -> usize
 
 /// The places of tiles.
 fn places_of(alloc: Global, tiling: &Tiling, tiles: &[Tile]) -> Result<Vec<Place>, AllocError>
-    requires size { HasSize (tiling_of tiling.now) }
-    requires fits { FirstsFit (tiling_of tiling.now) tiles.now }
+    requires { FirstsFit (tiling_of tiling.now) tiles.now }
     ensures { IfOk result (λ places. ArePlacesOf (tiling_of tiling.now) tiles.now places.items) }
 {
     let mut places = Vec::new(alloc);
@@ -251,8 +248,7 @@ fn places_of(alloc: Global, tiling: &Tiling, tiles: &[Tile]) -> Result<Vec<Place
 impl Finder {
     /// No instance was found yet.
     pub fn of(alloc: Global, tiling: &Tiling, list: &TileList) -> Result<Finder, AllocError>
-        requires size { HasSize (tiling_of tiling.now) }
-        requires fits { FirstsFit (tiling_of tiling.now) list.now.tiles.items }
+        requires { FirstsFit (tiling_of tiling.now) list.now.tiles.items }
         ensures { IfOk result (IsFinder (tiling_of tiling.now) list.now) }
     {
         let places = places_of(alloc, tiling, list.tiles.as_slice())?;
@@ -270,7 +266,6 @@ impl Finder {
         list: &TileList,
         instance: &Instance,
     ) -> Result<usize, AllocError>
-        requires size { HasSize (tiling_of tiling.now) }
         requires fits { RowsFit (tiling_of tiling.now) (instance_of instance.now) }
         requires rise { TilesRise (tiling_of tiling.now) list.now.tiles.items }
         requires finder { IsFinder (tiling_of tiling.now) list.now self.old }
@@ -296,7 +291,6 @@ impl Finder {
         list: &TileList,
         stretch: &Stretch,
     ) -> Result<u64, AllocError>
-        requires size { HasSize (tiling_of tiling.now) }
         requires held { All IsHeld (left_of stretch.now) }
         requires fits { AllRowsFit (tiling_of tiling.now) stretch.now }
         requires finder { IsFinder (tiling_of tiling.now) list.now self.old }

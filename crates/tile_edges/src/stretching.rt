@@ -2,8 +2,6 @@
 ghost use Rattle.std.specs.Prelude.{◌≡◌, ◌≤◌, All};
 ghost use Rattle.loop_tree.specs.Conditions.{IsHeld};
 ghost use Rattle.loop_tree.specs.Stretches.{left_of};
-ghost use Rattle.loop_tree.specs.TilingView.{tiling_of};
-ghost use Rattle.tile_list.specs.Tiles.{HasSize};
 ghost use Rattle.tile_edges.specs.steps.Ahead.{left_on};
 
 use loop_tree::{Stretch, TileRow, Tiling};
@@ -53,14 +51,13 @@ fn all_within(rows: &[TileRow], size: u64, turns: &[i64], steps: &[i64], most: u
 /// How many of the instances that are left of a stretch lie in the tile of the one in front, if no number is too large:
 /// who wants to be sure looks at the last of them.
 pub(crate) fn likely_ahead(tiling: &Tiling, stretch: &Stretch) -> u64
-    requires { HasSize (tiling_of tiling.now) }
     ensures { result ≤ stretch.now.left }
 {
     match tiling {
         Tiling::Kept => stretch.left,
         Tiling::Tiled(size, statements) => all_within(
             band_at(statements, stretch.before.statement),
-            *size,
+            size.get(),
             stretch.before.turns(),
             &stretch.steps[..stretch.before.loops],
             stretch.left,

@@ -8,7 +8,7 @@ ghost use Rattle.loop_tree.specs.TilingView.{tiling_of};
 ghost use Rattle.loop_tree.specs.View.{trees_in};
 ghost use Rattle.tile_table.specs.Desks.{HasRoom, HasRoomForAll, IsLaid};
 ghost use Rattle.tile_table.specs.declared.table.Row.{Row as GivenRow};
-ghost use Rattle.tile_list.specs.Tiles.{HasSize, RowsFit};
+ghost use Rattle.tile_list.specs.Tiles.{RowsFit};
 ghost use Rattle.tile_edges.specs.Edges.{IsTileOf};
 ghost use Rattle.tile_edges.specs.steps.Ahead.{IsPassing, LieIn, to_come_on};
 ghost use Rattle.tile_edges.specs.steps.Finding.{FirstsFit, HasTileOf, IsFinder, TilesRise};
@@ -124,8 +124,7 @@ impl Pass {
         tiling: &Tiling,
         list: &TileList,
     ) -> Result<Pass, AllocError>
-        requires size { HasSize (tiling_of tiling.now) }
-        requires fits { FirstsFit (tiling_of tiling.now) list.now.tiles.items }
+        requires { FirstsFit (tiling_of tiling.now) list.now.tiles.items }
         ensures finder { IfOk result (λ pass. IsFinder (tiling_of tiling.now) list.now pass.finder) }
         ensures room { IfOk result (λ pass. HasRoomForAll table.now pass.desk) }
         ensures even { IfOk result (λ pass. AreEven pass.traces) }
@@ -158,7 +157,6 @@ impl Pass {
         instance: &Instance,
     ) -> Result<(), AllocError>
         requires row { instance.now.statement < length table.now.rows.items }
-        requires size { HasSize (tiling_of tiling.now) }
         requires fits { RowsFit (tiling_of tiling.now) (instance_of instance.now) }
         requires rise { TilesRise (tiling_of tiling.now) list.now.tiles.items }
         requires finder { IsFinder (tiling_of tiling.now) list.now self.old.finder }

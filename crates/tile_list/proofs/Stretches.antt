@@ -14,7 +14,9 @@ use Rattle.whole_numbers.proofs.Order.{mul_opposite}
 use Rattle.loop_tree.specs.Conditions.{IsHeld}
 use Rattle.loop_tree.specs.Stretches.{following, left_of}
 use Rattle.loop_tree.specs.Tiling.{TileRow, Tiling, kept, tiled, coordinates, items_at, wave_sum}
+use Rattle.loop_tree.specs.TilingView.{tiling_of}
 use Rattle.loop_tree.specs.declared.stretch.Stretch.{Stretch}
+use Rattle.loop_tree.specs.declared.tiling.Tiling.TheVariants as code
 use Rattle.tile_list.specs.Tiles.{HasSize, InOneTile}
 use Rattle.tile_list.specs.steps.Keys.{IsKeyOf}
 use Rattle.tile_list.specs.Stretches.{instance_at, steps_on}
@@ -196,6 +198,11 @@ sum_by_coordinates d (r ∷ rows) turns others e =
     let head = same_head a b (coordinates d rows turns) (coordinates d rows others) e in
     let tail = same_tail a b (coordinates d rows turns) (coordinates d rows others) e in
     ap₂ (λ (z w : ℤ). (if r.carries then z else pos 0) +ℤ w) head (sum_by_coordinates d rows turns others tail)
+
+-- tiles of the code have a size
+pub sized : (tiling : code.the_data) → HasSize (tiling_of tiling)
+sized code.Kept = tt
+sized (code.Tiled size statements) = size.ok
 
 -- a tile that has both ends has all between
 pub tile_along : (tiling : Tiling) (n : ℕ) (turns steps : List ℤ) (i k : ℕ) → HasSize tiling → i ≤ k

@@ -10,7 +10,7 @@ ghost use Rattle.loop_tree.specs.Stretches.{left_of};
 ghost use Rattle.loop_tree.specs.TilingView.{tiling_of};
 ghost use Rattle.loop_tree.specs.View.{trees_in};
 ghost use Rattle.loop_tree.specs.Walk.{visits};
-ghost use Rattle.tile_list.specs.Tiles.{CanTile, HasSize, RiseByTile, RowsFit};
+ghost use Rattle.tile_list.specs.Tiles.{CanTile, RiseByTile, RowsFit};
 ghost use Rattle.tile_list.specs.TilesView.{IsTileListOf};
 ghost use Rattle.tile_list.specs.steps.Cutting.{Begins, HasBegun, HasGrown, IsCutTo, IsListed};
 ghost use Rattle.tile_list.specs.steps.Cutting.{IsNewTile, IsWaveOf, Takes};
@@ -138,8 +138,7 @@ fn tile_at(
 /// Whether an instance was found, and a key is that of it.
 #[inline]
 fn is_last_of(key: &Key, tiling: &Tiling, last: Option<Instance>) -> bool
-    requires size { HasSize (tiling_of tiling.now) }
-    requires fits { IfSome last (λ i. RowsFit (tiling_of tiling.now) (instance_of i)) }
+    requires { IfSome last (λ i. RowsFit (tiling_of tiling.now) (instance_of i)) }
 {
     match last {
         None => false,
@@ -176,7 +175,6 @@ impl Scout {
         requires walk { CanWalk (trees_in tree.now) params.now [] }
         requires spot { IsSpotOf (trees_in tree.now) params.now spot.now }
         requires spent { left_of spot.now.stretch ++ left_of_braid spot.now.braid ≡ [] }
-        requires size { HasSize (tiling_of tiling.now) }
         requires fits { AllFit (tiling_of tiling.now) (to_come (trees_in tree.now) params.now spot.now) }
         requires room { length self.old.spot.marks.items ≡ deep_all (trees_in tree.now) }
         ensures left { IfSome result (λ p. HasLeft (to_come (trees_in tree.now) params.now spot.now) p.count
@@ -253,8 +251,7 @@ impl Cut {
         front: &Front,
         spot: &Spot,
     ) -> Result<Cut, AllocError>
-        requires size { HasSize (tiling_of tiling.now) }
-        requires fits { RowsFit (tiling_of tiling.now) (instance_of first) }
+        requires { RowsFit (tiling_of tiling.now) (instance_of first) }
         ensures { IfOk result (Begins (tiling_of tiling.now) (instance_of first) front.now spot.now) }
     {
         let mut key = Key::empty(alloc);
@@ -315,8 +312,7 @@ impl Cut {
         front: &Front,
         spot: &Spot,
     ) -> Result<(), AllocError>
-        requires size { HasSize (tiling_of tiling.now) }
-        requires fits { RowsFit (tiling_of tiling.now) (instance_of instance) }
+        requires { RowsFit (tiling_of tiling.now) (instance_of instance) }
         ensures { OnOk result (Takes (tiling_of tiling.now) (instance_of instance) front.now spot.now self.old
             self.new) }
     {
@@ -334,7 +330,6 @@ impl Cut {
         taken: &Instance,
         spot: &mut Spot,
     ) -> Result<(), AllocError>
-        requires size { HasSize (tiling_of tiling.now) }
         requires key { IsKeyOf (tiling_of tiling.now) (instance_of taken.now) self.old.key }
         requires held { All IsHeld (left_of spot.old.stretch) }
         requires fits { AllRowsFit (tiling_of tiling.now) spot.old.stretch }
@@ -353,7 +348,6 @@ impl Cut {
 
     /// Takes what is left of the braid, where it lies in the current tile.
     fn take_braid(&mut self, tiling: &Tiling, spot: &mut Spot) -> Result<(), AllocError>
-        requires size { HasSize (tiling_of tiling.now) }
         requires stretch { spot.old.stretch.left ≡ 0 }
         requires braid { IsBraid spot.old.braid }
         requires fits { AllFit (tiling_of tiling.now) (left_of_braid spot.old.braid) }
@@ -382,7 +376,6 @@ impl Cut {
         asked: bool,
         spot: &mut Spot,
     ) -> Result<(), AllocError>
-        requires size { HasSize (tiling_of tiling.now) }
         requires key { IsKeyOf (tiling_of tiling.now) (instance_of taken.now) self.old.key }
         requires held { All IsHeld (left_of spot.old.stretch) }
         requires braid { IsBraid spot.old.braid }

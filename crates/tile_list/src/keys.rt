@@ -11,7 +11,7 @@ ghost use Rattle.loop_tree.specs.Conditions.{IsHeld};
 ghost use Rattle.loop_tree.specs.Stretches.{left_of};
 ghost use Rattle.loop_tree.specs.Tiling.{coordinates, items_at};
 ghost use Rattle.loop_tree.specs.TilingView.{items_of, tiling_of};
-ghost use Rattle.tile_list.specs.Tiles.{HasSize, RowsFit};
+ghost use Rattle.tile_list.specs.Tiles.{RowsFit};
 ghost use Rattle.tile_list.specs.steps.Keys.{HaveOneWave, IsKeyAt, IsKeyOf, carried};
 ghost use Rattle.tile_list.specs.Stretches.{instance_at, steps_on};
 ghost use Rattle.tile_list.specs.steps.Stretching.{AllHaveKey, AllRowsFit};
@@ -231,14 +231,13 @@ impl Key {
     /// # Errors
     /// `AllocError` alone.
     pub fn set(&mut self, tiling: &Tiling, instance: &Instance) -> Result<(), AllocError>
-        requires size { HasSize (tiling_of tiling.now) }
-        requires fits { RowsFit (tiling_of tiling.now) (instance_of instance.now) }
+        requires { RowsFit (tiling_of tiling.now) (instance_of instance.now) }
         ensures { OnOk result (IsKeyOf (tiling_of tiling.now) (instance_of instance.now) self.new) }
     {
         match tiling {
             Tiling::Kept => Ok(()),
             Tiling::Tiled(size, statements) => self.set_at(
-                *size,
+                size.get(),
                 leading_at(statements, instance.statement),
                 band_at(statements, instance.statement),
                 instance.turns(),
@@ -280,15 +279,14 @@ impl Key {
     /// Whether it is that of an instance. It takes no memory and no division.
     #[inline]
     pub fn is_of(&self, tiling: &Tiling, instance: &Instance) -> bool
-        requires size { HasSize (tiling_of tiling.now) }
-        requires fits { RowsFit (tiling_of tiling.now) (instance_of instance.now) }
+        requires { RowsFit (tiling_of tiling.now) (instance_of instance.now) }
         ensures same { result ≡ true → IsKeyOf (tiling_of tiling.now) (instance_of instance.now) self.now }
         ensures other { result ≡ false → IsKeyOf (tiling_of tiling.now) (instance_of instance.now) self.now → ⊥ }
     {
         match tiling {
             Tiling::Kept => true,
             Tiling::Tiled(size, statements) => self.is_at(
-                *size,
+                size.get(),
                 leading_at(statements, instance.statement),
                 band_at(statements, instance.statement),
                 instance.turns(),
@@ -299,7 +297,6 @@ impl Key {
     /// Whether it is that of the instance so many steps on a stretch.
     #[inline]
     fn is_on(&self, tiling: &Tiling, stretch: &Stretch, count: u64) -> bool
-        requires size { HasSize (tiling_of tiling.now) }
         requires some { 1 ≤ count }
         requires left { count ≤ stretch.now.left }
         requires held { All IsHeld (left_of stretch.now) }
@@ -312,7 +309,6 @@ impl Key {
     /// Whether it is that of all that is left of a stretch, where it is that of the instance in front: it is where it is
     /// that of the last, since along a stretch each coordinate of the tile rises, or each falls.
     pub fn is_of_stretch(&self, tiling: &Tiling, stretch: &Stretch) -> bool
-        requires size { HasSize (tiling_of tiling.now) }
         requires held { All IsHeld (left_of stretch.now) }
         requires fits { AllRowsFit (tiling_of tiling.now) stretch.now }
         ensures { result ≡ true → IsKeyOf (tiling_of tiling.now) (instance_of stretch.now.before) self.now
@@ -326,7 +322,6 @@ impl Key {
 
     /// Whether it is that of all that is left of a strand: it is where it is that of the first and of the last.
     fn is_of_strand(&self, tiling: &Tiling, strand: &Stretch) -> bool
-        requires size { HasSize (tiling_of tiling.now) }
         requires held { All IsHeld (left_of strand.now) }
         requires fits { AllRowsFit (tiling_of tiling.now) strand.now }
         ensures { result ≡ true → AllHaveKey (tiling_of tiling.now) self.now strand.now }
@@ -342,7 +337,6 @@ impl Key {
 
     /// Whether it is that of all that is left of strands.
     pub fn is_of_strands(&self, tiling: &Tiling, strands: &[Stretch]) -> bool
-        requires size { HasSize (tiling_of tiling.now) }
         requires held { All (λ s. All IsHeld (left_of s)) strands.now }
         requires fits { All (AllRowsFit (tiling_of tiling.now)) strands.now }
         ensures { result ≡ true → All (AllHaveKey (tiling_of tiling.now) self.now) strands.now }

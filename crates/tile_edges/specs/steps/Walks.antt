@@ -15,7 +15,7 @@ use Rattle.scop_syntax.specs.Limits.{WithinLimits}
 use Rattle.scop_syntax.specs.Members.{In}
 use Rattle.tile_table.specs.Tables.{IsTableOf}
 use Rattle.tile_table.specs.declared.table.Table.{Table}
-use Rattle.tile_list.specs.Tiles.{HasSize, RowsFit}
+use Rattle.tile_list.specs.Tiles.{RowsFit}
 use Rattle.tile_edges.specs.Edges.{Holds, IsTileOf}
 use Rattle.tile_edges.specs.steps.Finding.{FirstsFit, HasTileOf, TilesRise}
 use Rattle.tile_edges.specs.steps.Gains.{AreRising, Gains}
@@ -88,7 +88,6 @@ pub record CanPass (program : Program) (params : List ℤ) (tiling : Tiling) (li
   pub limits : WithinLimits program params
   pub inside : IsInside program params
   pub told : IsTableOf program params table
-  pub size : HasSize tiling
   pub fits : (x : Instance) → In x (map instance (walk_of program params)) → RowsFit tiling x
   pub firsts : FirstsFit tiling list.tiles.items
   pub rise : TilesRise tiling list.tiles.items

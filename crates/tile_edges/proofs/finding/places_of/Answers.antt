@@ -3,9 +3,9 @@ use Rattle.loop_tree.specs.TilingView.{tiling_of}
 use Rattle.tile_edges.proofs.FindingTiles.{got_at, places_more}
 use Rattle.tile_edges.proofs.finding.places_of.Goals as goal
 
-pub of-requires-clause-fits : goal.of-requires-clause-fits
-of-requires-clause-fits c =
-    c.requires.fits c.loop-tile.tile-index c.tile-item.result
+pub of-requires : goal.of-requires
+of-requires c =
+    c.requires c.loop-tile.tile-index c.tile-item.result
     (got_at c.args.tiles.now c.loop-tile.tile-index c.tile-item.result (omega arith) c.tile-item.is)
 
 pub loop-tile-preserved : goal.loop-tile-preserved

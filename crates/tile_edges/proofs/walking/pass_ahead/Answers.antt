@@ -11,9 +11,6 @@ use Rattle.tile_edges.specs.steps.Walks.{IsOnItsWay}
 use Rattle.tile_edges.proofs.Ahead.{fewer_on, fit_ahead, left_held}
 use Rattle.tile_edges.proofs.walking.pass_ahead.Goals as goal
 
-pub ahead-requires-clause-size : goal.ahead-requires-clause-size
-ahead-requires-clause-size c = c.requires.can.size
-
 pub ahead-requires-clause-fits : goal.ahead-requires-clause-fits
 ahead-requires-clause-fits c =
     fit_ahead c.args.flow (program_of c.args.kernel.now) c.args.params.now (trees_in c.args.source.now)

@@ -20,8 +20,8 @@ pub leave_loops-requires-clause-cut : goal.leave_loops-requires-clause-cut
 leave_loops-requires-clause-cut c =
     c.in_ok-take_rest.ensures.cut (trees_in c.args.tree.now) c.args.params.now c.requires.cut
 
-pub take-requires-clause-fits : goal.take-requires-clause-fits
-take-requires-clause-fits c =
+pub take-requires : goal.take-requires
+take-requires c =
     let ts = trees_in c.args.tree.now in
     let params = c.args.params.now in
     let x = instance_of c.in-Some.instance in

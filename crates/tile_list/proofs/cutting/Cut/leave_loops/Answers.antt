@@ -18,8 +18,8 @@ leave-requires-clause-fits c = λ x h.
     (rest_visited ts params (tiling_of c.args.tiling.now) (to_come ts params c.args.spot.now) c.args.self.now
     c.requires.cut x h)
 
-pub is_of-requires-clause-fits : goal.is_of-requires-clause-fits
-is_of-requires-clause-fits c =
+pub is_of-requires : goal.is_of-requires
+is_of-requires c =
     let ts = trees_in c.args.tree.now in
     let params = c.args.params.now in
     let z = instance_of c.in-Some.passed.last in

@@ -10,8 +10,8 @@ use Rattle.loop_tree.proofs.SameSpots.{rest_alike, spot_alike}
 use Rattle.tile_list.proofs.LeftLoops.{marks_alike}
 use Rattle.tile_list.proofs.cutting.Scout.leave.Goals as goal
 
-pub is_last_of-requires-clause-fits : goal.is_last_of-requires-clause-fits
-is_last_of-requires-clause-fits c =
+pub is_last_of-requires : goal.is_last_of-requires
+is_last_of-requires c =
     IfSome_then c.last_within.result c.last_within.ensures (λ i h. c.requires.fits (instance_of i) h)
 
 pub set-requires : goal.set-requires

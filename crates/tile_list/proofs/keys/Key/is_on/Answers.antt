@@ -9,8 +9,8 @@ use Rattle.tile_list.proofs.keys.Key.is_on.Goals as goal
 pub after-requires : goal.after-requires
 after-requires c = held_at c.args.stretch.now c.args.count c.requires.some c.requires.left c.requires.held
 
-pub is_of-requires-clause-fits : goal.is_of-requires-clause-fits
-is_of-requires-clause-fits c =
+pub is_of-requires : goal.is_of-requires
+is_of-requires c =
     let s = c.args.stretch.now in
     let n = c.args.count in
     subst (RowsFit (tiling_of c.args.tiling.now)) (sym c.after.ensures.instance)
