@@ -7,15 +7,15 @@ ghost use Rattle.schedule_rows.specs.Posed.{IsPosed, HasNone};
 ghost use Rattle.schedule_rows.specs.Schedule.{loops_in};
 ghost use Rattle.pluto_systems.specs.Placing.{columns_of, row_from};
 ghost use Rattle.pip_solver.specs.Minimum.{IsTaken};
-ghost use Rattle.pluto_systems.specs.Posing.{AreCoefficientRows, AreVectorsOf, HasPosed, vectors_for};
+ghost use Rattle.pluto_systems.specs.Posing.{AreCoefficientRows, AreVectorsOf, HasPosed, HasPosedBehind, vectors_for};
 
 use integer_sets::System;
 use iteration_domains::Model;
 use pluto_systems::{Rows, posed};
 use std::alloc::{AllocError, Global};
 
-/// The posed set of a row without dependences has no equality, by `exact` of `posed`; its points are the posed rows,
-/// by `points`.
+/// The posed set of a row without dependences has no equality, by `exact` of `posed`; its points are the rows that
+/// continue those of each statement, by `points`, and the posed rows, by `before`.
 pub fn posed_without_dependences(
     alloc: Global,
     model: &Model,
@@ -23,7 +23,9 @@ pub fn posed_without_dependences(
 ) -> Result<System, AllocError>
     requires { AreCoefficientRows (loops_in model.now) (map (λ vs. map (λ v. v.items) vs.items) rows.now) }
     ensures exact { IfOk result (λ s. s.equalities ≡ []) }
-    ensures points { IfOk result (λ s. (before : List Row) → AreVectorsOf (loops_in model.now) before
+    ensures points { IfOk result (λ s. HasPosedBehind model.now.parameters (loops_in model.now) []
+        (map (λ vs. map (λ v. v.items) vs.items) rows.now) s) }
+    ensures before { IfOk result (λ s. (before : List Row) → AreVectorsOf (loops_in model.now) before
         (vectors_for (loops_in model.now) (map (λ vs. map (λ v. v.items) vs.items) rows.now))
         → HasPosed model.now.parameters (loops_in model.now) [] before s) }
 {

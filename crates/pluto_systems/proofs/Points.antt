@@ -13,7 +13,7 @@ use Rattle.integer_sets.specs.Points.{Satisfies}
 use Rattle.iteration_domains.specs.Dependence.{Dependence}
 use Rattle.farkas.specs.Meaning.{rows_of}
 use Rattle.farkas.specs.declared.claim.Claim.TheVariants.{Legality, Bounding}
-use Rattle.null_space.specs.Narrowing.{Grows, sum_of_products}
+use Rattle.null_space.specs.Narrowing.{kernel_vectors, sum_of_products}
 use Rattle.null_space.specs.Sizes.{AreLong}
 use Rattle.farkas.specs.Unknowns.{Part, AreOf, part_numbers}
 use Rattle.farkas.specs.Unknowns as unknowns
@@ -21,13 +21,15 @@ use Rattle.iteration_domains.specs.Dependence.{binds_in}
 use Rattle.farkas.specs.Claims.{distance}
 use Rattle.schedule_rows.specs.Items.{Row, part_of, numbers_of}
 use Rattle.schedule_rows.specs.Dependences.{unknowns_of}
-use Rattle.schedule_rows.specs.Posed.{IsLegal, IsBounded, loops_of, coefficients_in, vectors_of}
+use Rattle.schedule_rows.specs.Posed.{IsLegal, IsBounded, loops_of, coefficients_in}
 use Rattle.pluto_systems.specs.Placing.{is_end, placed, gathered_parts, gathered, AreShaped, IsShaped}
 use Rattle.pluto_systems.specs.Posing.{RuledDep, IsRuled, dep_of, equalities_for, rows_for, own_form, own_row, added}
 use Rattle.pluto_systems.specs.Posing.{growth_rows, growth_from, posed_system, IsBetween, AreVectorsOf, HasPosed}
+use Rattle.pluto_systems.specs.Posing.{Continues, GrowsRank, HasPosedBehind, vectors_for}
 use Rattle.pluto_systems.proofs.PlacedForms.{length-part, placed_value, apart_front, gathered_end, gathered_other}
 use Rattle.pluto_systems.proofs.GatheredUnknowns.{nth, both_one, gathered_unknowns}
 use Rattle.pluto_systems.proofs.LowerLaws.{RowLaws, VectorsAreLong}
+use Rattle.pluto_systems.proofs.SmallVectors.{for_at, for_length}
 
 -- shapes
 pub shaped_length : (ls : List ℕ) (ps : List Part) → AreShaped ls ps → length ps ≡ length ls
@@ -325,7 +327,7 @@ vectors_from m loops s (v ∷ vs) r h l long all =
 
 growth_to : (m : ℕ) (loops : List ℕ) (s : ℕ) (vs : List (List ℤ)) (r : Row) → IsShaped m loops r → s < length loops
     → AreLong (length (part_of r s).coefficients) vs → AreLeast (numbers_of r) (growth_rows m loops s vs)
-    → (vs ≡ []) ⊎ Grows (part_of r s).coefficients vs
+    → GrowsRank (part_of r s).coefficients vs
 growth_to m loops s [] r h l long all = inl refl
 growth_to m loops s (v ∷ vs) r h l long all =
     let P : List ℤ → Type 0 = λ u. length u ≡ length (part_of r s).coefficients in
@@ -340,7 +342,7 @@ growth_to m loops s (v ∷ vs) r h l long all =
     inr (vectors_to m loops s (v ∷ vs) r h l long (all_front Q front (last ∷ []) all), omega (arith, ints))
 
 growth_back : (m : ℕ) (loops : List ℕ) (s : ℕ) (vs : List (List ℤ)) (r : Row) → IsShaped m loops r → s < length loops
-    → AreLong (length (part_of r s).coefficients) vs → (vs ≡ []) ⊎ Grows (part_of r s).coefficients vs
+    → AreLong (length (part_of r s).coefficients) vs → GrowsRank (part_of r s).coefficients vs
     → AreLeast (numbers_of r) (growth_rows m loops s vs)
 growth_back m loops s [] r h l long g = All-nil (λ q. Least (value_of q (numbers_of r)))
 growth_back m loops s (v ∷ vs) r h l long (inl e) = absurd cc
@@ -359,7 +361,7 @@ growth_back m loops s (v ∷ vs) r h l long (inr g) =
 
 abbrev AllGrow : ℕ → List (List (List ℤ)) → Row → Type 0
 AllGrow s vectors r = (k : ℕ) → k < length vectors
-    → (slice_index_or vectors k [] ≡ []) ⊎ Grows (part_of r (s + k)).coefficients (slice_index_or vectors k [])
+    → GrowsRank (part_of r (s + k)).coefficients (slice_index_or vectors k [])
 
 abbrev AllLong : ℕ → List (List (List ℤ)) → Row → Type 0
 AllLong s vectors r = (k : ℕ) → k < length vectors → AreLong (length (part_of r (s + k)).coefficients)
@@ -373,7 +375,7 @@ from_to m loops s (vs ∷ more) r h l long all zero lk =
     let e : s + 0 ≡ s = omega arith in
     let Q : Affine → Type 0 = λ q. Least (value_of q (numbers_of r)) in
     let first = subst (λ (z : ℕ). AreLong (length (part_of r z).coefficients) vs) e (long zero lk) in
-    subst (λ (z : ℕ). (vs ≡ []) ⊎ Grows (part_of r z).coefficients vs) (sym e)
+    subst (λ (z : ℕ). GrowsRank (part_of r z).coefficients vs) (sym e)
     (growth_to m loops s vs r h (omega (arith, l)) first (all_front Q (growth_rows m loops s vs)
     (growth_from m loops (suc s) more) all))
 from_to m loops s (vs ∷ more) r h l long all (suc k) lk =
@@ -383,7 +385,7 @@ from_to m loops s (vs ∷ more) r h l long all (suc k) lk =
     let f : s + suc j ≡ suc s + j = omega arith in
     subst (λ (z : ℕ). AreLong (length (part_of r z).coefficients) (slice_index_or more j [])) f (long (suc j) (omega
     (arith, lj))) in
-    subst (λ (z : ℕ). (slice_index_or more k [] ≡ []) ⊎ Grows (part_of r z).coefficients (slice_index_or more k [])) e
+    subst (λ (z : ℕ). GrowsRank (part_of r z).coefficients (slice_index_or more k [])) e
     (from_to m loops (suc s) more r h (omega (arith, l)) next (all_back Q (growth_rows m loops s vs)
     (growth_from m loops (suc s) more) all) k (omega (arith, lk)))
 
@@ -396,83 +398,94 @@ from_back m loops s (vs ∷ more) r h l long all =
     let Q : Affine → Type 0 = λ q. Least (value_of q (numbers_of r)) in
     let pos_k : zero < length (vs ∷ more) = omega arith in
     let first = subst (λ (z : ℕ). AreLong (length (part_of r z).coefficients) vs) e (long zero pos_k) in
-    let own = subst (λ (z : ℕ). (vs ≡ []) ⊎ Grows (part_of r z).coefficients vs) e (all zero pos_k) in
+    let own = subst (λ (z : ℕ). GrowsRank (part_of r z).coefficients vs) e (all zero pos_k) in
     let next : AllLong (suc s) more r = λ j lj.
     let f : s + suc j ≡ suc s + j = omega arith in
     subst (λ (z : ℕ). AreLong (length (part_of r z).coefficients) (slice_index_or more j [])) f (long (suc j) (omega
     (arith, lj))) in
     let rest : AllGrow (suc s) more r = λ j lj.
     let f : s + suc j ≡ suc s + j = omega arith in
-    subst (λ (z : ℕ). (slice_index_or more j [] ≡ []) ⊎ Grows (part_of r z).coefficients
-    (slice_index_or more j [])) f (all (suc j) (omega (arith, lj))) in
+    subst (λ (z : ℕ). GrowsRank (part_of r z).coefficients (slice_index_or more j [])) f (all (suc j) (omega
+    (arith, lj))) in
     All-append Q (growth_rows m loops s vs) (growth_from m loops (suc s) more)
     (growth_back m loops s vs r h (omega (arith, l)) first own) (from_back m loops (suc s) more r h (omega
     (arith, l)) next rest)
 
-all_long : VectorsAreLong → (m : ℕ) (loops : List ℕ) (before : List Row) (vectors : List (List (List ℤ))) (r : Row)
-    → IsShaped m loops r → AreVectorsOf loops before vectors → AllLong 0 vectors r
-all_long lengths m loops before vectors r h v k lk =
-    let e : 0 + k ≡ k = omega arith in
-    let z = v.size in
-    let n = loops_of loops k in
-    let s = shaped_at loops r.parts k h.parts in
-    subst (λ (i : ℕ). AreLong (length (part_of r i).coefficients) (slice_index_or vectors k [])) (sym e)
-    (subst (λ (i : ℕ). AreLong i (slice_index_or vectors k [])) (sym s)
-    (subst (λ (vs : List (List ℤ)). AreLong n vs) (sym (v.each k (omega arith))) (lengths n
-    (coefficients_in before k))))
+-- rows of each statement, and their kernel vectors
+module _ (loops : List ℕ) (rows : ℕ → List (List ℤ)) (vectors : List (List (List ℤ)))
+    (size : length vectors ≡ length loops)
+    (each : (s : ℕ) → s < length loops → slice_index_or vectors s [] ≡ kernel_vectors (loops_of loops s) (rows s)) where
+  all_long : VectorsAreLong → (r : Row) → AreShaped loops r.parts → AllLong 0 vectors r
+  all_long lengths r h k lk =
+      let e : 0 + k ≡ k = omega arith in
+      let n = loops_of loops k in
+      subst (λ (i : ℕ). AreLong (length (part_of r i).coefficients) (slice_index_or vectors k [])) (sym e)
+      (subst (λ (i : ℕ). AreLong i (slice_index_or vectors k [])) (sym (shaped_at loops r.parts k h))
+      (subst (AreLong n) (sym (each k (omega (arith, size, lk)))) (lengths n (rows k))))
 
-grow_to : (m : ℕ) (loops : List ℕ) (before : List Row) (vectors : List (List (List ℤ))) (r : Row)
-    → AreVectorsOf loops before vectors → AllGrow 0 vectors r
-    → (s : ℕ) → s < length loops → (vectors_of loops before s
-    ≡ []) ⊎ Grows (part_of r s).coefficients (vectors_of loops before s)
-grow_to m loops before vectors r v all s l =
-    let z = v.size in
-    let e : 0 + s ≡ s = omega arith in
-    subst (λ (vs : List (List ℤ)). (vs ≡ []) ⊎ Grows (part_of r s).coefficients vs) (v.each s l)
-    (subst (λ (i : ℕ). (slice_index_or vectors s [] ≡ []) ⊎ Grows (part_of r i).coefficients
-    (slice_index_or vectors s [])) e (all s (omega arith)))
+  grow_to : (r : Row) → AllGrow 0 vectors r → (s : ℕ) → s < length loops
+      → GrowsRank (part_of r s).coefficients (kernel_vectors (loops_of loops s) (rows s))
+  grow_to r all s l =
+      let e : 0 + s ≡ s = omega arith in
+      subst (GrowsRank (part_of r s).coefficients) (each s l)
+      (subst (λ (i : ℕ). GrowsRank (part_of r i).coefficients (slice_index_or vectors s [])) e
+      (all s (omega (arith, size, l))))
 
-grow_from : (m : ℕ) (loops : List ℕ) (before : List Row) (vectors : List (List (List ℤ))) (r : Row)
-    → AreVectorsOf loops before vectors
-    → ((s : ℕ) → s < length loops → (vectors_of loops before s
-    ≡ []) ⊎ Grows (part_of r s).coefficients (vectors_of loops before s))
-    → AllGrow 0 vectors r
-grow_from m loops before vectors r v all s l =
-    let z = v.size in
-    let e : 0 + s ≡ s = omega arith in
-    let ls : s < length loops = omega arith in
-    subst (λ (i : ℕ). (slice_index_or vectors s [] ≡ []) ⊎ Grows (part_of r i).coefficients
-    (slice_index_or vectors s [])) (sym e)
-    (subst (λ (vs : List (List ℤ)). (vs ≡ []) ⊎ Grows (part_of r s).coefficients vs) (sym (v.each s ls)) (all s ls))
+  grow_from : (r : Row) → ((s : ℕ) → s < length loops
+      → GrowsRank (part_of r s).coefficients (kernel_vectors (loops_of loops s) (rows s))) → AllGrow 0 vectors r
+  grow_from r all s l =
+      let e : 0 + s ≡ s = omega arith in
+      let ls : s < length loops = omega (arith, size, l) in
+      subst (λ (i : ℕ). GrowsRank (part_of r i).coefficients (slice_index_or vectors s [])) (sym e)
+      (subst (GrowsRank (part_of r s).coefficients) (sym (each s ls)) (all s ls))
 
--- the whole
+  -- the whole
+  continues : RowLaws → VectorsAreLong → (m : ℕ) (ruled : List RuledDep) → AreRuled m loops ruled → (r : Row)
+      → IsShaped m loops r → AreNotNegative (numbers_of r)
+      → Satisfies (posed_system m loops ruled vectors) (numbers_of r) ↔ Continues m loops (map dep_of ruled) rows r
+  continues laws lengths m ruled h r shaped nn =
+      let Q : Affine → Type 0 = λ q. Least (value_of q (numbers_of r)) in
+      let own = flat_map (rows_for m loops) ruled in
+      let more = growth_from m loops 0 vectors in
+      let long = all_long lengths r shaped.parts in
+      let few : 0 + length vectors ≤ length loops = omega (arith, size) in (
+        λ s.
+            record {
+              keeps = deps_to laws m loops ruled r h shaped nn s.0 (all_front Q own more s.1);
+              grows = grow_to r (from_to m loops 0 vectors r shaped few long (all_back Q own more s.1));
+            },
+        λ p.
+            let d = deps_from laws m loops ruled r h shaped nn p.keeps in (
+              d.0,
+              All-append Q own more d.1 (from_back m loops 0 vectors r shaped few long (grow_from r p.grows)),
+            ),
+      )
+
+-- behind rows of all statements
 pub has_posed : RowLaws → VectorsAreLong → (m : ℕ) (loops : List ℕ) (ruled : List RuledDep) (before : List Row)
     (vectors : List (List (List ℤ)))
     → AreRuled m loops ruled → AreVectorsOf loops before vectors
     → HasPosed m loops (map dep_of ruled) before (posed_system m loops ruled vectors)
 has_posed laws lengths m loops ruled before vectors h v r shaped nn =
-    let xs = numbers_of r in
-    let size = v.size in
-    let long = all_long lengths m loops before vectors r shaped v in
-    let Q : Affine → Type 0 = λ q. Least (value_of q xs) in
-    let own = flat_map (rows_for m loops) ruled in
-    let more = growth_from m loops 0 vectors in (
+    let own = continues loops (coefficients_in before) vectors v.size v.each laws lengths m ruled h r shaped nn in (
       λ s.
-          let d = deps_to laws m loops ruled r h shaped nn s.0 (all_front Q own more s.1) in
+          let d = own.0 s in
           record {
             bounds = shaped.bounds;
             statements = shaped_length loops r.parts shaped.parts;
             sized = λ k. shaped_at loops r.parts k shaped.parts;
             not_negative = nn;
-            legal = λ e i. (d e i).0;
-            bounded = λ e i. (d e i).1;
-            grows = grow_to m loops before vectors r v (from_to m loops 0 vectors r shaped (omega arith) long
-                (all_back Q own more s.1));
+            legal = λ e i. (d.keeps e i).0;
+            bounded = λ e i. (d.keeps e i).1;
+            grows = d.grows;
           },
-      λ p.
-          let d = deps_from laws m loops ruled r h shaped nn (λ e i. (p.legal e i, p.bounded e i)) in (
-            d.0,
-            All-append Q own more d.1 (from_back m loops 0 vectors r shaped (omega arith) long
-                (grow_from m loops before vectors r v p.grows)),
-          ),
+      λ p. own.1 (record { keeps = λ e i. (p.legal e i, p.bounded e i); grows = p.grows }),
     )
+
+-- behind rows of each
+pub has_behind : RowLaws → VectorsAreLong → (m : ℕ) (loops : List ℕ) (ruled : List RuledDep)
+    (rows : List (List (List ℤ))) → AreRuled m loops ruled → length rows ≡ length loops
+    → HasPosedBehind m loops (map dep_of ruled) rows (posed_system m loops ruled (vectors_for loops rows))
+has_behind laws lengths m loops ruled rows h e =
+    continues loops (λ k. slice_index_or rows k []) (vectors_for loops rows) (for_length loops rows e)
+    (λ k l. for_at loops rows k e l) laws lengths m ruled h

@@ -8,14 +8,14 @@ use Rattle.pluto_systems.specs.Posing.{AreCoefficientRows, AreSmallVectors, vect
 use Rattle.pluto_systems.proofs.LowerLaws.{SizeLaws}
 
 -- as many lists as statements
-for_length : (loops : List ℕ) (rows : List (List (List ℤ))) → length rows ≡ length loops
+pub for_length : (loops : List ℕ) (rows : List (List (List ℤ))) → length rows ≡ length loops
     → length (vectors_for loops rows) ≡ length loops
 for_length [] rows e = refl
 for_length (l ∷ loops) [] e = absurd (omega (arith, e))
 for_length (l ∷ loops) (cs ∷ rows) e = ap suc (for_length loops rows (omega (arith, e)))
 
 -- those of statement s
-for_at : (loops : List ℕ) (rows : List (List (List ℤ))) (s : ℕ) → length rows ≡ length loops → s < length loops
+pub for_at : (loops : List ℕ) (rows : List (List (List ℤ))) (s : ℕ) → length rows ≡ length loops → s < length loops
     → slice_index_or (vectors_for loops rows) s [] ≡ kernel_vectors (slice_index_or loops s 0)
     (slice_index_or rows s [])
 for_at [] rows s e h = absurd (omega (arith, h))

@@ -1,10 +1,10 @@
 -- The posed set of a schedule's next row as a system over the columns of the objective.
-use Rattle.std.specs.Prelude.{◌≡◌, ℕ, suc, ◌+◌, ◌<◌, ◌≤◌, ◌^◌, ℤ, pos, negsuc, List, [], ◌∷◌, ◌++◌, All, ◌↔◌}
+use Rattle.std.specs.Prelude.{◌≡◌, ℕ, suc, ◌+◌, ◌<◌, ◌≤◌, ◌^◌, ℤ, pos, negsuc, List, [], ◌∷◌, ◌++◌, All, ◌⊎◌, ◌↔◌}
 use Rattle.std.specs.Prelude.{map, reverse, length, slice_index_or, Result, Ok}
 use Rattle.std.specs.List.{flat_map}
 use Rattle.whole_numbers.specs.Affine.{Affine, form_of}
 use Rattle.whole_numbers.specs.Lists.{zeros, sums}
-use Rattle.null_space.specs.Narrowing.{kernel_vectors}
+use Rattle.null_space.specs.Narrowing.{kernel_vectors, Grows}
 use Rattle.null_space.specs.Sizes.{AreWithin, AreCoefficients, AreLong}
 use Rattle.fractions.specs.Farkas.{AreNotNegative}
 use Rattle.integer_sets.specs.Constraints.{Constraints, system_of, IsSized, variables_in}
@@ -13,8 +13,9 @@ use Rattle.iteration_domains.specs.Dependence.{Dependence}
 use Rattle.farkas.specs.Meaning.{IsFarkas}
 use Rattle.farkas.specs.Run.{Halt, ◌>>◌, rows_run}
 use Rattle.farkas.specs.declared.claim.Claim.TheVariants.{Legality, Bounding}
-use Rattle.schedule_rows.specs.Items.{Row, numbers_of}
-use Rattle.schedule_rows.specs.Posed.{IsPosed, vectors_of}
+use Rattle.scop_syntax.specs.Members.{In}
+use Rattle.schedule_rows.specs.Items.{Row, numbers_of, part_of}
+use Rattle.schedule_rows.specs.Posed.{IsBounded, IsLegal, IsPosed, loops_of, vectors_of}
 use Rattle.pluto_systems.specs.Placing.{placed, columns_of, IsShaped}
 
 -- a dependence with its rows by Farkas's lemma
@@ -116,6 +117,24 @@ abbrev pub HasPosed : ℕ → List ℕ → List Dependence → List Row → Cons
 HasPosed m loops deps before s =
     (r : Row) → IsShaped m loops r → AreNotNegative (numbers_of r)
     → Satisfies s (numbers_of r) ↔ IsPosed m loops deps before r
+
+-- c grows the rank of the rows that have these kernel vectors, if any is left
+abbrev pub GrowsRank : List ℤ → List (List ℤ) → Type 0
+GrowsRank c vs = (vs ≡ []) ⊎ Grows c vs
+
+-- where statement s has the rows `rows s`, the row keeps and bounds the dependences, and grows the rank of each
+-- statement's rows
+pub record Continues (m : ℕ) (loops : List ℕ) (deps : List Dependence) (rows : ℕ → List (List ℤ))
+    (r : Row) : Type 0 where
+  pub keeps : (d : Dependence) → In d deps → IsLegal m r d × IsBounded r d
+  pub grows : (s : ℕ) → s < length loops
+      → GrowsRank (part_of r s).coefficients (kernel_vectors (loops_of loops s) (rows s))
+
+-- a system's points that are not negative are the rows that continue these, a list for each statement
+abbrev pub HasPosedBehind : ℕ → List ℕ → List Dependence → List (List (List ℤ)) → Constraints → Type 0
+HasPosedBehind m loops deps rows s =
+    (r : Row) → IsShaped m loops r → AreNotNegative (numbers_of r)
+    → Satisfies s (numbers_of r) ↔ Continues m loops deps (λ k. slice_index_or rows k []) r
 
 -- both claims of a dependence, legality first
 abbrev pub ruled_run : ℕ → Dependence → Result RuledDep Halt

@@ -9,19 +9,24 @@ ghost use Rattle.schedule_rows.specs.Items.{Row, numbers_of};
 ghost use Rattle.schedule_rows.specs.Posed.{IsLeast, HasNone};
 ghost use Rattle.farkas.specs.Minimum.{IsTaken};
 ghost use Rattle.pluto_systems.specs.Placing.{columns_of, row_from, IsShaped};
-ghost use Rattle.pluto_systems.specs.Posing.{RuledDep, IsRuled, IsBetween, AreVectorsOf, HasPosed};
+ghost use Rattle.pluto_systems.specs.Posing.{RuledDep, IsRuled, IsBetween, AreVectorsOf, HasPosed, HasPosedBehind};
 ghost use Rattle.pluto_systems.specs.Posing.{posed_system};
 ghost use Rattle.pluto_systems.specs.Posing.{dep_of, AreSmallVectors, AreCoefficientRows, vectors_for};
 
 use farkas::rows_speak_of_the_layout;
 use null_space::{kernel_vectors_are_kept, kernel_vectors_are_narrow, rows_take_kernel_vectors};
 
-/// A posed system's points that are not negative are exactly the posed rows, by their numbers in the objective's order.
+/// A posed system's points that are not negative are exactly the posed rows, by their numbers in the objective's order:
+/// behind rows of all statements, and behind rows of each.
 pub fn posed_systems_hold_the_posed_rows()
-    ensures { (m : ℕ) (loops : List ℕ) (ruled : List RuledDep) (before : List Row) (vectors : List (List (List ℤ)))
+    ensures before { (m : ℕ) (loops : List ℕ) (ruled : List RuledDep) (before : List Row) (vectors : List (List (List ℤ)))
         → ((x : RuledDep) → In x ruled → IsRuled x × IsBetween m loops x.dep)
         → AreVectorsOf loops before vectors
         → HasPosed m loops (map dep_of ruled) before (posed_system m loops ruled vectors) }
+    ensures behind { (m : ℕ) (loops : List ℕ) (ruled : List RuledDep) (rows : List (List (List ℤ)))
+        → ((x : RuledDep) → In x ruled → IsRuled x × IsBetween m loops x.dep)
+        → length rows ≡ length loops
+        → HasPosedBehind m loops (map dep_of ruled) rows (posed_system m loops ruled (vectors_for loops rows)) }
 {
     kernel_vectors_are_kept();
     rows_speak_of_the_layout();

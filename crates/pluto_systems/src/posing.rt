@@ -8,7 +8,7 @@ ghost use Rattle.scop_syntax.specs.Members.{In};
 ghost use Rattle.schedule_rows.specs.Items.{Row};
 ghost use Rattle.pluto_systems.specs.Placing.{columns_of};
 ghost use Rattle.pluto_systems.specs.Posing.{RuledDep, IsRuled, IsFarkasOf, IsBetween, dep_of, ruled_dep, ruled_deps};
-ghost use Rattle.pluto_systems.specs.Posing.{equalities_for, rows_for, growth_from, posed_system, HasPosed, HaveSizes};
+ghost use Rattle.pluto_systems.specs.Posing.{equalities_for, rows_for, growth_from, posed_system, HasPosed, HasPosedBehind, HaveSizes};
 ghost use Rattle.pluto_systems.specs.Posing.{AreVectorsOf, AreSmallVectors, AreCoefficientRows, vectors_for};
 ghost use Rattle.schedule_rows.specs.Schedule.{loops_in};
 
@@ -185,7 +185,7 @@ pub fn posed_over(
 /// of the dependences, in order, and `rows` the coefficients of the rows before, up to 2^14 in size, a list for each
 /// statement. Over u for each parameter, w, and for each statement its coefficients from the innermost loop and its
 /// shift, it is the system whose points that are not negative are exactly the rows that keep and bound all dependences
-/// and grow the rank of the rows before.
+/// and grow the rank of each statement's rows.
 ///
 /// # Errors
 /// `AllocError` alone.
@@ -205,7 +205,9 @@ pub fn posed(
     ensures exact { IfOk result (λ s. s ≡ posed_system model.now.parameters (loops_in model.now)
         (ruled_deps deps.now legal.now bounded.now)
         (vectors_for (loops_in model.now) (map (λ vs. map (λ v. v.items) vs.items) rows.now))) }
-    ensures points { IfOk result (λ s. (before : List Row)
+    ensures points { IfOk result (λ s. HasPosedBehind model.now.parameters (loops_in model.now) deps.now
+        (map (λ vs. map (λ v. v.items) vs.items) rows.now) s) }
+    ensures before { IfOk result (λ s. (before : List Row)
         → AreVectorsOf (loops_in model.now) before
         (vectors_for (loops_in model.now) (map (λ vs. map (λ v. v.items) vs.items) rows.now))
         → HasPosed model.now.parameters (loops_in model.now) deps.now before s) }

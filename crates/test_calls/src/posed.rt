@@ -1,5 +1,5 @@
 //! The posed set of a schedule's next row at points that are worked out by hand: behind no row, where the row keeps and
-//! bounds a dependence, and behind a row, where it only grows the rank.
+//! bounds a dependence, and behind one row of one of two statements, where it only grows the rank.
 
 ghost use Rattle.std.specs.Prelude.{◌≡◌, ◌∷◌, [], true, IfOk, map};
 ghost use Rattle.schedule_rows.specs.Schedule.{loops_in};
@@ -19,9 +19,10 @@ use std::test::Fail;
 const PREFIX: &str = "void pre(int64_t N, uint64_t A[N]) {
     for (int64_t i = 1; i < N; i++) A[i] += A[i-1]; }";
 
-/// A loop in a loop.
-const SQUARE: &str = "void k(int64_t N, uint64_t A[N][N]) {
-    for (int64_t i = 0; i < N; i++) for (int64_t j = 0; j < N; j++) A[i][j] = 1; }";
+/// A loop in a loop, and a loop.
+const PAIR: &str = "void k(int64_t N, uint64_t A[N][N], uint64_t B[N]) {
+    for (int64_t i = 0; i < N; i++) for (int64_t j = 0; j < N; j++) A[i][j] = 1;
+    for (int64_t k = 0; k < N; k++) B[k] = 2; }";
 
 /// u, w, the coefficient and the shift, and whether that is a row that keeps the dependence of a turn on the one before,
 /// has it go by at most `u * N + w` where N is at least 3, and is not 0.
@@ -35,20 +36,21 @@ const FIRST_ROWS: &[([i128; 4], bool)] = &[
     ([0, 1, 0, 0], false),
 ];
 
-/// u, w, the inner and the outer coefficient and the shift, and whether that row grows the rank of one that is the outer
-/// loop alone.
-const SECOND_ROWS: &[([i128; 5], bool)] = &[
-    ([0, 0, 1, 0, 0], true),
-    ([0, 0, 2, 5, 9], true),
-    ([0, 0, 0, 1, 0], false),
+/// u, w, the inner and the outer coefficient and the shift of the first statement, the coefficient and the shift of the
+/// second, and whether that row grows the rank of both: the first has the outer loop as its row, the second has none.
+const SECOND_ROWS: &[([i128; 7], bool)] = &[
+    ([0, 0, 1, 0, 0, 1, 0], true),
+    ([0, 0, 2, 5, 9, 3, 4], true),
+    ([0, 0, 0, 1, 0, 1, 0], false),
+    ([0, 0, 1, 0, 0, 0, 1], false),
 ];
 
-/// Whether so many loops stand round the one statement of a model.
-fn has_loops(alloc: Global, model: &Model, loops: usize) -> Result<bool, AllocError>
-    ensures { IfOk result (λ is. is ≡ true → loops_in model.now ≡ loops ∷ []) }
+/// Whether so many loops stand round the statements of a model.
+fn has_loops(alloc: Global, model: &Model, loops: &[usize]) -> Result<bool, AllocError>
+    ensures { IfOk result (λ is. is ≡ true → loops_in model.now ≡ loops.now) }
 {
     let found = loops_in(alloc, model)?;
-    Ok(found.as_slice() == [loops].as_slice())
+    Ok(found.as_slice() == loops)
 }
 
 /// Whether a dependence is one of a single statement with one loop.
@@ -101,7 +103,7 @@ fn first_posed(alloc: Global, model: &Model, dep: &Dep) -> Result<Option<System>
     if !is_own(dep, model.parameters()) {
         return Ok(None);
     }
-    if !has_loops(alloc, model, 1)? {
+    if !has_loops(alloc, model, &[1])? {
         return Ok(None);
     }
     let rows = vec![in alloc; Rows::new(alloc)]?;
@@ -109,14 +111,14 @@ fn first_posed(alloc: Global, model: &Model, dep: &Dep) -> Result<Option<System>
     Ok(Some(system))
 }
 
-/// The posed set of the second row; none where the model has not one statement in two loops.
+/// The posed set of the second row; none where the model has not a statement in two loops and one in a loop.
 fn second_posed(alloc: Global, model: &Model) -> Result<Option<System>, AllocError> {
-    if !has_loops(alloc, model, 2)? {
+    if !has_loops(alloc, model, &[2, 1])? {
         return Ok(None);
     }
     let row = vec![in alloc; 1, 0]?;
     let before = vec![in alloc; row]?;
-    let rows = vec![in alloc; before]?;
+    let rows = vec![in alloc; before, Rows::new(alloc)]?;
     let system = posed(alloc, model, &[], &rows, &[], &[])?;
     Ok(Some(system))
 }
@@ -159,7 +161,7 @@ fn has_second_rows(alloc: Global, model: &Model) -> Result<bool, AllocError> {
 fn posed_sets_hold_these_rows(rt: HostRuntime) -> Result<(), Fail> {
     let prefix = model_of(rt.alloc(), PREFIX)?;
     assert!(rt; has_first_rows(rt.alloc(), &prefix)?);
-    let square = model_of(rt.alloc(), SQUARE)?;
-    assert!(rt; has_second_rows(rt.alloc(), &square)?);
+    let pair = model_of(rt.alloc(), PAIR)?;
+    assert!(rt; has_second_rows(rt.alloc(), &pair)?);
     Ok(())
 }

@@ -46,5 +46,5 @@ returns-clause-points c =
     subst (λ (t : Constraints). HasPosed m loops (map dep_of ruled) before t)
     (sym (posed_is m loops ruled vs (columns_of m loops) es rs s (parts
     (goal.at.returns-clause-points c).In_ok-equalities) e))
-    (c.posed_systems_hold_the_posed_rows.ensures m loops ruled before vs c.requires.between v))
+    (c.posed_systems_hold_the_posed_rows.ensures.before m loops ruled before vs c.requires.between v))
     c.with_growth.ensures
