@@ -1,7 +1,7 @@
 -- All constraints of a scan set speak of all its variables.
 use Rattle.scop_syntax.proofs.Common.{◌≡◌, ℕ, suc, ◌+◌, ◌≤◌, ℤ, pos, List, [], ◌∷◌, ◌++◌, sym, ◌∙◌, arith, length, map}
 use Rattle.scop_syntax.proofs.Common.{subst, ap, All, neg_ℤ, All-nil, All-cons, All-head, All-tail, All-append, All-map}
-use Rattle.scop_syntax.proofs.Common.{Affine, multiples, length-sums, length-multiples}
+use Rattle.scop_syntax.proofs.Common.{refl, Affine, multiples, length-sums, length-multiples}
 use Rattle.affine_forms.specs.Parts.{variables_of}
 use Rattle.iteration_domains.specs.Rows.{variable, variables}
 use Rattle.iteration_domains.proofs.Surroundings.{length-variable, sized-variables}
@@ -76,7 +76,7 @@ rows_over l (r ∷ rs) h =
     (rows_over l rs (All-tail (λ (q : TileRow). FitsTurns l.turns q.form) r rs h))
 
 item_one : (l : Layout) (i : Item) → FitsItem l.turns i → Over l (item_form l i)
-item_one l (row f) h = length-row l f h.0
+item_one l (row f) h = length-row l f (h f refl).0
 item_one l (scalar k) h = length-number l (pos k)
 
 items_over : (l : Layout) (is : List Item) → All (FitsItem l.turns) is → All (Over l) (map (item_form l) is)

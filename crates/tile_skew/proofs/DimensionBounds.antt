@@ -1,6 +1,6 @@
 -- Each dimension of a scan set lies within 2^64 over fractions, where the turns lie within 2^46.
 use Rattle.scop_syntax.proofs.Common.{◌≡◌, ℕ, zero, suc, ◌+◌, ◌-◌, ◌*◌, ◌^◌, ◌<◌, ◌≤◌, ℤ, pos, List, [], ◌∷◌, ◌++◌, sym}
-use Rattle.scop_syntax.proofs.Common.{◌∙◌, ap, subst, inl, inr, arith, length, map, take, drop, get_or, mul-le-mul}
+use Rattle.scop_syntax.proofs.Common.{◌∙◌, refl, ap, subst, inl, inr, arith, length, map, take, drop, get_or, mul-le-mul}
 use Rattle.scop_syntax.proofs.Common.{◌+ℤ◌, ◌-ℤ◌, ◌*ℤ◌, ◌≤ℤ◌, ◌<ℤ◌, unsigned_abs, All, ints, All-nil, All-cons}
 use Rattle.scop_syntax.proofs.Common.{All-head, All-tail, All-append, All-map, All-weaker, Affine, form_of, dot, zeros}
 use Rattle.scop_syntax.proofs.Common.{dot-zeros, le_or_lt, mul_le, mul_le_left, mul_le_turned, mul_comm_int}
@@ -84,7 +84,7 @@ item_near : (l : Layout) (b : ℕ) (d : ℤ) (i : Item) (fs ts rest : List ℤ) 
     → length ts ≡ l.turns → l.turns ≤ 5 → FitsItem l.turns i → IsLow 32 i → IsWithin b d → AreWithin b ts
     → IsWithin (24576 * b) (value_over (item_form l i) d (fs ++ (ts ++ rest)))
 item_near l b d (row f) fs ts rest front turns few fits low h k =
-    row_near l b d f fs ts rest front turns few fits h k
+    row_near l b d f fs ts rest front turns few (fits f refl) h k
 item_near l b d (scalar n) fs ts rest front turns few fits low h k =
     number_near l b d n (fs ++ (ts ++ rest)) low h
 

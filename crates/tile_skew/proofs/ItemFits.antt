@@ -1,5 +1,5 @@
 -- The items of a schedule's statements fit: a coefficient for each loop, and small numbers.
-use Rattle.scop_syntax.proofs.Common.{ℕ, List, [], ◌∷◌, arith, All, All-nil, All-cons, All-append}
+use Rattle.scop_syntax.proofs.Common.{◌≡◌, ℕ, List, [], ◌∷◌, arith, subst, Affine, All, All-nil, All-cons, All-append}
 use Rattle.stmt_graph.specs.Graph.{number_in}
 use Rattle.loop_tree.specs.Tiling.{TileRow, row, scalar as number}
 use Rattle.schedule_rows.specs.Items.{Row, Marked, Block, scalar, band, part_of}
@@ -23,18 +23,22 @@ rows_fit loops (m ∷ ms) k h =
     All-cons (λ (r : TileRow). FitsTurns (loops_of loops k) r.form) _ (rows_at ms k) (form_fits loops m.row k h.0)
     (rows_fit loops ms k h.1)
 
+item_fits : (n : ℕ) (f : Affine) → FitsTurns n f → FitsItem n (row f)
+item_fits n f h = λ g e. let same : f ≡ g = cc in subst (FitsTurns n) same h
+
 row_items_fit : (loops : List ℕ) (ms : List Marked) (k : ℕ) → AreSizedRows loops ms
     → All (FitsItem (loops_of loops k)) (row_items ms k)
 row_items_fit loops [] k h = All-nil (FitsItem (loops_of loops k))
 row_items_fit loops (m ∷ ms) k h =
-    All-cons (FitsItem (loops_of loops k)) (row (form_at m.row k)) (row_items ms k) (form_fits loops m.row k h.0)
-    (row_items_fit loops ms k h.1)
+    All-cons (FitsItem (loops_of loops k)) (row (form_at m.row k)) (row_items ms k)
+    (item_fits (loops_of loops k) (form_at m.row k) (form_fits loops m.row k h.0)) (row_items_fit loops ms k h.1)
 
 block_items_fit : (loops : List ℕ) (bs : List Block) (k : ℕ) → AreSized loops bs
     → All (FitsItem (loops_of loops k)) (block_items bs k)
 block_items_fit loops [] k h = All-nil (FitsItem (loops_of loops k))
 block_items_fit loops (scalar numbers ∷ bs) k h =
-    All-cons (FitsItem (loops_of loops k)) (number (number_in numbers k)) (block_items bs k) tt
+    All-cons (FitsItem (loops_of loops k)) (number (number_in numbers k)) (block_items bs k)
+    (λ f e. absurd cc)
     (block_items_fit loops bs k h.1)
 block_items_fit loops (band [] ∷ bs) k h = absurd h.0
 block_items_fit loops (band (m ∷ ms) ∷ bs) k h =

@@ -1,7 +1,7 @@
 -- How many variables a scan set's forms have, and how large they are.
 use Rattle.scop_syntax.proofs.Common.{◌≡◌, ℕ, suc, ◌+◌, ◌-◌, ◌*◌, ◌^◌, ◌<◌, ◌≤◌, Bool, true, false, ℤ, pos, negsuc}
 use Rattle.scop_syntax.proofs.Common.{List, [], ◌∷◌, ◌++◌, refl, sym, ◌∙◌, ap, subst, arith, length, mul-le-mul}
-use Rattle.scop_syntax.proofs.Common.{length-append, to_z, of_z, ◌≤ℤ◌, ◌-ℤ◌, unsigned_abs, if◌then◌else◌, All}
+use Rattle.scop_syntax.proofs.Common.{length-append, to_z, of_z, ◌≤ℤ◌, ◌-ℤ◌, neg_ℤ, unsigned_abs, if◌then◌else◌, All}
 use Rattle.scop_syntax.proofs.Common.{FitsSigned, w64, w128, ints, to_z-of_z, fits_signed_from_abs, All-head, All-tail}
 use Rattle.scop_syntax.proofs.Common.{Affine, sum_of_forms, multiple_of_form, zeros, multiples, length-zeros}
 use Rattle.scop_syntax.proofs.Common.{length-sums, length-multiples, abs_at_most}
@@ -88,47 +88,27 @@ size-few (c ∷ cs) h =
     let one = small_number c (All-head IsSmall c cs h) in
     omega arith
 
--- the size of a tile and its opposite, as the code holds them
-pub tile_size : (s : ℤ) → (pos 1 ≤ℤ s) × (s ≤ℤ pos 1024) → unsigned_abs s ≤ 1024
-tile_size s h = let low = h.0 in let high = h.1 in abs_at_most s 1024 (omega (arith, ints)) (omega (arith, ints))
+-- the size of a tile, its opposite and its last number
+pub tile_held : (n : ℕ) → n ≤ 1024 → to_z w128 n ≡ pos n
+tile_held n h = to_z_pos w128 n (omega arith)
 
-pub opposite_size : (s : ℤ) → (pos 1 ≤ℤ s) × (s ≤ℤ pos 1024) → unsigned_abs (pos 0 -ℤ s) ≤ 1024
-opposite_size s h =
-    let low = h.0 in let high = h.1 in abs_at_most (pos 0 -ℤ s) 1024 (omega (arith, ints)) (omega (arith, ints))
+pub opposite_size : (n : ℕ) → n ≤ 1024 → unsigned_abs (neg_ℤ (pos n)) ≤ 1024
+opposite_size n h = abs_at_most (neg_ℤ (pos n)) 1024 (omega (arith, ints)) (omega (arith, ints))
 
-pub last_size : (s : ℤ) → (pos 1 ≤ℤ s) × (s ≤ℤ pos 1024) → unsigned_abs (s -ℤ pos 1) ≤ 1024
-last_size s h =
-    let low = h.0 in let high = h.1 in abs_at_most (s -ℤ pos 1) 1024 (omega (arith, ints)) (omega (arith, ints))
+pub opposite_held : (n : ℕ) → n ≤ 1024 → to_z w128 (of_z w128 (pos 0 -ℤ to_z w128 n)) ≡ neg_ℤ (pos n)
+opposite_held n h =
+    let opposite : pos 0 -ℤ pos n ≡ neg_ℤ (pos n) = omega (arith, ints) in
+    ap (λ z. to_z w128 (of_z w128 z)) (ap (λ z. pos 0 -ℤ z) (tile_held n h) ∙ opposite)
+    ∙ to_z-of_z w128 (neg_ℤ (pos n)) (fits_signed_from_abs w128 (neg_ℤ (pos n)) (omega (arith, opposite_size n h)))
 
-pub as_held : (z : ℤ) → unsigned_abs z ≤ 1024 → to_z w128 (of_z w128 z) ≡ z
-as_held z h = to_z-of_z w128 z (fits_signed_from_abs w128 z (omega arith))
+last_size : (n : ℕ) → n ≤ 1024 → unsigned_abs (pos n -ℤ pos 1) ≤ 1024
+last_size n h = abs_at_most (pos n -ℤ pos 1) 1024 (omega (arith, ints)) (omega (arith, ints))
 
 -- a number of 64 bits is itself in 128 bits
 pub narrow_held : (z : ℤ) → FitsSigned w64 z → to_z w128 (of_z w128 (to_z w64 (of_z w64 z))) ≡ z
 narrow_held z narrow =
     let wide : FitsSigned w128 z = omega (arith, ints, narrow) in
     ap (λ n. to_z w128 (of_z w128 n)) (to_z-of_z w64 z narrow) ∙ to_z-of_z w128 z wide
-
-pub opposite_held : (s : ℤ) → (pos 1 ≤ℤ s) × (s ≤ℤ pos 1024)
-    → to_z w128 (of_z w128 (pos 0 -ℤ to_z w128 (of_z w128 s))) ≡ pos 0 -ℤ s
-opposite_held s h =
-    ap (λ z. to_z w128 (of_z w128 (pos 0 -ℤ z))) (as_held s (tile_size s h)) ∙ as_held (pos 0 -ℤ s) (opposite_size s h)
-
--- a tile size is itself in 128 bits
-pub tile_held : (n : ℕ) → n ≤ 1024 → to_z w128 n ≡ pos n
-tile_held n h = to_z_pos w128 n (omega arith)
-
--- and lies between 1 and 1024 there
-pub tile_between : (n : ℕ) → (0 < n) × (n ≤ 1024) → (pos 1 ≤ℤ to_z w128 n) × (to_z w128 n ≤ℤ pos 1024)
-tile_between n h =
-    let low = h.0 in
-    let high = h.1 in
-    subst (λ z. (pos 1 ≤ℤ z) × (z ≤ℤ pos 1024)) (sym (tile_held n high)) (omega (arith, ints), omega (arith, ints))
-
-pub last_held : (s : ℤ) → (pos 1 ≤ℤ s) × (s ≤ℤ pos 1024)
-    → to_z w128 (of_z w128 (to_z w128 (of_z w128 s) -ℤ pos 1)) ≡ s -ℤ pos 1
-last_held s h =
-    ap (λ z. to_z w128 (of_z w128 (z -ℤ pos 1))) (as_held s (tile_size s h)) ∙ as_held (s -ℤ pos 1) (last_size s h)
 
 -- a multiple of a dimension behind a form stays small
 pub small_sum : (f d k : ℕ) → f ≤ 2 ^ 99 → k ≤ 1024 → d ≤ 1 → f + k * d ≤ 2 ^ 100
@@ -144,14 +124,14 @@ length-end l s at =
     let m = length-multiples s v.coefficients ∙ length-variable (width l) at in
     length-sums (zeros (width l)) (multiples s v.coefficients) (length-zeros (width l) ∙ sym m) ∙ length-zeros (width l)
 
-pub size-end : (l : Layout) (s : ℤ) (at : ℕ) → (pos 1 ≤ℤ s) × (s ≤ℤ pos 1024) → form_size (end_form l s at) ≤ 2048
-size-end l s at h =
+pub size-end : (l : Layout) (n at : ℕ) → n ≤ 1024 → form_size (end_form l (pos n) at) ≤ 2048
+size-end l n at h =
     let v = variable (width l) at in
-    let a = size-sum (number_form l (s -ℤ pos 1)) (multiple_of_form s v) in
-    let n = size-number l (s -ℤ pos 1) in
-    let m = size-multiple s v in
-    let k = last_size s h in
-    let p : unsigned_abs s * form_size v ≤ 1024 * 1 = mul-le-mul (tile_size s h) (size-variable (width l) at) in
+    let a = size-sum (number_form l (pos n -ℤ pos 1)) (multiple_of_form (pos n) v) in
+    let o = size-number l (pos n -ℤ pos 1) in
+    let m = size-multiple (pos n) v in
+    let k = last_size n h in
+    let p : unsigned_abs (pos n) * form_size v ≤ 1024 * 1 = mul-le-mul h (size-variable (width l) at) in
     omega arith
 
 -- a form that is a row's or a number's

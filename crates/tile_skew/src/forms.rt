@@ -1,5 +1,5 @@
 //! Forms over the variables of a scan set.
-ghost use Rattle.std.specs.Prelude.{◌≡◌, ◌+◌, ◌<◌, ◌≤◌, ◌^◌, ◌++◌, ◌∷◌, [], pos, ◌≤ℤ◌, ◌-ℤ◌, IfOk, OnOk, length};
+ghost use Rattle.std.specs.Prelude.{◌≡◌, ◌+◌, ◌<◌, ◌≤◌, ◌++◌, ◌∷◌, [], pos, ◌-ℤ◌, IfOk, OnOk, length};
 ghost use Rattle.affine_forms.specs.Parts.{variables_of};
 ghost use Rattle.whole_numbers.specs.Affine.{sum_of_forms, multiple_of_form};
 ghost use Rattle.whole_numbers.specs.Lists.{zeros};
@@ -7,12 +7,13 @@ ghost use Rattle.iteration_domains.specs.Rows.{variable};
 ghost use Rattle.conflict_deps.specs.Conflicts.{spread};
 ghost use Rattle.tile_skew.specs.ScanSets.{carried, carried_form, domain_form, have_values, number_form, row_form};
 ghost use Rattle.tile_skew.specs.ScanSets.{tile_begins, tile_ends, width};
-ghost use Rattle.tile_skew.specs.steps.Sizes.{FitsWidth};
+ghost use Rattle.tile_skew.specs.steps.Sizes.{FitsTurns, FitsWidth};
 
 use crate::layout::Layout;
+use crate::scattering::Scattering;
 use affine_forms::{Form, push};
 use iteration_domains::{
-    Numbers, form_from, plus_multiple, push_numbers, push_zeros, variable_form,
+    Numbers, constant_form, form_from, plus_multiple, push_numbers, push_zeros, variable_form,
 };
 use loop_tree::TileRow;
 use scop_syntax::Aff;
@@ -56,20 +57,20 @@ pub fn domain_form(alloc: Global, layout: Layout, form: &Form) -> Result<Form, A
 }
 
 /// A number as a form.
-pub fn number_form(alloc: Global, layout: Layout, number: i128) -> Result<Form, AllocError>
-    requires { width layout < 2 ^ 64 }
-    ensures { IfOk result (λ f. f ≡ number_form layout number) }
+pub fn number_form(alloc: Global, scattering: &Scattering, number: u64) -> Result<Form, AllocError>
+    ensures form { IfOk result (λ f. f ≡ number_form scattering.now.layout (pos number)) }
+    ensures small { IfOk result (FitsWidth scattering.now.layout) }
 {
-    let mut numbers = Numbers::new(alloc);
-    push_zeros(&mut numbers, layout.width())?;
-    form_from(alloc, numbers.as_slice(), number)
+    constant_form(alloc, scattering.layout.width(), number as i128)
 }
 
 /// A row's form.
-pub fn row_form(alloc: Global, layout: Layout, form: &Aff) -> Result<Form, AllocError>
-    requires { width layout < 2 ^ 64 }
-    ensures { IfOk result (λ f. f ≡ row_form layout form.now) }
+pub fn row_form(alloc: Global, scattering: &Scattering, form: &Aff) -> Result<Form, AllocError>
+    requires { FitsTurns scattering.now.layout.turns form.now }
+    ensures form { IfOk result (λ f. f ≡ row_form scattering.now.layout form.now) }
+    ensures small { IfOk result (FitsWidth scattering.now.layout) }
 {
+    let layout = scattering.layout;
     let mut numbers = Numbers::new(alloc);
     push_zeros(&mut numbers, layout.front)?;
     push_numbers(&mut numbers, form.coefficients.as_slice())?;
@@ -80,18 +81,19 @@ pub fn row_form(alloc: Global, layout: Layout, form: &Aff) -> Result<Form, Alloc
 /// The sum of the tile coordinates, from dimension `first` on, of the rows that carry.
 pub fn carried_form(
     alloc: Global,
-    layout: Layout,
+    scattering: &Scattering,
     first: usize,
     rows: &[TileRow],
 ) -> Result<Form, AllocError>
-    requires fits { width layout < 2 ^ 64 }
-    requires place { first + length rows.now ≤ width layout }
-    ensures { IfOk result (λ f. f ≡ carried_form layout first rows.now) }
+    requires { first + length rows.now ≤ width scattering.now.layout }
+    ensures form { IfOk result (λ f. f ≡ carried_form scattering.now.layout first rows.now) }
+    ensures small { IfOk result (FitsWidth scattering.now.layout) }
 {
+    let width = scattering.layout.width();
     let mut numbers = Numbers::new(alloc);
     push_zeros(&mut numbers, first)?;
     push_carried(&mut numbers, rows)?;
-    push_zeros(&mut numbers, layout.width() - (first + rows.len()))?;
+    push_zeros(&mut numbers, width - (first + rows.len()))?;
     form_from(alloc, numbers.as_slice(), 0)
 }
 
@@ -99,16 +101,15 @@ pub fn carried_form(
 pub fn push_value(
     alloc: Global,
     out: &mut Vec<Form>,
-    layout: Layout,
+    scattering: &Scattering,
     at: usize,
     form: &Form,
 ) -> Result<(), AllocError>
-    requires fits { width layout < 2 ^ 64 }
-    requires place { at < width layout }
-    requires small { FitsWidth layout form.now }
-    ensures { OnOk result (out.new.items ≡ out.old.items ++ have_values layout at (form.now ∷ [])) }
+    requires place { at < width scattering.now.layout }
+    requires small { FitsWidth scattering.now.layout form.now }
+    ensures { OnOk result (out.new.items ≡ out.old.items ++ have_values scattering.now.layout at (form.now ∷ [])) }
 {
-    let dimension = variable_form(alloc, layout.width(), at)?;
+    let dimension = variable_form(alloc, scattering.layout.width(), at)?;
     let equality = plus_multiple(form, -1, &dimension)?;
     push(out, equality)
 }
@@ -116,49 +117,42 @@ pub fn push_value(
 /// `row - size * T`, T being dimension `at`.
 fn tile_begins(
     alloc: Global,
-    layout: Layout,
-    size: i128,
+    scattering: &Scattering,
     at: usize,
     form: &Form,
 ) -> Result<Form, AllocError>
-    requires fits { width layout < 2 ^ 64 }
-    requires place { at < width layout }
-    requires size { (pos 1 ≤ℤ size) × (size ≤ℤ pos 1024) }
-    requires small { FitsWidth layout form.now }
-    ensures { IfOk result (λ f. f ≡ tile_begins layout size at form.now) }
+    requires place { at < width scattering.now.layout }
+    requires small { FitsWidth scattering.now.layout form.now }
+    ensures { IfOk result (λ f. f ≡ tile_begins scattering.now.layout (pos scattering.now.size) at form.now) }
 {
-    let dimension = variable_form(alloc, layout.width(), at)?;
-    plus_multiple(form, -size, &dimension)
+    let dimension = variable_form(alloc, scattering.layout.width(), at)?;
+    plus_multiple(form, -(scattering.size as i128), &dimension)
 }
 
 /// `size * T + size - 1`, T being dimension `at`.
-fn tile_end(alloc: Global, layout: Layout, size: i128, at: usize) -> Result<Form, AllocError>
-    requires fits { width layout < 2 ^ 64 }
-    requires place { at < width layout }
-    requires size { (pos 1 ≤ℤ size) × (size ≤ℤ pos 1024) }
+fn tile_end(alloc: Global, scattering: &Scattering, at: usize) -> Result<Form, AllocError>
+    requires { at < width scattering.now.layout }
     ensures { IfOk result (λ f. f
-        ≡ sum_of_forms (number_form layout (size -ℤ pos 1)) (multiple_of_form size (variable (width layout) at))) }
+        ≡ sum_of_forms (number_form scattering.now.layout (pos scattering.now.size -ℤ pos 1))
+        (multiple_of_form (pos scattering.now.size) (variable (width scattering.now.layout) at))) }
 {
-    let dimension = variable_form(alloc, layout.width(), at)?;
-    let last = number_form(alloc, layout, size - 1)?;
-    plus_multiple(&last, size, &dimension)
+    let dimension = variable_form(alloc, scattering.layout.width(), at)?;
+    let last = number_form(alloc, scattering, scattering.size - 1)?;
+    plus_multiple(&last, scattering.size as i128, &dimension)
 }
 
 /// `size * T + size - 1 - row`, T being dimension `at`.
 fn tile_ends(
     alloc: Global,
-    layout: Layout,
-    size: i128,
+    scattering: &Scattering,
     at: usize,
     form: &Form,
 ) -> Result<Form, AllocError>
-    requires fits { width layout < 2 ^ 64 }
-    requires place { at < width layout }
-    requires size { (pos 1 ≤ℤ size) × (size ≤ℤ pos 1024) }
-    requires small { FitsWidth layout form.now }
-    ensures { IfOk result (λ f. f ≡ tile_ends layout size at form.now) }
+    requires place { at < width scattering.now.layout }
+    requires small { FitsWidth scattering.now.layout form.now }
+    ensures { IfOk result (λ f. f ≡ tile_ends scattering.now.layout (pos scattering.now.size) at form.now) }
 {
-    let end = tile_end(alloc, layout, size, at)?;
+    let end = tile_end(alloc, scattering, at)?;
     plus_multiple(&end, -1, form)
 }
 
@@ -166,21 +160,18 @@ fn tile_ends(
 pub fn push_coordinate(
     alloc: Global,
     out: &mut Vec<Form>,
-    layout: Layout,
-    size: u64,
+    scattering: &Scattering,
     at: usize,
     form: &Form,
 ) -> Result<(), AllocError>
-    requires fits { width layout < 2 ^ 64 }
-    requires place { at < width layout }
-    requires size { (0 < size) × (size ≤ 1024) }
-    requires small { FitsWidth layout form.now }
-    ensures { OnOk result (out.new.items
-        ≡ out.old.items ++ tile_begins layout (pos size) at form.now ∷ tile_ends layout (pos size) at form.now ∷ []) }
+    requires place { at < width scattering.now.layout }
+    requires small { FitsWidth scattering.now.layout form.now }
+    ensures { OnOk result (out.new.items ≡ out.old.items
+        ++ tile_begins scattering.now.layout (pos scattering.now.size) at form.now
+        ∷ tile_ends scattering.now.layout (pos scattering.now.size) at form.now ∷ []) }
 {
-    let size = size as i128;
-    let begins = tile_begins(alloc, layout, size, at, form)?;
+    let begins = tile_begins(alloc, scattering, at, form)?;
     push(out, begins)?;
-    let ends = tile_ends(alloc, layout, size, at, form)?;
+    let ends = tile_ends(alloc, scattering, at, form)?;
     push(out, ends)
 }

@@ -3,15 +3,16 @@
 //! others, "A practical automatic polyhedral parallelizer and locality optimizer", PLDI 2008; scattering dimensions:
 //! C. Bastoul, "Code generation in the polyhedral model is easier than you think", PACT 2004).
 //! Promises that `tiling_and_sets` gives exactly the tiling of specs/Tilings.antt and the sets of specs/ScanSets.antt
-//! (`tiling`, `tiled` one of the two), that the
-//! tiling of a schedule of covers is a good plan at all parameters, that the whole points of those sets are the places
-//! of the instances, each once, that places come in the tiling's order, and that those sets can be scanned (`laws`).
+//! (`tiling`, `tiled` one of the two), that the tiling of a schedule of covers is a good plan at all parameters, that
+//! the whole points of those sets are the places of the instances, each once, that places come in the tiling's order,
+//! and that those sets can be scanned (`laws`).
 #![tactic(auto)]
 
 mod forms;
 mod items;
 mod laws;
 mod layout;
+mod scattering;
 mod sets;
 mod statement_sets;
 

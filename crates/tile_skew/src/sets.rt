@@ -1,18 +1,19 @@
 //! The scan sets of a schedule: of each statement the set of its instances at their places.
-ghost use Rattle.std.specs.Prelude.{◌≡◌, ◌+◌, ◌<◌, ◌≤◌, ◌^◌, ◌++◌, ◌∷◌, [], All, pos, IfOk, OnOk, length, map};
+ghost use Rattle.std.specs.Prelude.{◌≡◌, ◌+◌, ◌≤◌, ◌<◌, ◌++◌, ◌∷◌, [], All, pos, IfOk, OnOk, length, map};
 ghost use Rattle.affine_forms.specs.Parts.{variables_of};
 ghost use Rattle.iteration_domains.specs.Rows.{variable};
 ghost use Rattle.loop_tree.specs.TilingView.{item_of, items_of};
-ghost use Rattle.tile_skew.specs.ScanSets.{are_coordinates, dimension_equalities, domain_form, front_of};
+ghost use Rattle.tile_skew.specs.ScanSets.{are_coordinates, dimension_equalities, domain_form};
 ghost use Rattle.tile_skew.specs.ScanSets.{have_values, item_equalities, item_form, missing_equalities};
 ghost use Rattle.tile_skew.specs.ScanSets.{number_form, row_form, wave_equalities, width};
 ghost use Rattle.tile_skew.specs.steps.Sizes.{FitsItem, FitsTurns};
 
 use crate::forms::{carried_form, domain_form, number_form, push_coordinate, push_value, row_form};
 use crate::layout::Layout;
+use crate::scattering::Scattering;
 use affine_forms::{Form, push};
-use iteration_domains::{StatementModel, push_variables, variable_form};
-use loop_tree::{TileItem, TileItems, TileRow};
+use iteration_domains::{push_variables, variable_form};
+use loop_tree::{TileItem, TileRow};
 use std::alloc::{AllocError, Global};
 
 /// Appends the domain's forms over all variables.
@@ -35,18 +36,17 @@ fn push_domain(
 fn push_leading(
     alloc: Global,
     out: &mut Vec<Form>,
-    layout: Layout,
+    scattering: &Scattering,
     first: usize,
     leading: &[usize],
 ) -> Result<(), AllocError>
-    requires fits { width layout < 2 ^ 64 }
-    requires place { first + length leading.now ≤ width layout }
-    ensures { OnOk result (out.new.items
-        ≡ out.old.items ++ have_values layout first (map (λ k. number_form layout (pos k)) leading.now)) }
+    requires { first + length leading.now ≤ width scattering.now.layout }
+    ensures { OnOk result (out.new.items ≡ out.old.items
+        ++ have_values scattering.now.layout first (map (λ k. number_form scattering.now.layout (pos k)) leading.now)) }
 {
     for at in 0..leading.len() {
-        let form = number_form(alloc, layout, leading[at] as i128)?;
-        push_value(alloc, out, layout, first + at, &form)?;
+        let form = number_form(alloc, scattering, leading[at] as u64)?;
+        push_value(alloc, out, scattering, first + at, &form)?;
     }
     Ok(())
 }
@@ -55,17 +55,16 @@ fn push_leading(
 fn push_waves(
     alloc: Global,
     out: &mut Vec<Form>,
-    layout: Layout,
-    items: &TileItems,
+    scattering: &Scattering,
 ) -> Result<(), AllocError>
-    requires fits { width layout < 2 ^ 64 }
-    requires place { length items.now.leading.items + (1 + length items.now.band.items) ≤ width layout }
-    ensures { OnOk result (out.new.items ≡ out.old.items ++ wave_equalities layout (items_of items.now)) }
+    ensures { OnOk result (out.new.items
+        ≡ out.old.items ++ wave_equalities scattering.now.layout (items_of scattering.now.items.now)) }
 {
+    let items = scattering.items;
     let at = items.leading.len();
-    push_leading(alloc, out, layout, 0, items.leading.as_slice())?;
-    let sum = carried_form(alloc, layout, at + 1, items.band.as_slice())?;
-    push_value(alloc, out, layout, at, &sum)?;
+    push_leading(alloc, out, scattering, 0, items.leading.as_slice())?;
+    let sum = carried_form(alloc, scattering, at + 1, items.band.as_slice())?;
+    push_value(alloc, out, scattering, at, &sum)?;
     Ok(())
 }
 
@@ -73,20 +72,19 @@ fn push_waves(
 fn push_rows(
     alloc: Global,
     out: &mut Vec<Form>,
-    layout: Layout,
+    scattering: &Scattering,
     first: usize,
     rows: &[TileRow],
 ) -> Result<(), AllocError>
-    requires fits { width layout < 2 ^ 64 }
-    requires place { first + length rows.now ≤ width layout }
-    requires small { All (λ r. FitsTurns layout.turns r.form) rows.now }
-    ensures { OnOk result (out.new.items
-        ≡ out.old.items ++ have_values layout first (map (λ r. row_form layout r.form) rows.now)) }
+    requires place { first + length rows.now ≤ width scattering.now.layout }
+    requires small { All (λ r. FitsTurns scattering.now.layout.turns r.form) rows.now }
+    ensures { OnOk result (out.new.items ≡ out.old.items
+        ++ have_values scattering.now.layout first (map (λ r. row_form scattering.now.layout r.form) rows.now)) }
 {
     for at in 0..rows.len() {
         let row = &rows[at];
-        let form = row_form(alloc, layout, &row.form)?;
-        push_value(alloc, out, layout, first + at, &form)?;
+        let form = row_form(alloc, scattering, &row.form)?;
+        push_value(alloc, out, scattering, first + at, &form)?;
     }
     Ok(())
 }
@@ -95,24 +93,23 @@ fn push_rows(
 fn push_item(
     alloc: Global,
     out: &mut Vec<Form>,
-    layout: Layout,
+    scattering: &Scattering,
     at: usize,
     item: &TileItem,
 ) -> Result<(), AllocError>
-    requires fits { width layout < 2 ^ 64 }
-    requires place { at < width layout }
-    requires small { FitsItem layout.turns (item_of item.now) }
-    ensures { OnOk result (out.new.items
-        ≡ out.old.items ++ have_values layout at (item_form layout (item_of item.now) ∷ [])) }
+    requires place { at < width scattering.now.layout }
+    requires small { FitsItem scattering.now.layout.turns (item_of item.now) }
+    ensures { OnOk result (out.new.items ≡ out.old.items
+        ++ have_values scattering.now.layout at (item_form scattering.now.layout (item_of item.now) ∷ [])) }
 {
     match item {
         TileItem::Row(form) => {
-            let row = row_form(alloc, layout, form)?;
-            push_value(alloc, out, layout, at, &row)
+            let row = row_form(alloc, scattering, form)?;
+            push_value(alloc, out, scattering, at, &row)
         }
         TileItem::Scalar(number) => {
-            let scalar = number_form(alloc, layout, *number as i128)?;
-            push_value(alloc, out, layout, at, &scalar)
+            let scalar = number_form(alloc, scattering, *number as u64)?;
+            push_value(alloc, out, scattering, at, &scalar)
         }
     }
 }
@@ -121,18 +118,17 @@ fn push_item(
 fn push_items(
     alloc: Global,
     out: &mut Vec<Form>,
-    layout: Layout,
+    scattering: &Scattering,
     first: usize,
     items: &[TileItem],
 ) -> Result<(), AllocError>
-    requires fits { width layout < 2 ^ 64 }
-    requires place { first + length items.now ≤ width layout }
-    requires small { All (λ i. FitsItem layout.turns (item_of i)) items.now }
-    ensures { OnOk result (out.new.items
-        ≡ out.old.items ++ have_values layout first (map (item_form layout) (map item_of items.now))) }
+    requires place { first + length items.now ≤ width scattering.now.layout }
+    requires small { All (λ i. FitsItem scattering.now.layout.turns (item_of i)) items.now }
+    ensures { OnOk result (out.new.items ≡ out.old.items
+        ++ have_values scattering.now.layout first (map (item_form scattering.now.layout) (map item_of items.now))) }
 {
     for at in 0..items.len() {
-        push_item(alloc, out, layout, first + at, &items[at])?;
+        push_item(alloc, out, scattering, first + at, &items[at])?;
     }
     Ok(())
 }
@@ -141,35 +137,31 @@ fn push_items(
 fn push_item_values(
     alloc: Global,
     out: &mut Vec<Form>,
-    layout: Layout,
-    items: &TileItems,
+    scattering: &Scattering,
 ) -> Result<(), AllocError>
-    requires fits { width layout < 2 ^ 64 }
-    requires place { front_of (items_of items.now) ≤ width layout }
-    requires rows { All (λ r. FitsTurns layout.turns r.form) items.now.band.items }
-    requires behind { All (λ i. FitsItem layout.turns (item_of i)) items.now.behind.items }
-    ensures { OnOk result (out.new.items ≡ out.old.items ++ item_equalities layout (items_of items.now)) }
+    ensures { OnOk result (out.new.items
+        ≡ out.old.items ++ item_equalities scattering.now.layout (items_of scattering.now.items.now)) }
 {
+    let items = scattering.items;
     let leading = items.leading.len();
     let band = items.band.len();
     let scalars = leading + (1 + band);
-    push_leading(alloc, out, layout, scalars, items.leading.as_slice())?;
-    push_rows(alloc, out, layout, scalars + leading, items.band.as_slice())?;
-    push_items(
-        alloc,
-        out,
-        layout,
-        scalars + leading + band,
-        items.behind.as_slice(),
-    )?;
+    let rows = scalars + leading;
+    push_leading(alloc, out, scattering, scalars, items.leading.as_slice())?;
+    push_rows(alloc, out, scattering, rows, items.band.as_slice())?;
+    push_items(alloc, out, scattering, rows + band, items.behind.as_slice())?;
     Ok(())
 }
 
 /// Appends that the dimensions of missing iterators are 0.
-fn push_missing(alloc: Global, out: &mut Vec<Form>, layout: Layout) -> Result<(), AllocError>
-    requires fits { width layout < 2 ^ 64 }
-    ensures { OnOk result (out.new.items ≡ out.old.items ++ missing_equalities layout) }
+fn push_missing(
+    alloc: Global,
+    out: &mut Vec<Form>,
+    scattering: &Scattering,
+) -> Result<(), AllocError>
+    ensures { OnOk result (out.new.items ≡ out.old.items ++ missing_equalities scattering.now.layout) }
 {
+    let layout = scattering.layout;
     let first = layout.front + layout.turns;
     push_variables(alloc, out, layout.width(), first, layout.missing)
 }
@@ -178,80 +170,55 @@ fn push_missing(alloc: Global, out: &mut Vec<Form>, layout: Layout) -> Result<()
 fn push_coordinates(
     alloc: Global,
     out: &mut Vec<Form>,
-    layout: Layout,
-    size: u64,
+    scattering: &Scattering,
     first: usize,
     rows: &[TileRow],
 ) -> Result<(), AllocError>
-    requires fits { width layout < 2 ^ 64 }
-    requires place { first + length rows.now ≤ width layout }
-    requires size { (0 < size) × (size ≤ 1024) }
-    requires small { All (λ r. FitsTurns layout.turns r.form) rows.now }
-    ensures { OnOk result (out.new.items ≡ out.old.items ++ are_coordinates layout (pos size) first rows.now) }
+    requires place { first + length rows.now ≤ width scattering.now.layout }
+    requires small { All (λ r. FitsTurns scattering.now.layout.turns r.form) rows.now }
+    ensures { OnOk result (out.new.items ≡ out.old.items
+        ++ are_coordinates scattering.now.layout (pos scattering.now.size) first rows.now) }
 {
     for at in 0..rows.len() {
         let row = &rows[at];
-        let form = row_form(alloc, layout, &row.form)?;
-        push_coordinate(alloc, out, layout, size, first + at, &form)?;
+        let form = row_form(alloc, scattering, &row.form)?;
+        push_coordinate(alloc, out, scattering, first + at, &form)?;
     }
     Ok(())
 }
 
 /// The equalities of a statement's scan set.
-pub fn equalities(
-    alloc: Global,
-    layout: Layout,
-    statement: &StatementModel,
-    items: &TileItems,
-) -> Result<Vec<Form>, AllocError>
-    requires fits { width layout < 2 ^ 64 }
-    requires domain { layout.turns ≡ statement.now.domain.dimensions }
-    requires parameters { layout.parameters ≡ statement.now.domain.parameters }
-    requires place { front_of (items_of items.now) ≤ width layout }
-    requires rows { All (λ r. FitsTurns layout.turns r.form) items.now.band.items }
-    requires behind { All (λ i. FitsItem layout.turns (item_of i)) items.now.behind.items }
-    ensures forms { IfOk result (λ fs. fs.items ≡ map (domain_form layout) statement.now.domain.equalities
-        ++ dimension_equalities layout (items_of items.now)) }
-    ensures sized { IfOk result (λ fs. All (λ f. variables_of f ≡ width layout) fs.items) }
+pub fn equalities(alloc: Global, scattering: &Scattering) -> Result<Vec<Form>, AllocError>
+    ensures forms { IfOk result (λ fs. fs.items
+        ≡ map (domain_form scattering.now.layout) scattering.now.statement.now.domain.equalities
+        ++ dimension_equalities scattering.now.layout (items_of scattering.now.items.now)) }
+    ensures sized { IfOk result (λ fs. All (λ f. variables_of f ≡ width scattering.now.layout) fs.items) }
 {
+    let domain = scattering.statement.domain();
     let mut out = Vec::new(alloc);
-    push_domain(alloc, &mut out, layout, statement.domain().equalities())?;
-    push_waves(alloc, &mut out, layout, items)?;
-    push_item_values(alloc, &mut out, layout, items)?;
-    push_missing(alloc, &mut out, layout)?;
+    push_domain(alloc, &mut out, scattering.layout, domain.equalities())?;
+    push_waves(alloc, &mut out, scattering)?;
+    push_item_values(alloc, &mut out, scattering)?;
+    push_missing(alloc, &mut out, scattering)?;
     Ok(out)
 }
 
 /// The rows of a statement's scan set.
-pub fn rows(
-    alloc: Global,
-    layout: Layout,
-    size: u64,
-    statement: &StatementModel,
-    items: &TileItems,
-) -> Result<Vec<Form>, AllocError>
-    requires fits { width layout < 2 ^ 64 }
-    requires size { (0 < size) × (size ≤ 1024) }
-    requires domain { layout.turns ≡ statement.now.domain.dimensions }
-    requires parameters { layout.parameters ≡ statement.now.domain.parameters }
-    requires place { front_of (items_of items.now) ≤ width layout }
-    requires rows { All (λ r. FitsTurns layout.turns r.form) items.now.band.items }
-    ensures forms { IfOk result (λ fs. fs.items ≡ map (domain_form layout) statement.now.domain.rows
-        ++ variable (width layout) (length items.now.leading.items)
-        ∷ are_coordinates layout (pos size) (length items.now.leading.items + 1) items.now.band.items) }
-    ensures sized { IfOk result (λ fs. All (λ f. variables_of f ≡ width layout) fs.items) }
+pub fn rows(alloc: Global, scattering: &Scattering) -> Result<Vec<Form>, AllocError>
+    ensures forms { IfOk result (λ fs. fs.items
+        ≡ map (domain_form scattering.now.layout) scattering.now.statement.now.domain.rows
+        ++ variable (width scattering.now.layout) (length scattering.now.items.now.leading.items)
+        ∷ are_coordinates scattering.now.layout (pos scattering.now.size)
+        (length scattering.now.items.now.leading.items + 1) scattering.now.items.now.band.items) }
+    ensures sized { IfOk result (λ fs. All (λ f. variables_of f ≡ width scattering.now.layout) fs.items) }
 {
-    let mut out = Vec::new(alloc);
-    push_domain(alloc, &mut out, layout, statement.domain().rows())?;
+    let layout = scattering.layout;
+    let items = scattering.items;
+    let domain = scattering.statement.domain();
     let wave = items.leading.len();
+    let mut out = Vec::new(alloc);
+    push_domain(alloc, &mut out, layout, domain.rows())?;
     push(&mut out, variable_form(alloc, layout.width(), wave)?)?;
-    push_coordinates(
-        alloc,
-        &mut out,
-        layout,
-        size,
-        wave + 1,
-        items.band.as_slice(),
-    )?;
+    push_coordinates(alloc, &mut out, scattering, wave + 1, items.band.as_slice())?;
     Ok(out)
 }

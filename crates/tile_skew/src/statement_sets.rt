@@ -1,14 +1,15 @@
 //! The tiling of a schedule, and the scan sets of its statements, in textual order.
-ghost use Rattle.std.specs.Prelude.{◌≡◌, ◌+◌, ◌<◌, ◌≤◌, ◌^◌, All, pos, IfOk, length, max};
+ghost use Rattle.std.specs.Prelude.{◌≡◌, ◌+◌, ◌<◌, ◌≤◌, All, pos, IfOk, length, max};
 ghost use Rattle.loop_tree.specs.TilingView.{item_of, items_of, tiling_of};
 ghost use Rattle.schedule_rows.specs.Schedule.{IsScheduled};
-ghost use Rattle.tile_skew.specs.ScanSets.{front_of, most_iterators as greatest, parallel_place as place_in, points_of};
-ghost use Rattle.tile_skew.specs.ScanSets.{scan_set as set_of, scan_sets, width};
+ghost use Rattle.tile_skew.specs.ScanSets.{most_iterators as greatest, parallel_place as place_in, points_of};
+ghost use Rattle.tile_skew.specs.ScanSets.{scan_set as set_of, scan_sets};
 ghost use Rattle.tile_skew.specs.Tilings.{schedule_tiling};
 ghost use Rattle.tile_skew.specs.steps.Sizes.{FitsItem, FitsTurns};
 
 use crate::items::statement;
-use crate::layout::{Layout, layout_of};
+use crate::layout::layout_of;
+use crate::scattering::Scattering;
 use crate::sets::{equalities, rows};
 use integer_sets::{ScanSet, System};
 use iteration_domains::StatementModel;
@@ -17,24 +18,13 @@ use schedule_rows::Schedule;
 use std::alloc::{AllocError, Global};
 
 /// The points of a statement's scan set.
-fn points(
-    alloc: Global,
-    layout: Layout,
-    size: u64,
-    statement: &StatementModel,
-    items: &TileItems,
-) -> Result<System, AllocError>
-    requires fits { width layout < 2 ^ 64 }
-    requires size { (0 < size) × (size ≤ 1024) }
-    requires domain { layout.turns ≡ statement.now.domain.dimensions }
-    requires parameters { layout.parameters ≡ statement.now.domain.parameters }
-    requires place { front_of (items_of items.now) ≤ width layout }
-    requires rows { All (λ r. FitsTurns layout.turns r.form) items.now.band.items }
-    requires behind { All (λ i. FitsItem layout.turns (item_of i)) items.now.behind.items }
-    ensures { IfOk result (λ s. s ≡ points_of layout (pos size) statement.now (items_of items.now)) }
+fn points(alloc: Global, scattering: &Scattering) -> Result<System, AllocError>
+    ensures { IfOk result (λ s. s ≡ points_of scattering.now.layout (pos scattering.now.size)
+        scattering.now.statement.now (items_of scattering.now.items.now)) }
 {
-    let equal = equalities(alloc, layout, statement, items)?;
-    let least = rows(alloc, layout, size, statement, items)?;
+    let layout = scattering.layout;
+    let equal = equalities(alloc, scattering)?;
+    let least = rows(alloc, scattering)?;
     let dimensions = layout.front + (layout.turns + layout.missing);
     Ok(System::from_parts(dimensions, layout.parameters, equal, least))
 }
@@ -68,7 +58,13 @@ fn scan_set(
         None => return Err(AllocError),
         Some(layout) => layout,
     };
-    let points = points(alloc, layout, size, statement, items)?;
+    let scattering = Scattering {
+        statement,
+        items,
+        size,
+        layout,
+    };
+    let points = points(alloc, &scattering)?;
     let parallel = parallel_place(items);
     Ok(ScanSet::of(
         statement.number(),

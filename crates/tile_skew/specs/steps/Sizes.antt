@@ -33,8 +33,7 @@ FitsWidth l f = (variables_of f ≡ width l) × (form_size f ≤ 2 ^ 99)
 
 -- an item of a statement with n turns
 abbrev pub FitsItem : ℕ → Item → Type 0
-FitsItem n (row f) = FitsTurns n f
-FitsItem n (scalar k) = ⊤
+FitsItem n i = (f : Affine) → i ≡ row f → FitsTurns n f
 
 -- an item whose scalar is below n
 abbrev pub IsLow : ℕ → Item → Type 0

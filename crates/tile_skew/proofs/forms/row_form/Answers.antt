@@ -1,12 +1,13 @@
 use Rattle.scop_syntax.proofs.Common.{rules, ◌≡◌, ◌++◌, ◌∙◌, ◌+◌, ap, ap₂, subst, FitsSigned, IfOk, w64, Affine}
-use Rattle.scop_syntax.proofs.Common.{form_of, zeros}
+use Rattle.scop_syntax.proofs.Common.{IfOk-weaker, form_of, zeros}
 use Rattle.std.proofs.lemmas.List.{append_assoc}
-use Rattle.tile_skew.proofs.Widths.{narrow_held}
+use Rattle.tile_skew.specs.steps.Sizes.{FitsWidth}
+use Rattle.tile_skew.proofs.Widths.{narrow_held, row_small}
 use Rattle.tile_skew.proofs.forms.row_form.Goals as goal
 
-pub returns : goal.returns
-returns c =
-    let l = c.args.layout in
+pub returns-clause-form : goal.returns-clause-form
+returns-clause-form c =
+    let l = c.args.scattering.now.layout in
     let f = c.args.form.now in
     let behind = zeros (l.missing + l.parameters) in
     let own : c.as_slice.result.now ≡ f.coefficients =
@@ -18,3 +19,9 @@ returns c =
     let all = c.as_slice-2.ensures ∙ (c.in_ok-push_zeros-2.ensures
     ∙ (ap (λ ns. ns ++ behind) more ∙ append_assoc (zeros l.front) f.coefficients behind)) in
     subst (λ (g : Affine). IfOk c.form_from.result (λ h. h ≡ g)) (ap₂ form_of all constant) c.form_from.ensures
+
+pub returns-clause-small : goal.returns-clause-small
+returns-clause-small c =
+    let l = c.args.scattering.now.layout in
+    IfOk-weaker c.form_from.result _ (FitsWidth l)
+    (λ g made. row_small l c.args.form.now g made c.requires c.args.scattering.now.fits) (returns-clause-form c)

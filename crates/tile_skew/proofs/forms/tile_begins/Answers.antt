@@ -1,5 +1,5 @@
-use Rattle.scop_syntax.proofs.Common.{◌≡◌, ◌+◌, ◌*◌, ◌≤◌, ◌^◌, ℤ, pos, neg_ℤ, ◌-ℤ◌, subst, sym, ap, ap₂, ◌∙◌, arith}
-use Rattle.scop_syntax.proofs.Common.{unsigned_abs, IfOk, ints, Affine, sum_of_forms, multiple_of_form}
+use Rattle.scop_syntax.proofs.Common.{◌≡◌, ◌+◌, ◌*◌, ◌≤◌, ◌^◌, ℤ, subst, sym, ap, ap₂, ◌∙◌, unsigned_abs, IfOk, Affine}
+use Rattle.scop_syntax.proofs.Common.{sum_of_forms, multiple_of_form}
 use Rattle.affine_forms.specs.Parts.{variables_of}
 use Rattle.iteration_domains.specs.Rows.{variable}
 use Rattle.iteration_domains.specs.Sizes.{form_size}
@@ -16,18 +16,17 @@ plus_multiple-requires-clause-sized c =
 pub plus_multiple-requires-clause-small : goal.plus_multiple-requires-clause-small
 plus_multiple-requires-clause-small c =
     let f = c.args.form.now in
-    let s = c.args.size in
+    let n = c.args.scattering.now.size in
+    let most = c.args.scattering.now.tiles.1 in
     let one : form_size c.in_ok-dimension.dimension ≤ 1 =
     subst (λ (g : Affine). form_size g ≤ 1) (sym c.in_ok-dimension.ensures) (size-variable _ c.args.at) in
     subst (λ (z : ℤ). form_size f + unsigned_abs z * form_size c.in_ok-dimension.dimension ≤ 2 ^ 100)
-    (sym (opposite_held s c.requires.size))
-    (small_sum (form_size f) (form_size c.in_ok-dimension.dimension) _ c.requires.small.1
-    (opposite_size s c.requires.size) one)
+    (sym (opposite_held n most))
+    (small_sum (form_size f) (form_size c.in_ok-dimension.dimension) _ c.requires.small.1 (opposite_size n most) one)
 
 pub returns : goal.returns
 returns c =
-    let s = c.args.size in
-    let opposite : pos 0 -ℤ s ≡ neg_ℤ s = omega (arith, ints) in
+    let held = opposite_held c.args.scattering.now.size c.args.scattering.now.tiles.1 in
     let dimension = c.in_ok-dimension.ensures ∙ ap (λ n. variable n c.args.at) c.width.ensures in
     subst (λ (g : Affine). IfOk c.plus_multiple.result (λ f. f ≡ sum_of_forms c.args.form.now g))
-    (ap₂ multiple_of_form (opposite_held s c.requires.size ∙ opposite) dimension) c.plus_multiple.ensures
+    (ap₂ multiple_of_form held dimension) c.plus_multiple.ensures

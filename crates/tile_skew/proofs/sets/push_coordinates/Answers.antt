@@ -1,33 +1,30 @@
 use Rattle.scop_syntax.proofs.Common.{◌<◌, ◌+◌, ◌∙◌, drop_of_length-le, pos, ap, sym, subst, arith, length}
+use Rattle.loop_tree.specs.Tiling.{TileRow}
 use Rattle.tile_skew.specs.ScanSets.{are_coordinates, row_form}
 use Rattle.tile_skew.specs.steps.Sizes.{FitsTurns}
-use Rattle.tile_skew.proofs.Widths.{row_small}
 use Rattle.tile_skew.proofs.ItemSteps.{coordinates_step, nothing_left}
 use Rattle.tile_skew.proofs.sets.push_coordinates.Goals as goal
 
-pub push_coordinate-requires-clause-small : goal.push_coordinate-requires-clause-small
-push_coordinate-requires-clause-small c =
-    let l = c.args.layout in
-    let row = c.index-rows-at.result in
+pub row_form-requires : goal.row_form-requires
+row_form-requires c =
     let inside : c.loop-at.at < length c.args.rows.now = omega (arith, c.loop-at-test.true) in
-    let small : FitsTurns l.turns row.form =
-    subst (λ r. FitsTurns l.turns r.form) (sym c.index-rows-at.is) (c.requires.small c.loop-at.at row inside) in
-    row_small l row.form c.in_ok-form.form (c.in_ok-form.ensures ∙ ap (λ r. row_form l r.form) c.row.view_is) small
-    c.requires.fits
+    subst (λ (r : TileRow). FitsTurns c.args.scattering.now.layout.turns r.form)
+    (sym (c.row.view_is ∙ c.index-rows-at.is)) (c.requires.small c.loop-at.at c.index-rows-at.result inside)
 
 pub loop-at-preserved : goal.loop-at-preserved
 loop-at-preserved c =
-    let l = c.args.layout in
+    let l = c.args.scattering.now.layout in
     let at = c.loop-at.at in
     let inside : at < length c.args.rows.now = omega (arith, c.loop-at-test.true) in
-    coordinates_step l (pos c.args.size) c.args.first at c.args.rows.now c.index-rows-at.result c.in_ok-form.form
-    c.loop-at.out.items c.push_coordinate.new.out.items _ inside c.index-rows-at.is
-    (c.in_ok-form.ensures ∙ ap (λ r. row_form l r.form) c.row.view_is) c.in_ok-push_coordinate.ensures
+    coordinates_step l (pos c.args.scattering.now.size) c.args.first at c.args.rows.now c.index-rows-at.result
+    c.in_ok-form.form c.loop-at.out.items c.push_coordinate.new.out.items _ inside c.index-rows-at.is
+    (c.in_ok-form.ensures.form ∙ ap (λ r. row_form l r.form) c.row.view_is) c.in_ok-push_coordinate.ensures
     c.loop-at.invariant
 
 pub returns : goal.returns
 returns c =
+    let s = c.args.scattering.now in
     nothing_left c.loop-at.out.items _ _
-    (ap (λ rs. are_coordinates c.args.layout (pos c.args.size) (c.args.first + c.loop-at.at) rs)
+    (ap (λ rs. are_coordinates s.layout (pos s.size) (c.args.first + c.loop-at.at) rs)
     (drop_of_length-le c.args.rows.now (omega (arith, c.loop-at-test.false))))
     c.loop-at.invariant

@@ -8,17 +8,18 @@ use Rattle.tile_skew.proofs.sets.push_item_values.Goals as goal
 
 pub push_rows-requires-clause-small : goal.push_rows-requires-clause-small
 push_rows-requires-clause-small c =
-    subst (λ rs. All (λ r. FitsTurns c.args.layout.turns r.form) rs) (sym c.as_slice-2.ensures.value) c.requires.rows
+    let s = c.args.scattering.now in
+    subst (λ rs. All (λ r. FitsTurns s.layout.turns r.form) rs) (sym c.as_slice-2.ensures.value) s.rows
 
 pub push_items-requires-clause-small : goal.push_items-requires-clause-small
 push_items-requires-clause-small c =
-    subst (λ is. All (λ i. FitsItem c.args.layout.turns (item_of i)) is) (sym c.as_slice-3.ensures.value)
-    c.requires.behind
+    let s = c.args.scattering.now in
+    subst (λ is. All (λ i. FitsItem s.layout.turns (item_of i)) is) (sym c.as_slice-3.ensures.value) s.behind
 
 pub returns : goal.returns
 returns c =
-    let l = c.args.layout in
-    let s = c.args.items.now in
+    let l = c.args.scattering.now.layout in
+    let s = c.args.scattering.now.items.now in
     let old = c.args.out.now.items in
     let a : c.len-leading.result ≡ length s.leading.items = search rules in
     let b : c.len-band.result ≡ length s.band.items = search rules in

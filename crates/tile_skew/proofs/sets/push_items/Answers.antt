@@ -10,12 +10,12 @@ pub push_item-requires-clause-small : goal.push_item-requires-clause-small
 push_item-requires-clause-small c =
     let inside : c.loop-at.at < length c.args.items.now = omega (arith, c.loop-at-test.true) in
     let item = c.index-items-at.result in
-    subst (λ i. FitsItem c.args.layout.turns (item_of i)) (sym c.index-items-at.is)
+    subst (λ i. FitsItem c.args.scattering.now.layout.turns (item_of i)) (sym c.index-items-at.is)
     (c.requires.small c.loop-at.at item inside)
 
 pub loop-at-preserved : goal.loop-at-preserved
 loop-at-preserved c =
-    let l = c.args.layout in
+    let l = c.args.scattering.now.layout in
     let at = c.loop-at.at in
     let items = c.args.items.now in
     let item = c.index-items-at.result in
@@ -28,7 +28,7 @@ loop-at-preserved c =
 
 pub returns : goal.returns
 returns c =
-    let l = c.args.layout in
+    let l = c.args.scattering.now.layout in
     nothing_left c.loop-at.out.items _ _
     (ap (λ is. have_values l (c.args.first + c.loop-at.at) (map (item_form l) (map item_of is)))
     (drop_of_length-le c.args.items.now (omega (arith, c.loop-at-test.false))))

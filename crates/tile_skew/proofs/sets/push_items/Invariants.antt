@@ -5,5 +5,6 @@ use Rattle.tile_skew.proofs.sets.push_items.Given as goal
 
 abbrev pub invariant-loop-at : goal.invariant-loop-at
 invariant-loop-at l =
-    l.out.items ++ have_values l.layout (l.first + l.at) (map (item_form l.layout) (map item_of (drop l.at l.items)))
-    ≡ l.fn.out.items ++ have_values l.layout l.first (map (item_form l.layout) (map item_of l.items))
+    let layout = l.scattering.layout in
+    l.out.items ++ have_values layout (l.first + l.at) (map (item_form layout) (map item_of (drop l.at l.items)))
+    ≡ l.fn.out.items ++ have_values layout l.first (map (item_form layout) (map item_of l.items))

@@ -4,5 +4,6 @@ use Rattle.tile_skew.proofs.sets.push_leading.Given as goal
 
 abbrev pub invariant-loop-at : goal.invariant-loop-at
 invariant-loop-at l =
-    l.out.items ++ have_values l.layout (l.first + l.at) (map (λ k. number_form l.layout (pos k)) (drop l.at l.leading))
-    ≡ l.fn.out.items ++ have_values l.layout l.first (map (λ k. number_form l.layout (pos k)) l.leading)
+    let layout = l.scattering.layout in
+    l.out.items ++ have_values layout (l.first + l.at) (map (λ k. number_form layout (pos k)) (drop l.at l.leading))
+    ≡ l.fn.out.items ++ have_values layout l.first (map (λ k. number_form layout (pos k)) l.leading)

@@ -9,28 +9,31 @@ use Rattle.tile_skew.proofs.sets.rows.Goals as goal
 
 pub push_domain-requires : goal.push_domain-requires
 push_domain-requires c =
-    let e = ap variables_in c.domain.ensures in
-    let d = c.requires.domain in
-    all_wide c.args.layout.turns (variables_in c.domain.result.now) c.rows.result.now (omega (arith, d, e))
+    let s = c.args.scattering.now in
+    let e = ap variables_in c.domain-domain.ensures in
+    let d = s.turns in
+    all_wide s.layout.turns (variables_in c.domain-domain.result.now) c.rows.result.now (omega (arith, d, e))
     c.rows.ensures.sized
 
 pub push_coordinates-requires-clause-small : goal.push_coordinates-requires-clause-small
 push_coordinates-requires-clause-small c =
-    subst (λ rs. All (λ r. FitsTurns c.args.layout.turns r.form) rs) (sym c.as_slice.ensures.value) c.requires.rows
+    let s = c.args.scattering.now in
+    subst (λ rs. All (λ r. FitsTurns s.layout.turns r.form) rs) (sym c.as_slice.ensures.value) s.rows
 
 pub returns-clause-sized : goal.returns-clause-sized
 returns-clause-sized c =
-    let l = c.args.layout in
-    let many : variables_in c.domain.result.now ≡ l.turns + l.parameters =
-    let e = ap variables_in c.domain.ensures in
-    let d = c.requires.domain in
-    let p = c.requires.parameters in
+    let s = c.args.scattering.now in
+    let l = s.layout in
+    let many : variables_in c.domain-domain.result.now ≡ l.turns + l.parameters =
+    let e = ap variables_in c.domain-domain.ensures in
+    let d = s.turns in
+    let p = s.parameters in
     omega (arith, d, p, e) in
-    let domain = domain_over l c.rows.result.now (resized (variables_in c.domain.result.now) (l.turns + l.parameters)
+    let domain = domain_over l c.rows.result.now (resized (variables_in c.domain-domain.result.now) (l.turns + l.parameters)
     c.rows.result.now c.rows.result.now many refl c.rows.ensures.sized) in
-    let small = subst (λ rs. All (λ r. FitsTurns l.turns r.form) rs) (sym c.as_slice.ensures.value) c.requires.rows in
+    let small = subst (λ rs. All (λ r. FitsTurns l.turns r.form) rs) (sym c.as_slice.ensures.value) s.rows in
     parts_over l c.new-out.result.items c.push_domain.new.out.items c.push.new.list.items
     c.push_coordinates.new.out.items (map (domain_form l) c.rows.result.now) _ _ c.new-out.ensures.items
     c.in_ok-push_domain.ensures c.in_ok-push.ensures.pushed c.in_ok-push_coordinates.ensures domain
     (ap variables_of c.in_ok-variable_form.ensures ∙ (length-variable _ _ ∙ c.width.ensures))
-    (coordinates_over l (pos c.args.size) _ c.as_slice.result.now small)
+    (coordinates_over l (pos s.size) _ c.as_slice.result.now small)

@@ -5,7 +5,7 @@ use Rattle.tile_skew.proofs.statement_sets.points.Goals as goal
 
 pub from_parts-requires : goal.from_parts-requires
 from_parts-requires c =
-    let l = c.args.layout in
+    let l = c.args.scattering.now.layout in
     let e : width l ≡ (l.front + (l.turns + l.missing)) + l.parameters = omega arith in
     let n = (l.front + (l.turns + l.missing)) + l.parameters in
     let first = c.in_ok-equal.equal.items in

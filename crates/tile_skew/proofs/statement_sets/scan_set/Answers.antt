@@ -8,15 +8,20 @@ use Rattle.tile_skew.specs.declared.layout.Layout.{Layout}
 use Rattle.tile_skew.specs.steps.Sizes.{FitsItem, FitsTurns}
 use Rattle.tile_skew.proofs.statement_sets.scan_set.Goals as goal
 
-pub points-requires-clause-rows : goal.points-requires-clause-rows
-points-requires-clause-rows c =
-    subst (λ n. All (λ (r : TileRow). FitsTurns n r.form) c.args.items.now.band.items)
-    (sym (ap (λ (l : Layout). l.turns) (c.in-Some.ensures.layout c.in-Some.layout refl))) c.requires.rows
-
-pub points-requires-clause-behind : goal.points-requires-clause-behind
-points-requires-clause-behind c =
-    subst (λ n. All (λ i. FitsItem n (item_of i)) c.args.items.now.behind.items)
-    (sym (ap (λ (l : Layout). l.turns) (c.in-Some.ensures.layout c.in-Some.layout refl))) c.requires.behind
+pub invariant_of-scattering : goal.invariant_of-scattering
+invariant_of-scattering c =
+    let is = c.in-Some.ensures.layout c.in-Some.layout refl in
+    let same = ap (λ (l : Layout). l.turns) is in
+    let items = c.args.items.now in
+    record {
+      tiles = c.requires.size;
+      front = ap (λ (l : Layout). l.front) is;
+      turns = same;
+      parameters = ap (λ (l : Layout). l.parameters) is;
+      fits = c.in-Some.ensures.fits c.in-Some.layout refl;
+      rows = subst (λ n. All (λ (r : TileRow). FitsTurns n r.form) items.band.items) (sym same) c.requires.rows;
+      behind = subst (λ n. All (λ i. FitsItem n (item_of i)) items.behind.items) (sym same) c.requires.behind;
+    }
 
 pub returns : goal.returns
 returns c =
