@@ -1,7 +1,7 @@
 -- How many variables a scan set's forms have, and how large they are.
 use Rattle.scop_syntax.proofs.Common.{◌≡◌, ℕ, suc, ◌+◌, ◌-◌, ◌*◌, ◌^◌, ◌<◌, ◌≤◌, Bool, true, false, ℤ, pos, negsuc}
 use Rattle.scop_syntax.proofs.Common.{List, [], ◌∷◌, ◌++◌, refl, sym, ◌∙◌, ap, subst, arith, length, mul-le-mul}
-use Rattle.scop_syntax.proofs.Common.{length-append, to_z, of_z, ◌≤ℤ◌, ◌-ℤ◌, neg_ℤ, unsigned_abs, if◌then◌else◌, All}
+use Rattle.scop_syntax.proofs.Common.{length-append, to_z, of_z, ◌-ℤ◌, neg_ℤ, unsigned_abs, if◌then◌else◌, All}
 use Rattle.scop_syntax.proofs.Common.{FitsSigned, w64, w128, ints, to_z-of_z, fits_signed_from_abs, All-head, All-tail}
 use Rattle.scop_syntax.proofs.Common.{Affine, sum_of_forms, multiple_of_form, zeros, multiples, length-zeros}
 use Rattle.scop_syntax.proofs.Common.{length-sums, length-multiples, abs_at_most}

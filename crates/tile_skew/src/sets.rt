@@ -52,11 +52,7 @@ fn push_leading(
 }
 
 /// Appends that the leading dimensions are the scalars and the wave sum.
-fn push_waves(
-    alloc: Global,
-    out: &mut Vec<Form>,
-    scattering: &Scattering,
-) -> Result<(), AllocError>
+fn push_waves(alloc: Global, out: &mut Vec<Form>, scattering: &Scattering) -> Result<(), AllocError>
     ensures { OnOk result (out.new.items
         ≡ out.old.items ++ wave_equalities scattering.now.layout (items_of scattering.now.items.now)) }
 {
