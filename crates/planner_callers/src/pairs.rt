@@ -1,14 +1,15 @@
 //! Callers of what a row is to the pairs of a dependence: the laws without parameters.
-ghost use Rattle.std.specs.Prelude.{◌≡◌, ◌∷◌, [], ◌⊎◌, false, ℕ, ℤ, pos, ◌<ℤ◌, ◌+ℤ◌, ◌-ℤ◌, ◌≤ℤ◌, length};
+ghost use Rattle.std.specs.Prelude.{◌≡◌, ◌∷◌, [], ◌⊎◌, false, ℕ, ◌<◌, ◌<ℤ◌, ◌+ℤ◌, ◌-ℤ◌, ◌≤ℤ◌, length};
 ghost use Rattle.whole_numbers.specs.Lists.{dot};
 ghost use Rattle.whole_numbers.specs.Lexicographic.{LexLess};
 ghost use Rattle.scop_syntax.specs.Walk.{Instance};
 ghost use Rattle.iteration_domains.specs.Dependence.{Dependence};
+ghost use Rattle.loop_tree.specs.Tiling.{IsInOrder};
 ghost use Rattle.schedule_rows.specs.Bands.{Along};
 ghost use Rattle.schedule_rows.specs.Dependences.{IsEmptyDep, IsKept, Relates, Suits, above_at, equal_at};
 ghost use Rattle.schedule_rows.specs.Items.{Block, Row, band, phi};
 ghost use Rattle.schedule_rows.specs.Posed.{IsBounded, IsLegal};
-ghost use Rattle.schedule_rows.specs.Tiles.{IsGoodPair};
+ghost use Rattle.tile_skew.specs.Tilings.{schedule_tiling};
 
 /// A pair of a dependence that is restricted to equal values of a row has equal values, by `to` of
 /// `equal_rows_restrict`; a pair with equal values is one of it, by `from`.
@@ -38,15 +39,14 @@ pub fn rows_without_rising_pairs()
     schedule_rows::no_rising_pair_is_parallel();
 }
 
-/// Of one row that carries two instances of one statement whose value rises, or stays, are a good pair, by the clause of
-/// `parts_that_do_not_fall_make_good_pairs`.
-pub fn good_pairs_of_one_row()
-    ensures { (size : ℤ) (n : ℕ) (r : Row) (x y : Instance) → pos 0 <ℤ size → x.number ≡ y.number
-        → length x.turns ≡ length y.turns → LexLess x.turns y.turns
-        → (phi r x <ℤ phi r y) ⊎ (phi r x ≡ phi r y)
-        → IsGoodPair size (band (record { row = r; parallel = false } ∷ []) ∷ []) n x y }
+/// Under tiles of one row that carries two instances of one statement whose value rises, or stays, are in order, by the
+/// clause of `pairs_along_blocks_are_in_order`.
+pub fn ordered_pairs_of_one_row()
+    ensures { (size count : ℕ) (r : Row) (x y : Instance) → 0 < size → x.number < count → x.number ≡ y.number
+        → length x.turns ≡ length y.turns → LexLess x.turns y.turns → (phi r x <ℤ phi r y) ⊎ (phi r x ≡ phi r y)
+        → IsInOrder (schedule_tiling size count (band (record { row = r; parallel = false } ∷ []) ∷ [])) 0 x 1 y }
 {
-    schedule_rows::parts_that_do_not_fall_make_good_pairs();
+    tile_skew::pairs_along_blocks_are_in_order();
 }
 
 /// No distance is above the bound of a bounded row, by the clause of `farkas_rows_bound_distances`.

@@ -1,6 +1,6 @@
 //! Callers of what the determined run gives.
-ghost use Rattle.std.specs.Prelude.{◌≡◌, ◌∷◌, ◌++◌, [], ◌⊎◌, ◌≤◌, ◌-◌, ℕ, ℤ, pos, ◌<ℤ◌, ◌≤ℤ◌, ◌+ℤ◌, ◌-ℤ◌, Err, List, Ok};
-ghost use Rattle.std.specs.Prelude.{true, false, length};
+ghost use Rattle.std.specs.Prelude.{◌≡◌, ◌∷◌, ◌++◌, [], ◌⊎◌, ◌<◌, ◌≤◌, ◌-◌, ℕ, ℤ, pos, ◌<ℤ◌, ◌≤ℤ◌, ◌+ℤ◌, ◌-ℤ◌, Err, List};
+ghost use Rattle.std.specs.Prelude.{Ok, true, false, length};
 ghost use Rattle.whole_numbers.specs.Floor.{floor};
 ghost use Rattle.whole_numbers.specs.Lexicographic.{LexLess};
 ghost use Rattle.whole_numbers.specs.Lists.{dot, zeros};
@@ -21,7 +21,6 @@ ghost use Rattle.schedule_rows.specs.Next.{IsSizedDep, State};
 ghost use Rattle.schedule_rows.specs.Outcomes.{IsSchedule, Next, Outcome, Runs, ends};
 ghost use Rattle.schedule_rows.specs.Posed.{IsLeast};
 ghost use Rattle.schedule_rows.specs.Schedule.{Scheduled, loops_in};
-ghost use Rattle.schedule_rows.specs.Tiles.{IsGoodPair};
 ghost use Rattle.pluto_search.specs.Searching.{Searches};
 ghost use Rattle.pluto_search.specs.declared.kept.Kept.TheVariants.{NoRow};
 
@@ -46,32 +45,39 @@ pub fn values_of_one_block()
     schedule_rows::values_are_in_order();
 }
 
-/// A schedule of one row that carries is a good plan: tiles rise along a dependence, or are one in which the times rise,
-/// by the clause of `schedules_are_good_plans`.
+/// Under tiles of a schedule of one row that carries the wave rises along a dependence, or both instances lie in one
+/// tile and the times rise, by the clause of `tiled_dependences_are_in_order`.
 pub fn plans_of_one_row()
-    ensures { (loops : List ℕ) (deps : List Dependence) (size : ℤ) (n : ℕ) (r : Row) (d : Dependence) (x y : Instance)
-        → pos 0 <ℤ size → ((d : Dependence) → In d deps → IsSizedDep loops d)
+    ensures { (loops : List ℕ) (deps : List Dependence) (size : ℕ) (r : Row) (d : Dependence) (x y : Instance)
+        → 0 < size → ((d : Dependence) → In d deps → IsSizedDep loops d)
         → IsSchedule 0 loops deps (band (record { row = r; parallel = false } ∷ []) ∷ []) → In d deps
         → Relates [] d x y → LexLess x.turns y.turns
-        → LexLess ((floor (phi r x) size +ℤ pos 0) ∷ []) ((floor (phi r y) size +ℤ pos 0) ∷ [])
-        ⊎ ((floor (phi r x) size ∷ [] ≡ floor (phi r y) size ∷ [])
-        × LexLess ((floor (phi r x) size +ℤ pos 0) ∷ floor (phi r x) size ∷ phi r x ∷ (x.turns ++ (zeros
-        (n - length x.turns) ++ pos x.number ∷ []))) ((floor (phi r y) size +ℤ pos 0) ∷ floor (phi r y) size
-        ∷ phi r y ∷ (y.turns ++ (zeros (n - length y.turns) ++ pos y.number ∷ [])))) }
+        → LexLess ((floor (phi r x) (pos size) +ℤ pos 0) ∷ []) ((floor (phi r y) (pos size) +ℤ pos 0) ∷ [])
+        ⊎ ((floor (phi r x) (pos size) ∷ [] ≡ floor (phi r y) (pos size) ∷ [])
+        × LexLess ((floor (phi r x) (pos size) +ℤ pos 0) ∷ floor (phi r x) (pos size) ∷ phi r x ∷ (x.turns ++ (zeros
+        (5 - length x.turns) ++ pos x.number ∷ []))) ((floor (phi r y) (pos size) +ℤ pos 0)
+        ∷ floor (phi r y) (pos size) ∷ phi r y ∷ (y.turns ++ (zeros (5 - length y.turns) ++ pos y.number ∷ [])))) }
 {
-    schedule_rows::schedules_are_good_plans();
+    tile_skew::tiled_dependences_are_in_order();
 }
 
-/// Without parameters a schedule without items is a good plan where its dependences hold the covers of a walk, by the
-/// clause of `schedules_of_covers_are_good_plans`.
+/// Under tiles of a schedule of one row that carries, in a kernel without parameters, the wave rises between two places
+/// that conflict, or they lie in one tile, where the dependences hold the covers of the walk, by the clause of
+/// `tiled_schedules_are_good_plans`.
 pub fn plans_of_covers()
-    ensures { (program : Program) (marked : List ℕ) (loops : List ℕ) (deps : List Dependence) (size : ℤ) (n i j : ℕ)
-        (c : PlacesConflict (walk_of program []) i j) → pos 0 <ℤ size
-        → ((d : Dependence) → In d deps → IsSizedDep loops d) → IsSchedule 0 loops deps []
-        → HoldCovers program [] marked deps → is_marked marked (conflict_cell c).array ≡ false
-        → IsGoodPair size [] n (instance c.earlier) (instance c.later) }
+    ensures { (program : Program) (marked : List ℕ) (deps : List Dependence) (size i j : ℕ) (r : Row)
+        (c : PlacesConflict (walk_of program []) i j) → 0 < size → program.parameters ≡ []
+        → c.earlier.number < length (model_of program).statements
+        → c.later.number < length (model_of program).statements → is_marked marked (conflict_cell c).array ≡ false
+        → ((d : Dependence) → In d deps → IsSizedDep (loops_in (model_of program)) d)
+        → HoldCovers program [] marked deps
+        → IsSchedule (model_of program).parameters (loops_in (model_of program)) deps
+        (band (record { row = r; parallel = false } ∷ []) ∷ [])
+        → LexLess ((floor (phi r (instance c.earlier)) (pos size) +ℤ pos 0) ∷ [])
+        ((floor (phi r (instance c.later)) (pos size) +ℤ pos 0) ∷ [])
+        ⊎ (floor (phi r (instance c.earlier)) (pos size) ∷ [] ≡ floor (phi r (instance c.later)) (pos size) ∷ []) }
 {
-    schedule_rows::schedules_of_covers_are_good_plans();
+    tile_skew::tiled_schedules_are_good_plans();
 }
 
 /// Without parameters a row rises by at most w at pairs with equal values before its band, by the clause of

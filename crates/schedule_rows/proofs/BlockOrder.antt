@@ -1,6 +1,7 @@
 -- What holds along blocks, one behind another.
-use Rattle.scop_syntax.proofs.Common.{◌≡◌, ℤ, pos, List, [], ◌∷◌, ◌++◌, refl, ap, ap₂, subst, ◌⊎◌, inl, inr, arith}
-use Rattle.scop_syntax.proofs.Common.{◌≤ℤ◌, ◌<ℤ◌, ⊤, ints, le_or_lt, LexLess-rest, LexLess, Instance}
+use Rattle.scop_syntax.proofs.Common.{◌≡◌, suc, ℤ, pos, List, [], ◌∷◌, ◌++◌, refl, ap, ap₂, subst, ◌⊎◌, inl, inr, arith}
+use Rattle.scop_syntax.proofs.Common.{length, ◌≤ℤ◌, ◌<ℤ◌, ⊤, ints, le_or_lt, LexLess-rest, LexLess, Instance}
+use Rattle.std.proofs.lemmas.List.{length-append}
 use Rattle.schedule_rows.specs.Items.{Marked, Block, scalar, band, phi, values, band_values, closed_by}
 use Rattle.schedule_rows.specs.Bands.{AreKept, AreEqual, Rises, Along}
 
@@ -87,3 +88,19 @@ along_values (band ms ∷ bs) x y E (k, inr h) = elim (along_values bs x y E h.1
       (band_same ms x y h.0) l)
   | inr e ↦ inr (ap₂ (λ (vs : List ℤ) (ws : List ℤ). vs ++ ws) (band_same ms x y h.0) e.0, e.1)
 ]
+
+-- two instances have as many values
+pub length-band_values : (ms : List Marked) (x : Instance) → length (band_values ms x) ≡ length ms
+length-band_values [] x = refl
+length-band_values (m ∷ ms) x = ap suc (length-band_values ms x)
+
+pub length-values : (bs : List Block) (x y : Instance) → length (values bs x) ≡ length (values bs y)
+length-values [] x y = refl
+length-values (scalar numbers ∷ bs) x y = ap suc (length-values bs x y)
+length-values (band ms ∷ bs) x y =
+    let a = length-band_values ms x in
+    let b = length-band_values ms y in
+    let c = length-values bs x y in
+    let d = length-append (band_values ms x) (values bs x) in
+    let e = length-append (band_values ms y) (values bs y) in
+    omega arith

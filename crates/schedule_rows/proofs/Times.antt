@@ -14,10 +14,9 @@ use Rattle.schedule_rows.specs.Posed.{loops_of, IsFull, coefficients_in}
 use Rattle.schedule_rows.specs.Next.{State, IsSizedDep}
 use Rattle.schedule_rows.specs.steps.Moves.{Ends}
 use Rattle.schedule_rows.specs.Outcomes.{IsSchedule, Runs}
-use Rattle.schedule_rows.proofs.BlockOrder.{along_values}
+use Rattle.schedule_rows.proofs.BlockOrder.{along_values, length-values, length-band_values}
 use Rattle.schedule_rows.proofs.NextSteps.{next_ends}
 use Rattle.schedule_rows.proofs.RunInvariants.{schedule_along}
-use Rattle.schedule_rows.proofs.Tiling.{length-values, length-band_values}
 use Rattle.schedule_rows.proofs.Measures.{rows_closed, rows_scalar}
 use Rattle.schedule_rows.proofs.Determinism.{same_parts, same_head, same_tail}
 use Rattle.null_space.specs.Narrowing.{kernel_vectors}

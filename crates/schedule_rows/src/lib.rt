@@ -12,12 +12,11 @@ mod schedule;
 pub use item::{Band, Block, Item, Marked, Part, Row};
 pub use pair_laws::{
     equal_rows_restrict, farkas_rows_bound_distances, farkas_rows_do_not_fall, kept_pairs_chain,
-    no_rising_pair_is_parallel, parts_that_do_not_fall_make_good_pairs,
+    no_rising_pair_is_parallel,
 };
 pub use run_laws::{
     dependences_have_one_schedule, each_state_has_one_outcome, least_rows_are_unique,
-    runs_are_short, schedules_are_good_plans, schedules_bound_distances,
-    schedules_have_small_items, schedules_keep_every_band, schedules_of_covers_are_good_plans,
-    times_rise_along_dependences, values_are_in_order,
+    runs_are_short, schedules_bound_distances, schedules_have_small_items,
+    schedules_keep_every_band, times_rise_along_dependences, values_are_in_order,
 };
 pub use schedule::Schedule;

@@ -1,14 +1,12 @@
 //! What a row is to the pairs of a dependence.
-ghost use Rattle.std.specs.Prelude.{◌≡◌, ℕ, ℤ, pos, ◌<ℤ◌, ◌+ℤ◌, ◌-ℤ◌, ◌≤ℤ◌, List, length, ◌↔◌};
+ghost use Rattle.std.specs.Prelude.{◌≡◌, ℕ, ℤ, ◌+ℤ◌, ◌-ℤ◌, ◌≤ℤ◌, List, ◌↔◌};
 ghost use Rattle.whole_numbers.specs.Lists.{dot};
-ghost use Rattle.whole_numbers.specs.Lexicographic.{LexLess};
 ghost use Rattle.scop_syntax.specs.Walk.{Instance};
 ghost use Rattle.schedule_rows.specs.Items.{Row, Block, phi};
 ghost use Rattle.schedule_rows.specs.Bands.{Along};
 ghost use Rattle.iteration_domains.specs.Dependence.{Dependence};
 ghost use Rattle.schedule_rows.specs.Dependences.{Relates, IsEmptyDep, Suits, equal_at, above_at, IsKept, IsEqualAt};
 ghost use Rattle.schedule_rows.specs.Posed.{IsLegal, IsBounded};
-ghost use Rattle.schedule_rows.specs.Tiles.{IsGoodPair};
 
 /// The pairs of a dependence that is restricted to equal values of a row are its pairs with equal values.
 pub fn equal_rows_restrict()
@@ -31,16 +29,6 @@ pub fn farkas_rows_do_not_fall()
 /// Of a row that does not fall: it has equal values at all pairs exactly where no pair has `phi_T - phi_S >= 1`.
 pub fn no_rising_pair_is_parallel()
     ensures { (m : ℕ) (d : Dependence) (r : Row) → Suits d r → IsKept m r d → IsEmptyDep m (above_at m r d) ↔ IsEqualAt m r d }
-{}
-
-/// A pair whose scalars and bands do not fall, block by block, is in one tile in order or in waves that rise.
-pub fn parts_that_do_not_fall_make_good_pairs()
-    ensures { (size : ℤ) (blocks : List Block) (n : ℕ) (x y : Instance)
-        → pos 0 <ℤ size
-        → (x.number ≡ y.number → length x.turns ≡ length y.turns)
-        → (x.number ≡ y.number → LexLess x.turns y.turns)
-        → Along blocks x y (x.number ≡ y.number)
-        → IsGoodPair size blocks n x y }
 {}
 
 /// A row that is bounded by Farkas's identity has no distance above u.n + w.

@@ -1,30 +1,20 @@
 //! What the determined run gives.
-ghost use Rattle.std.specs.Prelude.{◌≡◌, ℕ, ◌≤◌, ℤ, pos, ◌<ℤ◌, ◌≤ℤ◌, ◌+ℤ◌, ◌-ℤ◌, List, [], ◌∷◌, ◌++◌, ◌⊎◌};
-ghost use Rattle.std.specs.Prelude.{false, length};
+ghost use Rattle.std.specs.Prelude.{◌≡◌, ℕ, ◌≤◌, ℤ, pos, ◌≤ℤ◌, ◌+ℤ◌, ◌-ℤ◌, List, [], ◌∷◌, ◌++◌, ◌⊎◌, length};
 ghost use Rattle.whole_numbers.specs.Lexicographic.{LexLess};
 ghost use Rattle.whole_numbers.specs.Lists.{dot};
-ghost use Rattle.scop_syntax.specs.Cells.{PlacesConflict, conflict_cell};
 ghost use Rattle.scop_syntax.specs.Members.{In};
-ghost use Rattle.scop_syntax.specs.Reductions.{is_marked};
-ghost use Rattle.scop_syntax.specs.Tree.{Program};
-ghost use Rattle.scop_syntax.specs.Walk.{Instance, instance, walk_of};
+ghost use Rattle.scop_syntax.specs.Walk.{Instance};
 ghost use Rattle.schedule_rows.specs.Items.{Row, Marked, Block, band, phi, values};
 ghost use Rattle.schedule_rows.specs.Bands.{Along};
 ghost use Rattle.schedule_rows.specs.Sized.{AreSized};
 ghost use Rattle.iteration_domains.specs.Dependence.{Dependence};
-ghost use Rattle.iteration_domains.specs.Held.{HoldCovers};
 ghost use Rattle.schedule_rows.specs.Dependences.{Relates};
 ghost use Rattle.schedule_rows.specs.Next.{State, IsSizedDep};
 ghost use Rattle.schedule_rows.specs.Outcomes.{Runs, IsSchedule, Outcome, Next};
 ghost use Rattle.schedule_rows.specs.Posed.{IsLeast};
 ghost use Rattle.schedule_rows.specs.Measure.{measure};
-ghost use Rattle.schedule_rows.specs.Tiles.{IsGoodPair};
 
 use null_space::{full_rank_leaves_only_0, kernel_vectors_are_kept, rows_take_kernel_vectors};
-use scop_syntax::{
-    conflicts_are_chains_of_covers, instances_are_those_of_statements, statements_are_numbered,
-    walks_are_in_order,
-};
 use stmt_graph::numberings_are_unique;
 
 /// A schedule's bands have rows, and its items have a part or a number for each statement, a row a coefficient for each
@@ -55,40 +45,6 @@ pub fn values_are_in_order()
         → LexLess (values blocks x) (values blocks y)
         ⊎ ((values blocks x ≡ values blocks y) × (x.number ≡ y.number)) }
 {}
-
-/// A schedule with any size of tiles is a good plan, for dependences whose pairs of one statement are in order.
-pub fn schedules_are_good_plans()
-    ensures { (m : ℕ) (loops : List ℕ) (deps : List Dependence) (blocks : List Block) (size : ℤ) (n : ℕ)
-        → pos 0 <ℤ size
-        → ((d : Dependence) → In d deps → IsSizedDep loops d)
-        → IsSchedule m loops deps blocks
-        → (d : Dependence) (params : List ℤ) (x y : Instance)
-        → In d deps
-        → length params ≡ m
-        → Relates params d x y
-        → (x.number ≡ y.number → LexLess x.turns y.turns)
-        → IsGoodPair size blocks n x y }
-{}
-
-/// A schedule of dependences that hold the covers of a walk, but for those on marked arrays, is a good plan for each of
-/// its conflicts on another array, with any size of tiles: each conflict is a chain of covers.
-pub fn schedules_of_covers_are_good_plans()
-    ensures { (program : Program) (params : List ℤ) (marked : List ℕ) (m : ℕ) (loops : List ℕ) (deps : List Dependence)
-        (blocks : List Block) (size : ℤ) (n : ℕ)
-        → pos 0 <ℤ size
-        → length params ≡ m
-        → ((d : Dependence) → In d deps → IsSizedDep loops d)
-        → IsSchedule m loops deps blocks
-        → HoldCovers program params marked deps
-        → (i j : ℕ) (c : PlacesConflict (walk_of program params) i j)
-        → is_marked marked (conflict_cell c).array ≡ false
-        → IsGoodPair size blocks n (instance c.earlier) (instance c.later) }
-{
-    conflicts_are_chains_of_covers();
-    instances_are_those_of_statements();
-    statements_are_numbered();
-    walks_are_in_order();
-}
 
 /// A row of a schedule rises by at most u.n + w at each pair of a dependence that is left when its band begins: the
 /// values of all items before are equal there.

@@ -6,11 +6,11 @@ use Rattle.std.proofs.lemmas.List.{append_assoc, length-append}
 use Rattle.whole_numbers.proofs.Lexicographic.{LexLess-append_iff}
 use Rattle.loop_tree.specs.Tiling.{TileRow, Items, item_values, coordinates, wave_sum, order_of}
 use Rattle.schedule_rows.specs.Items.{Marked, Block, scalar, band}
-use Rattle.schedule_rows.proofs.Tiling.{length-values}
+use Rattle.schedule_rows.proofs.BlockOrder.{length-values}
 use Rattle.tile_skew.specs.Places.{place_of}
 use Rattle.tile_skew.specs.Tilings.{rows_at, leading_at, first_band_at, statement_items}
 use Rattle.tile_skew.specs.Tilings.{statements_from}
-use Rattle.tile_skew.proofs.TilingAgreement.{values_agree, items_found}
+use Rattle.tile_skew.proofs.TilingAgreement.{items_found, order_by, values_agree}
 
 -- behind fronts of one length, what matters is what stands behind equal ones
 behind_fronts : (xs ys us vs ms ns : List ℤ) → length xs ≡ length ys → (xs ≡ ys → LexLess us vs ↔ LexLess ms ns)
@@ -134,10 +134,6 @@ in_order_of bs size count n x y hx hy fx fy most =
     let z = pos size in
     let s = statement_items bs x.number in
     let t = statement_items bs y.number in
-    let Order : Instance → Items → List ℤ = λ i u.
-    (map pos u.leading ++ wave_sum z u.band i.turns ∷ [])
-    ++ ((map pos u.leading ++ coordinates z u.band i.turns)
-    ++ (item_values u i.turns ++ (i.turns ++ (zeros (5 - length i.turns) ++ pos i.number ∷ [])))) in
     let leads = length-map s.leading pos ∙ (leading_lengths bs x.number y.number ∙ sym (length-map t.leading pos)) in
     let tiles = length-map s.band (λ (r : TileRow). floor (value_of r.form x.turns) z)
     ∙ (band_lengths bs x.number y.number
@@ -151,10 +147,10 @@ in_order_of bs size count n x y hx hy fx fy most =
     items turns in
     let first = place_parts z n s x.turns (pos x.number ∷ []) in
     let second = place_parts z n t y.turns (pos y.number ∷ []) in
-    let third = ap (Order x) (items_found bs count x.number hx)
+    let third = ap (order_by z x) (items_found bs count x.number hx)
     ∙ order_parts n (map pos s.leading) (wave_sum z s.band x.turns ∷ []) (coordinates z s.band x.turns)
     (item_values s x.turns) x.turns (pos x.number ∷ []) fx most in
-    let fourth = ap (Order y) (items_found bs count y.number hy)
+    let fourth = ap (order_by z y) (items_found bs count y.number hy)
     ∙ order_parts n (map pos t.leading) (wave_sum z t.band y.turns ∷ []) (coordinates z t.band y.turns)
     (item_values t y.turns) y.turns (pos y.number ∷ []) fy most in
     as_other first second third fourth same

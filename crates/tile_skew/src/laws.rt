@@ -15,7 +15,9 @@ ghost use Rattle.iteration_domains.specs.Dependence.{Dependence};
 ghost use Rattle.iteration_domains.specs.Held.{HoldCovers, HoldSources};
 ghost use Rattle.iteration_domains.specs.Instances.{IsInstanceOf};
 ghost use Rattle.iteration_domains.specs.Model.{KernelModel, Modelled, model_of};
-ghost use Rattle.loop_tree.specs.Tiling.{IsFlowPlan, IsGoodFor, IsGoodPlan, item_values, kept, order_of};
+ghost use Rattle.loop_tree.specs.Tiling.{IsFlowPlan, IsGoodFor, IsGoodPlan, IsInOrder, item_values, kept, order_of};
+ghost use Rattle.schedule_rows.specs.Bands.{Along};
+ghost use Rattle.schedule_rows.specs.Dependences.{Relates};
 ghost use Rattle.schedule_rows.specs.Items.{Block, Marked, values};
 ghost use Rattle.schedule_rows.specs.Next.{IsSizedDep};
 ghost use Rattle.schedule_rows.specs.Outcomes.{IsSchedule};
@@ -27,10 +29,30 @@ ghost use Rattle.tile_skew.specs.Tilings.{first_band, form_at, schedule_tiling, 
 
 use iteration_domains::domains_hold_the_instances;
 use null_space::{kernel_vectors_are_kept, rows_take_kernel_vectors};
-use schedule_rows::{
-    schedules_are_good_plans, schedules_have_small_items, schedules_of_covers_are_good_plans,
+use schedule_rows::schedules_have_small_items;
+use scop_syntax::{
+    conflicts_are_chains_of_covers, instances_are_those_of_statements, statements_are_numbered,
+    walks_are_in_order,
 };
-use scop_syntax::{instances_are_those_of_statements, statements_are_numbered, walks_are_in_order};
+
+/// A pair whose scalars and bands do not fall, block by block, is in order under the tiling of the blocks, for any size
+/// of tiles: both lie in one tile, the first before the second, or the wave rises.
+pub fn pairs_along_blocks_are_in_order()
+    ensures { (size count : ℕ) (blocks : List Block) (i j : ℕ) (x y : Instance) → 0 < size → x.number < count
+        → y.number < count → (x.number ≡ y.number → length x.turns ≡ length y.turns)
+        → (x.number ≡ y.number → LexLess x.turns y.turns) → Along blocks x y (x.number ≡ y.number)
+        → IsInOrder (schedule_tiling size count blocks) i x j y }
+{}
+
+/// So is each pair of a dependence under the tiling of its schedule, where the dependence's pairs of one statement are in
+/// order.
+pub fn tiled_dependences_are_in_order()
+    ensures { (m : ℕ) (loops : List ℕ) (deps : List Dependence) (blocks : List Block) (size i j : ℕ) → 0 < size
+        → ((d : Dependence) → In d deps → IsSizedDep loops d) → IsSchedule m loops deps blocks
+        → (d : Dependence) (params : List ℤ) (x y : Instance) → In d deps → length params ≡ m
+        → Relates params d x y → (x.number ≡ y.number → LexLess x.turns y.turns)
+        → IsInOrder (schedule_tiling size (length loops) blocks) i x j y }
+{}
 
 /// The tiling of a schedule of dependences that hold the covers of a program's walk, but for those on marked arrays, is
 /// a good plan but for these, for any size of tiles: two places that conflict on another array lie in one tile, the
@@ -43,9 +65,11 @@ pub fn tiled_schedules_are_good_plans()
         → IsSchedule (model_of program).parameters (loops_in (model_of program)) deps blocks
         → IsGoodFor program params marked (schedule_tiling size (length (model_of program).statements) blocks) }
 {
+    conflicts_are_chains_of_covers();
     instances_are_those_of_statements();
     statements_are_numbered();
-    schedules_of_covers_are_good_plans();
+    walks_are_in_order();
+    pairs_along_blocks_are_in_order();
 }
 
 /// The tiling of a schedule of dependences that hold the reads of a program's walk with their last writers is a flow plan,
@@ -62,7 +86,7 @@ pub fn tiled_flows_are_flow_plans()
     instances_are_those_of_statements();
     statements_are_numbered();
     walks_are_in_order();
-    schedules_are_good_plans();
+    tiled_dependences_are_in_order();
 }
 
 /// The whole points of a statement's scan set are exactly the places of its instances, at all parameters.

@@ -17,10 +17,10 @@ mod sets;
 mod statement_sets;
 
 pub use laws::{
-    kept_orders_are_good_plans, places_are_in_order, rows_that_are_not_parallel_carry,
-    scan_sets_are_alike, scan_sets_can_be_scanned, scan_sets_hold_the_instances,
-    tiled_flows_are_flow_plans, tiled_schedules_are_good_plans,
-    tilings_have_the_items_of_schedules,
+    kept_orders_are_good_plans, pairs_along_blocks_are_in_order, places_are_in_order,
+    rows_that_are_not_parallel_carry, scan_sets_are_alike, scan_sets_can_be_scanned,
+    scan_sets_hold_the_instances, tiled_dependences_are_in_order, tiled_flows_are_flow_plans,
+    tiled_schedules_are_good_plans, tilings_have_the_items_of_schedules,
 };
 pub use statement_sets::{tiled, tiling, tiling_and_sets};
 
