@@ -2,8 +2,8 @@
 //! bounds a dependence, and behind one row of one of two statements, where it only grows the rank.
 
 ghost use Rattle.std.specs.Prelude.{◌≡◌, ◌∷◌, [], true, IfOk, map};
-ghost use Rattle.schedule_rows.specs.Schedule.{loops_in};
 ghost use Rattle.pluto_systems.specs.Posing.{AreCoefficientRows, IsBetween};
+ghost use Rattle.pluto_systems.specs.Schedule.{loops_in};
 
 use conflict_deps::conflicts;
 use farkas::{bounded_rows, legal_rows};

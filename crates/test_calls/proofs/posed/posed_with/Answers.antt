@@ -2,7 +2,7 @@
 use Rattle.scop_syntax.proofs.Common.{◌≡◌, ◌∷◌, [], ℕ, List, subst, sym, inl, inr, In}
 use Rattle.integer_sets.specs.Constraints.{Constraints}
 use Rattle.iteration_domains.specs.Dependence.{Dependence}
-use Rattle.schedule_rows.specs.Schedule.{loops_in}
+use Rattle.pluto_systems.specs.Schedule.{loops_in}
 use Rattle.pluto_systems.specs.Posing.{IsBetween, IsFarkasOf, RuledDep, ruled_dep, ruled_deps}
 use Rattle.test_calls.proofs.posed.posed_with.Goals as goal
 
