@@ -7,6 +7,7 @@ use Rattle.pluto_systems.specs.FmStop.TheVariants as fm
 use Rattle.pluto_systems.specs.Stuck.TheVariants as stuck
 use Rattle.schedule_rows.specs.Next.{State}
 use Rattle.pluto_search.specs.declared.kept.Kept.TheVariants as kept
+use Rattle.pluto_search.specs.declared.state.Search.{Search}
 use Rattle.pip_solver.specs.Minimum.{Minimizes}
 use Rattle.pluto_search.specs.Questions.{StopsRows, StopsMinimum, AsksFirst, Answered, AnswersAt, StopsAt}
 use Rattle.pluto_search.specs.Searching.{Keeps}
@@ -42,38 +43,40 @@ stop_of P Q kept.NoMemory f h = tt
 stop_of P Q (kept.Large row) f h = absurd h
 
 -- a question that is asked at a state
-pub stop_at : (m : ℕ) (loops : List ℕ) (budget : ℕ) (s : State) (k : kept.the_data)
-    → IsStop (StopsAt m loops budget s) k → KeepsAt m loops budget s k
-stop_at m loops budget s (kept.Stuck stop) h = h
-stop_at m loops budget s (kept.NoRow posed) h = absurd h
-stop_at m loops budget s (kept.NoOrder component) h = absurd h
-stop_at m loops budget s kept.NoMemory h = tt
-stop_at m loops budget s (kept.Large row) h = absurd h
+pub stop_at : (g : Search) (s : State) (k : kept.the_data)
+    → IsStop (StopsAt g.parameters g.loops.now g.budget s) k → KeepsAt g s k
+stop_at g s (kept.Stuck stop) h = h
+stop_at g s (kept.NoRow posed) h = absurd h
+stop_at g s (kept.NoOrder component) h = absurd h
+stop_at g s kept.NoMemory h = tt
+stop_at g s (kept.Large row) h = absurd h
 
 -- at the first
-pub stop_first : (m : ℕ) (loops : List ℕ) (deps : List Dependence) (budget : ℕ) (k : kept.the_data)
-    → IsStop (AsksFirst budget deps) k → Keeps m loops deps budget k
-stop_first m loops deps budget (kept.Stuck stop) h = (h.0, inl h.1)
-stop_first m loops deps budget (kept.NoRow posed) h = absurd h
-stop_first m loops deps budget (kept.NoOrder component) h = absurd h
-stop_first m loops deps budget kept.NoMemory h = tt
-stop_first m loops deps budget (kept.Large row) h = absurd h
+pub stop_first : (g : Search) (deps : List Dependence) (k : kept.the_data) → IsStop (AsksFirst g.budget deps) k
+    → Keeps g.parameters g.loops.now deps g.budget k
+stop_first g deps (kept.Stuck stop) h = (h.0, inl h.1)
+stop_first g deps (kept.NoRow posed) h = absurd h
+stop_first g deps (kept.NoOrder component) h = absurd h
+stop_first g deps kept.NoMemory h = tt
+stop_first g deps (kept.Large row) h = absurd h
 
 -- what keeps the order behind a state that is reached
-pub keeps : (m : ℕ) (loops : List ℕ) (deps : List Dependence) (budget : ℕ) (s : State) (k : kept.the_data)
-    → Answered m loops budget deps s → KeepsAt m loops budget s k → Keeps m loops deps budget k
-keeps m loops deps budget s (kept.Stuck stop) r h = (h.0, inr (s, r, h.1))
-keeps m loops deps budget s (kept.NoRow posed) r h = (s, r, h.0, h.1, h.2)
-keeps m loops deps budget s (kept.NoOrder component) r h =
+pub keeps : (g : Search) (deps : List Dependence) (s : State) (k : kept.the_data)
+    → Answered g.parameters g.loops.now g.budget deps s → KeepsAt g s k
+    → Keeps g.parameters g.loops.now deps g.budget k
+keeps g deps s (kept.Stuck stop) r h = (h.0, inr (s, r, h.1))
+keeps g deps s (kept.NoRow posed) r h = (s, r, h.0, h.1, h.2)
+keeps g deps s (kept.NoOrder component) r h =
     record { last = s; answered = r; own = h.0; next = h.1 }
-keeps m loops deps budget s kept.NoMemory r h = tt
-keeps m loops deps budget s (kept.Large row) r h = record { last = s; answered = r; own = h.0; next = h.1 }
+keeps g deps s kept.NoMemory r h = tt
+keeps g deps s (kept.Large row) r h = record { last = s; answered = r; own = h.0; next = h.1 }
 
 -- a row that is too large
-pub large_keeps : (m : ℕ) (loops : List ℕ) (budget : ℕ) (s : State) (n : ℕ) (k : kept.the_data) → IsLarge n k
-    → AnswersAt m loops budget s → Next m loops s (large n) → KeepsAt m loops budget s k
-large_keeps m loops budget s n (kept.Stuck stop) h a x = absurd h
-large_keeps m loops budget s n (kept.NoRow posed) h a x = absurd h
-large_keeps m loops budget s n (kept.NoOrder component) h a x = absurd h
-large_keeps m loops budget s n kept.NoMemory h a x = tt
-large_keeps m loops budget s n (kept.Large row) h a x = (a, subst (λ (z : ℕ). Next m loops s (large z)) (sym h) x)
+pub large_keeps : (g : Search) (s : State) (n : ℕ) (k : kept.the_data) → IsLarge n k
+    → AnswersAt g.parameters g.loops.now g.budget s → Next g.parameters g.loops.now s (large n) → KeepsAt g s k
+large_keeps g s n (kept.Stuck stop) h a x = absurd h
+large_keeps g s n (kept.NoRow posed) h a x = absurd h
+large_keeps g s n (kept.NoOrder component) h a x = absurd h
+large_keeps g s n kept.NoMemory h a x = tt
+large_keeps g s n (kept.Large row) h a x =
+    (a, subst (λ (z : ℕ). Next g.parameters g.loops.now s (large z)) (sym h) x)

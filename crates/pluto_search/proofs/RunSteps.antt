@@ -11,13 +11,15 @@ use Rattle.schedule_rows.specs.Measure.{measure}
 use Rattle.schedule_rows.proofs.BandStarts.{path_more}
 use Rattle.schedule_rows.proofs.NextSteps.{next_goes}
 use Rattle.schedule_rows.proofs.Measures.{step_falls}
+use Rattle.pluto_search.specs.declared.state.Search.{Search}
 use Rattle.pluto_search.specs.Questions.{AnswersFirst, AnswersAt, AnswersAlong, Answered, ComesAnswered}
 use Rattle.pluto_search.specs.Searching.{Searches}
 use Rattle.pluto_search.proofs.NextStates.{laws}
 
 -- the measure of the loop
-pub falls : (m : ℕ) (loops : List ℕ) (s t : State) → Next m loops s (goes t) → measure loops t < measure loops s
-falls m loops s t n = step_falls laws m loops s t (next_goes m loops s t n)
+pub falls : (g : Search) (s t : State) → Next g.parameters g.loops.now s (goes t)
+    → measure g.loops.now t < measure g.loops.now s
+falls g s t n = step_falls laws g.parameters g.loops.now s t (next_goes g.parameters g.loops.now s t n)
 
 path_runs : (m : ℕ) (loops : List ℕ) (s : State) (vs : List State) (t : State) (blocks : List Block)
     → Path m loops s vs t → Next m loops t (ends blocks) → Runs m loops s vs blocks
@@ -25,10 +27,11 @@ path_runs m loops s [] t blocks p n = subst (λ (z : State). Next m loops z (end
 path_runs m loops s (v ∷ vs) t blocks p n = (p.0, path_runs m loops v vs t blocks p.1 n)
 
 -- the first state, the first questions answered
-pub answered_first : (m : ℕ) (loops : List ℕ) (budget : ℕ) (deps taken : List Dependence) (s : State)
-    → s ≡ state [] [] taken → Restricts m [] deps taken → AnswersFirst budget deps → Answered m loops budget deps s
-answered_first m loops budget deps taken s e r a =
-    subst (λ (z : State). Answered m loops budget deps z) (sym e)
+pub answered_first : (g : Search) (deps taken : List Dependence) (s : State) → s ≡ state [] [] taken
+    → Restricts g.parameters [] deps taken → AnswersFirst g.budget deps
+    → Answered g.parameters g.loops.now g.budget deps s
+answered_first g deps taken s e r a =
+    subst (Answered g.parameters g.loops.now g.budget deps) (sym e)
     (record {
       reached = record { taken = taken; states = []; takes = r; path = refl };
       first = a;
@@ -41,10 +44,10 @@ along_more m loops budget s [] t u p a own = (subst (λ (z : State). AnswersAt m
 along_more m loops budget s (v ∷ vs) t u p a own = (a.0, along_more m loops budget v vs t u p.1 a.1 own)
 
 -- one state further, all questions of the last one answered
-pub answered_more : (m : ℕ) (loops : List ℕ) (budget : ℕ) (deps : List Dependence) (s t : State)
-    → Answered m loops budget deps s → AnswersAt m loops budget s → Next m loops s (goes t)
-    → Answered m loops budget deps t
-answered_more m loops budget deps s t r own n =
+pub answered_more : (g : Search) (deps : List Dependence) (s t : State)
+    → Answered g.parameters g.loops.now g.budget deps s → AnswersAt g.parameters g.loops.now g.budget s
+    → Next g.parameters g.loops.now s (goes t) → Answered g.parameters g.loops.now g.budget deps t
+answered_more g deps s t r own n =
     let first = state [] [] r.reached.taken in
     let old = r.reached.states in
     record {
@@ -52,10 +55,10 @@ answered_more m loops budget deps s t r own n =
         taken = r.reached.taken;
         states = old ++ t ∷ [];
         takes = r.reached.takes;
-        path = path_more m loops first old s t r.reached.path n;
+        path = path_more g.parameters g.loops.now first old s t r.reached.path n;
       };
       first = r.first;
-      along = along_more m loops budget first old s t r.reached.path r.along own;
+      along = along_more g.parameters g.loops.now g.budget first old s t r.reached.path r.along own;
     }
 
 -- a run that comes to blocks is a schedule

@@ -1,4 +1,5 @@
 -- What only proofs and private contracts need.
+pub mod Good
 pub mod Shared
 pub mod Sizes
 pub mod StepParts

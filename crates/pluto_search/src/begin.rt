@@ -1,8 +1,8 @@
 //! Where the search begins.
-ghost use Rattle.std.specs.Prelude.{◌≡◌, ℕ, [], IfOk, map};
+ghost use Rattle.std.specs.Prelude.{◌≡◌, [], IfOk, map};
 ghost use Rattle.null_space.specs.Narrowing.{kernel_vectors};
 ghost use Rattle.schedule_rows.specs.Outcomes.{state};
-ghost use Rattle.pluto_search.specs.steps.Steps.{state_of, IsGood};
+ghost use Rattle.pluto_search.specs.steps.Steps.{state_of, IsOf};
 ghost use Rattle.pluto_search.specs.Searching.{AreBetween};
 
 use crate::state::{Progress, Search};
@@ -25,13 +25,18 @@ fn first_vectors(alloc: Global, search: &Search) -> Result<Vec<Rows>, AllocError
 }
 
 /// Nothing is done yet.
-pub fn begin(alloc: Global, search: &Search, taken: Vec<Dep>) -> Result<Progress, AllocError>
+pub fn begin<'a>(
+    alloc: Global,
+    search: &'a Search<'a>,
+    taken: Vec<Dep>,
+) -> Result<Progress<'a>, AllocError>
+    requires { AreBetween search.now.parameters search.now.loops.now taken.items }
     ensures first { IfOk result (λ p. state_of p ≡ state [] [] taken.items) }
-    ensures good { IfOk result (λ p. (m budget : ℕ) → AreBetween m search.now.loops.now taken.items
-        → IsGood m search.now.loops.now budget p) }
+    ensures own { IfOk result (IsOf search.now) }
 {
     let vectors = first_vectors(alloc, search)?;
     Ok(Progress {
+        search,
         closed: Vec::new(alloc),
         rows: Vec::new(alloc),
         ruled: Vec::new(alloc),

@@ -1,25 +1,23 @@
 //! The next item, or why there is none.
 ghost use Rattle.std.specs.Prelude.{◌≡◌, true, false, ◌++◌, [], All, IfOk, IfErr, length, map, suc, ◌+◌};
-ghost use Rattle.scop_syntax.specs.Members.{In};
-ghost use Rattle.iteration_domains.specs.Dependence.{Dependence};
 ghost use Rattle.schedule_rows.specs.Next.{rows_of};
 ghost use Rattle.schedule_rows.specs.Posed.{IsFull};
 ghost use Rattle.schedule_rows.specs.Outcomes.{items_in};
-ghost use Rattle.schedule_rows.specs.Schedule.{block_of, marked_of};
+ghost use Rattle.schedule_rows.specs.Schedule.{block_of, row_of};
 ghost use Rattle.pluto_systems.specs.Placing.{columns_of, row_from};
 ghost use Rattle.pluto_systems.specs.Posing.{dep_of};
 ghost use Rattle.pluto_search.specs.steps.StepParts.{AreWithin, Ended, IsClosed, Cuts, IsLarge, IsAppended, HasAllRows};
-ghost use Rattle.pluto_search.specs.Questions.{AnswersRestricted, AreRuledBy, FindsNone, FindsRow, IsPosedAt};
+ghost use Rattle.pluto_search.specs.Questions.{AnswersRestricted, FindsNone, FindsRow, IsPosedAt};
 ghost use Rattle.pluto_search.specs.Questions.{StopsRestricted, StopsRowsOf};
-ghost use Rattle.pluto_search.specs.steps.Sizes.{CanTell, CanNarrowEach};
-ghost use Rattle.pluto_search.specs.steps.Steps.{AllRuled, going, state_of, vectors_in, IsGood, Steps};
+ghost use Rattle.pluto_search.specs.steps.Good.{IsGoodRow};
+ghost use Rattle.pluto_search.specs.steps.Steps.{AreRules, HasMore, going, state_of, Steps};
 ghost use Rattle.pluto_search.specs.steps.Stopping.{IsStop};
 
 use crate::ends::{close, items_in, numbered, remaining, shared, uncut, with_scalar};
 use crate::kept::Kept;
 use crate::restricting::restrict_all;
 use crate::rows::{is_parallel, is_within, narrow_all, row_from};
-use crate::state::{Progress, Search, Step};
+use crate::state::{Progress, Step};
 use crate::stops::{by_rows, by_solver};
 use affine_forms::push;
 use integer_sets::System;
@@ -76,16 +74,20 @@ fn end(alloc: Global, loops: &[usize], closed: Vec<Block>, left: &[Dep]) -> Resu
 }
 
 /// All statements have full rank: the last restriction, and the end.
-fn finish(alloc: Global, search: &Search, progress: Progress) -> Result<Step, Kept>
-    requires good { IsGood search.now.parameters search.now.loops.now search.now.budget progress }
-    requires full { IsFull search.now.loops.now (rows_of (state_of progress)) }
-    ensures { Steps search.now.parameters search.now.loops.now search.now.budget (state_of progress) result }
+fn finish<'a>(alloc: Global, progress: Progress<'a>) -> Result<Step<'a>, Kept>
+    requires { IsFull progress.search.now.loops.now (rows_of (state_of progress)) }
+    ensures { Steps progress.entry.search.now (state_of progress.entry) result }
 {
     let deps = match remaining(alloc, &progress) {
         Err(_) => return Err(Kept::NoMemory),
         Ok(deps) => deps,
     };
-    let Progress { closed, rows, .. } = progress;
+    let Progress {
+        search,
+        closed,
+        rows,
+        ..
+    } = progress;
     let left = match restrict_all(alloc, search.parameters, &rows, &deps, search.budget) {
         Err(kept) => return Err(kept),
         Ok(left) => left,
@@ -101,55 +103,51 @@ fn finish(alloc: Global, search: &Search, progress: Progress) -> Result<Step, Ke
 }
 
 /// The band is closed.
-fn close_band(
+fn close_band<'a>(
     alloc: Global,
-    search: &Search,
-    closed: Vec<Block>,
-    rows: Vec<Marked>,
+    progress: Progress<'a>,
     deps: Vec<Dep>,
-    vectors: Vec<Rows>,
-) -> Result<Progress, Kept>
-    requires tells { (d : Dependence) → In d deps.items
-        → All (λ r. CanTell search.now.parameters r.row d) (map marked_of rows.items) }
-    requires parameters { (d : Dependence) → In d deps.items → d.system.parameters ≡ search.now.parameters }
-    ensures closed { IfOk result (IsClosed search.now.parameters (map block_of closed.items) (map marked_of rows.items)
-        deps.items (map (λ vs. map (λ v. v.items) vs.items) vectors.items)) }
-    ensures answered { IfOk result (λ _.
-        AnswersRestricted search.now.parameters (map marked_of rows.items) search.now.budget deps.items) }
-    ensures stops { IfErr result
-        (IsStop (StopsRestricted search.now.parameters (map marked_of rows.items) search.now.budget deps.items)) }
+) -> Result<Progress<'a>, Kept>
+    requires { deps.items ≡ (state_of progress).remaining }
+    ensures closed { IfOk result (IsClosed progress.entry deps.items) }
+    ensures answered { IfOk result (λ _. AnswersRestricted progress.entry.search.now.parameters
+        (state_of progress.entry).rows progress.entry.search.now.budget deps.items) }
+    ensures stops { IfErr result (IsStop (StopsRestricted progress.entry.search.now.parameters
+        (state_of progress.entry).rows progress.entry.search.now.budget deps.items)) }
 {
+    let search = progress.search;
+    let rows = progress.rows;
     let kept = match restrict_all(alloc, search.parameters, &rows, &deps, search.budget) {
         Err(kept) => return Err(kept),
         Ok(kept) => kept,
     };
-    match close(closed, rows) {
+    match close(progress.closed, rows) {
         Err(_) => Err(Kept::NoMemory),
         Ok(closed) => Ok(Progress {
+            search,
             closed,
             rows: Vec::new(alloc),
             ruled: Vec::new(alloc),
             bare: kept,
-            vectors,
+            vectors: progress.vectors,
         }),
     }
 }
 
 /// A scalar item drops the dependences between components, or nothing goes on.
-fn cut(
+fn cut<'a>(
     alloc: Global,
-    loops: &[usize],
-    closed: Vec<Block>,
+    progress: Progress<'a>,
     deps: Vec<Dep>,
-    vectors: Vec<Rows>,
     posed: System,
-) -> Result<Progress, Kept>
-    requires { AreWithin (length loops.now) deps.items }
-    ensures { Cuts loops.now (map block_of closed.items) deps.items
-        (map (λ vs. map (λ v. v.items) vs.items) vectors.items) posed result }
+) -> Result<Progress<'a>, Kept>
+    requires none { progress.rows.items ≡ [] }
+    requires left { deps.items ≡ (state_of progress).remaining }
+    requires within { AreWithin (length progress.search.now.loops.now) deps.items }
+    ensures { Cuts progress.entry deps.items posed result }
 {
     let count = deps.len();
-    let numbers = match numbered(alloc, loops.len(), &deps) {
+    let numbers = match numbered(alloc, progress.search.loops.len(), &deps) {
         Err(_) => return Err(Kept::NoMemory),
         Ok(numbers) => numbers,
     };
@@ -160,21 +158,22 @@ fn cut(
     if kept.len() >= count {
         return Err(Kept::NoRow { posed });
     }
-    match with_scalar(closed, numbers) {
+    match with_scalar(progress.closed, numbers) {
         Err(_) => Err(Kept::NoMemory),
         Ok(closed) => Ok(Progress {
+            search: progress.search,
             closed,
             rows: Vec::new(alloc),
             ruled: Vec::new(alloc),
             bare: kept,
-            vectors,
+            vectors: progress.vectors,
         }),
     }
 }
 
 /// A step that goes on, where it does.
-fn goes(progress: Result<Progress, Kept>) -> Result<Step, Kept>
-    ensures { result ≡ going progress }
+fn goes<'a>(progress: Result<Progress<'a>, Kept>) -> Result<Step<'a>, Kept>
+    ensures { result ≡ going progress.entry }
 {
     match progress {
         Err(kept) => Err(kept),
@@ -183,27 +182,22 @@ fn goes(progress: Result<Progress, Kept>) -> Result<Step, Kept>
 }
 
 /// There is no row: the band is closed, or a scalar item drops dependences, or nothing goes on.
-fn lack(alloc: Global, search: &Search, progress: Progress, posed: System) -> Result<Step, Kept>
-    requires good { IsGood search.now.parameters search.now.loops.now search.now.budget progress }
-    requires more { IsFull search.now.loops.now (rows_of (state_of progress)) → ⊥ }
-    requires none { FindsNone search.now.parameters search.now.loops.now search.now.budget (state_of progress) }
-    requires posed { IsPosedAt search.now.parameters search.now.loops.now search.now.budget (state_of progress) posed }
-    ensures { Steps search.now.parameters search.now.loops.now search.now.budget (state_of progress) result }
+fn lack<'a>(alloc: Global, progress: Progress<'a>, posed: System) -> Result<Step<'a>, Kept>
+    requires more { HasMore progress.search.now (state_of progress) }
+    requires none { FindsNone progress.search.now.parameters progress.search.now.loops.now progress.search.now.budget
+        (state_of progress) }
+    requires posed { IsPosedAt progress.search.now.parameters progress.search.now.loops.now progress.search.now.budget
+        (state_of progress) posed }
+    ensures { Steps progress.entry.search.now (state_of progress.entry) result }
 {
     let deps = match remaining(alloc, &progress) {
         Err(_) => return Err(Kept::NoMemory),
         Ok(deps) => deps,
     };
-    let Progress {
-        closed,
-        rows,
-        vectors,
-        ..
-    } = progress;
-    if rows.is_empty() {
-        return goes(cut(alloc, search.loops, closed, deps, vectors, posed));
+    if progress.rows.is_empty() {
+        return goes(cut(alloc, progress, deps, posed));
     }
-    goes(close_band(alloc, search, closed, rows, deps, vectors))
+    goes(close_band(alloc, progress, deps))
 }
 
 /// The least row is too large; it would be the next item.
@@ -224,14 +218,14 @@ fn too_large(progress: &Progress) -> Kept
 }
 
 /// The least row is appended with its mark.
-fn append(
+fn append<'a>(
     alloc: Global,
-    mut progress: Progress,
+    mut progress: Progress<'a>,
     row: Row,
     parallel: bool,
-) -> Result<Progress, AllocError>
-    requires { CanNarrowEach (map (λ c. c.coefficients.items) row.parts.items) (vectors_in progress) }
-    ensures { IfOk result (IsAppended progress row parallel) }
+) -> Result<Progress<'a>, AllocError>
+    requires { IsGoodRow progress.search.now.loops.now (row_of row) }
+    ensures { IfOk result (IsAppended progress.entry row parallel) }
 {
     let vectors = narrow_all(alloc, &row, &progress.vectors)?;
     push(&mut progress.rows, Marked { row, parallel })?;
@@ -240,20 +234,20 @@ fn append(
 }
 
 /// The least row is appended, marked by the questions of `phi_T - phi_S >= 1`; or it is too large.
-fn take(
+fn take<'a>(
     alloc: Global,
-    search: &Search,
-    progress: Progress,
+    progress: Progress<'a>,
     numbers: Vec<i128>,
-) -> Result<Step, Kept>
-    requires good { IsGood search.now.parameters search.now.loops.now search.now.budget progress }
+) -> Result<Step<'a>, Kept>
+    requires rules { AreRules progress.search.now.budget progress.ruled.items }
     requires ruled { progress.bare.items ≡ [] }
-    requires more { IsFull search.now.loops.now (rows_of (state_of progress)) → ⊥ }
-    requires size { length numbers.items ≡ columns_of search.now.parameters search.now.loops.now }
-    requires least { FindsRow search.now.parameters search.now.loops.now search.now.budget (state_of progress)
-        (row_from search.now.parameters search.now.loops.now numbers.items) }
-    ensures { Steps search.now.parameters search.now.loops.now search.now.budget (state_of progress) result }
+    requires more { HasMore progress.search.now (state_of progress) }
+    requires size { length numbers.items ≡ columns_of progress.search.now.parameters progress.search.now.loops.now }
+    requires least { FindsRow progress.search.now.parameters progress.search.now.loops.now progress.search.now.budget
+        (state_of progress) (row_from progress.search.now.parameters progress.search.now.loops.now numbers.items) }
+    ensures { Steps progress.entry.search.now (state_of progress.entry) result }
 {
+    let search = progress.search;
     let row = match row_from(alloc, search.parameters, search.loops, &numbers) {
         Err(_) => return Err(Kept::NoMemory),
         Ok(row) => row,
@@ -279,8 +273,7 @@ fn rule_all(
     budget: u64,
 ) -> Result<Vec<Ruled>, Kept>
     ensures deps { IfOk result (λ v. map dep_of v.items ≡ map dep_of ruled.items ++ bare.items) }
-    ensures ruled { IfOk result (λ v. AllRuled ruled.items → AllRuled v.items) }
-    ensures by_run { IfOk result (λ v. AreRuledBy budget ruled.items → AreRuledBy budget v.items) }
+    ensures rules { IfOk result (λ v. AreRules budget ruled.items → AreRules budget v.items) }
     ensures stops { IfErr result (IsStop (StopsRowsOf budget bare.items)) }
 {
     let mut all = ruled;
@@ -297,61 +290,57 @@ fn rule_all(
 }
 
 /// All dependences that remain have their rows then.
-fn with_all_rows(alloc: Global, progress: Progress, budget: u64) -> Result<Progress, Kept>
-    ensures ruled { IfOk result (HasAllRows budget progress) }
-    ensures stops { IfErr result (IsStop (StopsRowsOf budget progress.bare.items)) }
+fn with_all_rows<'a>(alloc: Global, progress: Progress<'a>) -> Result<Progress<'a>, Kept>
+    ensures ruled { IfOk result (HasAllRows progress.entry) }
+    ensures stops { IfErr result
+        (IsStop (StopsRowsOf progress.entry.search.now.budget progress.entry.bare.items)) }
 {
-    let Progress {
-        closed,
-        rows,
-        ruled,
-        bare,
-        vectors,
-    } = progress;
-    match rule_all(alloc, ruled, bare, budget) {
+    let search = progress.search;
+    match rule_all(alloc, progress.ruled, progress.bare, search.budget) {
         Err(kept) => Err(kept),
         Ok(ruled) => Ok(Progress {
-            closed,
-            rows,
+            search,
+            closed: progress.closed,
+            rows: progress.rows,
             ruled,
             bare: Vec::new(alloc),
-            vectors,
+            vectors: progress.vectors,
         }),
     }
 }
 
 /// The item that comes next where all dependences that remain have their rows: the least row, or what there is where
 /// the posed set has no point.
-fn next_row(alloc: Global, search: &Search, progress: Progress) -> Result<Step, Kept>
-    requires good { IsGood search.now.parameters search.now.loops.now search.now.budget progress }
+fn next_row<'a>(alloc: Global, progress: Progress<'a>) -> Result<Step<'a>, Kept>
+    requires rules { AreRules progress.search.now.budget progress.ruled.items }
     requires ruled { progress.bare.items ≡ [] }
-    requires more { IsFull search.now.loops.now (rows_of (state_of progress)) → ⊥ }
-    ensures { Steps search.now.parameters search.now.loops.now search.now.budget (state_of progress) result }
+    requires more { HasMore progress.search.now (state_of progress) }
+    ensures { Steps progress.entry.search.now (state_of progress.entry) result }
 {
-    let (parameters, loops) = (search.parameters, search.loops);
-    let posed = match posed_over(alloc, parameters, loops, &progress.ruled, &progress.vectors) {
+    let (search, loops) = (progress.search, progress.search.loops);
+    let posed = match posed_over(alloc, search.parameters, loops, &progress.ruled, &progress.vectors) {
         Err(_) => return Err(Kept::NoMemory),
         Ok(posed) => posed,
     };
     match least_point_in(alloc, &posed, search.budget) {
         Err(stop) => Err(by_solver(stop)),
-        Ok(None) => lack(alloc, search, progress, posed),
-        Ok(Some(numbers)) => take(alloc, search, progress, numbers),
+        Ok(None) => lack(alloc, progress, posed),
+        Ok(Some(numbers)) => take(alloc, progress, numbers),
     }
 }
 
 /// The next item of the determined run, or why there is none. The questions: rows of the dependences that remain, in
 /// order, then the minimum; of a new row whether it is parallel, up to the first dependence at which it rises; where a
 /// band ends the restricted dependences in order.
-pub fn next_item(alloc: Global, search: &Search, progress: Progress) -> Result<Step, Kept>
-    requires good { IsGood search.now.parameters search.now.loops.now search.now.budget progress }
-    ensures { Steps search.now.parameters search.now.loops.now search.now.budget (state_of progress) result }
+pub fn next_item<'a>(alloc: Global, progress: Progress<'a>) -> Result<Step<'a>, Kept>
+    requires { AreRules progress.search.now.budget progress.ruled.items }
+    ensures { Steps progress.entry.search.now (state_of progress.entry) result }
 {
     if is_full(&progress.vectors) {
-        return finish(alloc, search, progress);
+        return finish(alloc, progress);
     }
-    match with_all_rows(alloc, progress, search.budget) {
+    match with_all_rows(alloc, progress) {
         Err(kept) => Err(kept),
-        Ok(ruled) => next_row(alloc, search, ruled),
+        Ok(ruled) => next_row(alloc, ruled),
     }
 }

@@ -14,9 +14,13 @@ use schedule_rows::{Block, Schedule};
 use std::alloc::Global;
 
 /// The first state: the dependences that have a point.
-fn take_up(alloc: Global, search: &Search, deps: &[Dep]) -> Result<Progress, Kept>
+fn take_up<'a>(
+    alloc: Global,
+    search: &'a Search<'a>,
+    deps: &[Dep],
+) -> Result<Progress<'a>, Kept>
     requires { AreBetween search.now.parameters search.now.loops.now deps.now }
-    ensures { Starts search.now.parameters search.now.loops.now deps.now search.now.budget result }
+    ensures { Starts search.now deps.now result }
 {
     let taken = match restrict_all(alloc, search.parameters, &[], deps, search.budget) {
         Err(kept) => return Err(kept),
@@ -29,16 +33,16 @@ fn take_up(alloc: Global, search: &Search, deps: &[Dep]) -> Result<Progress, Kep
 }
 
 /// The blocks of the determined run, item by item.
-fn run(alloc: Global, search: &Search, deps: &[Dep]) -> Result<Vec<Block>, Kept>
+fn run<'a>(alloc: Global, search: &'a Search<'a>, deps: &[Dep]) -> Result<Vec<Block>, Kept>
     requires { AreBetween search.now.parameters search.now.loops.now deps.now }
-    ensures { Runs search.now.parameters search.now.loops.now deps.now search.now.budget result }
+    ensures { Runs search.now deps.now result }
 {
     let mut progress = match take_up(alloc, search, deps) {
         Err(kept) => return Err(kept),
         Ok(progress) => progress,
     };
     loop {
-        match next_item(alloc, search, progress) {
+        match next_item(alloc, progress) {
             Err(kept) => return Err(kept),
             Ok(Step::Ends(blocks)) => return Ok(blocks),
             Ok(Step::Goes(next)) => progress = next,

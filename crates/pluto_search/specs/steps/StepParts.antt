@@ -1,5 +1,5 @@
 -- What the parts of a step say.
-use Rattle.std.specs.Prelude.{◌≡◌, ℕ, ◌<◌, ◌≤◌, ℤ, Bool, List, [], ◌∷◌}
+use Rattle.std.specs.Prelude.{◌≡◌, ℕ, ◌<◌, ◌≤◌, Bool, List, [], ◌∷◌}
 use Rattle.std.specs.Prelude.{◌++◌, map, length, All, ◌⊎◌, Vec, Result, Ok, Err, ⊤}
 use Rattle.std.specs.Global.{Global}
 use Rattle.integer_sets.specs.Constraints.{Constraints}
@@ -14,9 +14,7 @@ use Rattle.schedule_rows.specs.declared.item.Block.TheVariants as code_block
 use Rattle.schedule_rows.specs.declared.item.Part as code_part
 use Rattle.schedule_rows.specs.declared.item.Row as code_row
 use Rattle.pluto_systems.specs.Unknowns.{Part}
-use Rattle.pluto_search.specs.steps.Sizes.{narrowed_each}
-use Rattle.pluto_search.specs.Questions.{AreRuledBy}
-use Rattle.pluto_search.specs.steps.Steps.{AllRuled, state_of, vectors_in}
+use Rattle.pluto_search.specs.steps.Steps.{AreRules, state_of}
 use Rattle.pluto_search.specs.declared.state.Progress.{Progress}
 use Rattle.pluto_search.specs.declared.kept.Kept.TheVariants as kept
 
@@ -45,26 +43,24 @@ Ended loops blocks left (Err (kept.NoOrder component)) = EndsWith loops blocks l
 Ended loops blocks left (Err kept.NoMemory) = ⊤
 Ended loops blocks left (Err (kept.Large row)) = ⊥
 
--- a band is closed behind blocks
-pub record IsClosed (m : ℕ) (closed : List Block) (rows : List Marked) (deps : List Dependence)
-    (vectors : List (List (List ℤ))) (p : Progress) : Type 0 where
-  pub closed_are : map block_of p.closed.items ≡ closed_by closed rows
-  pub none_open : p.rows.items ≡ []
-  pub none_ruled : p.ruled.items ≡ []
-  pub bare : Restricts m rows deps p.bare.items
-  pub vectors_are : vectors_in p ≡ vectors
+-- the band is closed, where these dependences remain
+pub record IsClosed (p : Progress) (deps : List Dependence) (q : Progress) : Type 0 where
+  pub search : q.search.now ≡ p.search.now
+  pub closed_are : map block_of q.closed.items ≡ closed_by (state_of p).closed (state_of p).rows
+  pub none_open : q.rows.items ≡ []
+  pub none_ruled : q.ruled.items ≡ []
+  pub bare : Restricts p.search.now.parameters (state_of p).rows deps q.bare.items
 
--- a scalar item stands behind blocks and drops dependences
-pub record IsCut (loops : List ℕ) (closed : List Block) (deps : List Dependence)
-    (vectors : List (List (List ℤ))) (p : Progress) : Type 0 where
+-- a scalar item stands behind the blocks and drops dependences
+pub record IsCut (p : Progress) (deps : List Dependence) (q : Progress) : Type 0 where
+  pub search : q.search.now ≡ p.search.now
   pub numbers : List ℕ
-  pub numbering : IsNumbering (length loops) (edges_of deps) numbers
-  pub closed_are : map block_of p.closed.items ≡ closed ++ scalar numbers ∷ []
-  pub none_open : p.rows.items ≡ []
-  pub none_ruled : p.ruled.items ≡ []
-  pub bare : Uncuts numbers deps p.bare.items
-  pub fewer : length p.bare.items < length deps
-  pub vectors_are : vectors_in p ≡ vectors
+  pub numbering : IsNumbering (length p.search.now.loops.now) (edges_of deps) numbers
+  pub closed_are : map block_of q.closed.items ≡ (state_of p).closed ++ scalar numbers ∷ []
+  pub none_open : q.rows.items ≡ []
+  pub none_ruled : q.ruled.items ≡ []
+  pub bare : Uncuts numbers deps q.bare.items
+  pub fewer : length q.bare.items < length deps
 
 -- no scalar item drops dependences
 pub record DropsNone (loops : List ℕ) (deps : List Dependence) : Type 0 where
@@ -75,14 +71,13 @@ pub record DropsNone (loops : List ℕ) (deps : List Dependence) : Type 0 where
   pub all : length deps ≤ length kept
 
 -- the one or the other, with the posed set that is told
-abbrev pub Cuts : List ℕ → List Block → List Dependence → List (List (List ℤ)) → Constraints
-    → Result Progress kept.the_data → Type 0
-Cuts loops closed deps vectors posed (Ok p) = IsCut loops closed deps vectors p
-Cuts loops closed deps vectors posed (Err (kept.Stuck stuck)) = ⊥
-Cuts loops closed deps vectors posed (Err (kept.NoRow told)) = (told ≡ posed) × DropsNone loops deps
-Cuts loops closed deps vectors posed (Err (kept.NoOrder component)) = ⊥
-Cuts loops closed deps vectors posed (Err kept.NoMemory) = ⊤
-Cuts loops closed deps vectors posed (Err (kept.Large row)) = ⊥
+abbrev pub Cuts : Progress → List Dependence → Constraints → Result Progress kept.the_data → Type 0
+Cuts p deps posed (Ok q) = IsCut p deps q
+Cuts p deps posed (Err (kept.Stuck stuck)) = ⊥
+Cuts p deps posed (Err (kept.NoRow told)) = (told ≡ posed) × DropsNone p.search.now.loops.now deps
+Cuts p deps posed (Err (kept.NoOrder component)) = ⊥
+Cuts p deps posed (Err kept.NoMemory) = ⊤
+Cuts p deps posed (Err (kept.Large row)) = ⊥
 
 -- item n is too large
 abbrev pub IsLarge : ℕ → kept.the_data → Type 0
@@ -93,17 +88,16 @@ IsLarge n kept.NoMemory = ⊤
 IsLarge n (kept.Large row) = row ≡ n
 
 -- the same state, where all dependences that remain have their rows
-pub record HasAllRows (budget : ℕ) (p q : Progress) : Type 0 where
+pub record HasAllRows (p q : Progress) : Type 0 where
+  pub search : q.search.now ≡ p.search.now
   pub same : state_of q ≡ state_of p
-  pub vectors : q.vectors.items ≡ p.vectors.items
   pub none_bare : q.bare.items ≡ []
-  pub ruled : AllRuled p.ruled.items → AllRuled q.ruled.items
-  pub by_run : AreRuledBy budget p.ruled.items → AreRuledBy budget q.ruled.items
+  pub rules : AreRules p.search.now.budget p.ruled.items → AreRules p.search.now.budget q.ruled.items
 
 -- a row with its mark is appended to the open band
 pub record IsAppended (p : Progress) (row : code_row.Row) (parallel : Bool) (q : Progress) : Type 0 where
+  pub search : q.search.now ≡ p.search.now
   pub closed : q.closed.items ≡ p.closed.items
   pub rows : q.rows.items ≡ p.rows.items ++ record { row = row; parallel = parallel } ∷ []
   pub ruled : q.ruled.items ≡ p.ruled.items
   pub bare : q.bare.items ≡ p.bare.items
-  pub vectors : vectors_in q ≡ narrowed_each (map (λ c. c.coefficients.items) row.parts.items) (vectors_in p)

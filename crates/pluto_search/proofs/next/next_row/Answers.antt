@@ -8,27 +8,16 @@ use Rattle.schedule_rows.specs.Next.{State, rows_of}
 use Rattle.schedule_rows.specs.Posed.{IsLeast, HasNone}
 use Rattle.whole_numbers.specs.Lexicographic as lexicographic
 use Rattle.pip_solver.specs.Minimum.{IsTaken, IsMinimum, Minimizes, held}
-use Rattle.pluto_systems.specs.Posing.{RuledDep, IsRuled, dep_of, IsBetween, AreVectorsOf, AreSmallVectors, HasPosed}
+use Rattle.pluto_systems.specs.Posing.{RuledDep, AreVectorsOf, AreSmallVectors, HasPosed}
 use Rattle.pluto_systems.specs.Placing.{columns_of, row_from}
 use Rattle.pluto_systems.proofs.Rows.{least_row, no_row}
-use Rattle.pluto_search.specs.declared.state.Progress.{Progress}
 use Rattle.pluto_search.specs.declared.kept.Kept.TheVariants as kept
 use Rattle.pluto_search.specs.Questions.{IsPosedAt, StopsAt, StopsMinimum}
-use Rattle.pluto_search.specs.steps.Steps.{state_of, IsGood, Steps}
+use Rattle.pluto_search.specs.steps.Steps.{state_of, Steps}
 use Rattle.pluto_search.proofs.GoodStates.{Vectors, shown, small_vectors, are_between, remains, posed_at}
 use Rattle.pluto_search.proofs.QuestionStops.{stop_of, stop_at, minimum_stops}
 use Rattle.pluto_search.proofs.next.next_row.Goals as goal
 use Rattle.pluto_search.proofs.next.next_row.Goals.{In-Ok}
-
-has_at : (m : ℕ) (loops : List ℕ) (budget : ℕ) (p : Progress) (ruled : List RuledDep) (vs : List Vectors)
-    (s : Constraints)
-    → ruled ≡ p.ruled.items → vs ≡ p.vectors.items → p.bare.items ≡ [] → IsGood m loops budget p
-    → ((before : List Row) → AreVectorsOf loops before (map shown vs) → HasPosed m loops (map dep_of ruled) before s)
-    → HasPosed m loops (state_of p).remaining (rows_of (state_of p)) s
-has_at m loops budget p ruled vs s e f b g h =
-    let before = rows_of (state_of p) in
-    subst (λ (ds : List Dependence). HasPosed m loops ds before s) (remains p ruled e b)
-    (h before (subst (λ (z : List Vectors). AreVectorsOf loops before (map shown z)) (sym f) g.vectors))
 
 none_at : (m : ℕ) (loops : List ℕ) (t : State) (s : Constraints) → HasPosed m loops t.remaining (rows_of t) s
     → s.dimensions ≡ columns_of m loops → IsMinimum s None → HasNone m loops t.remaining (rows_of t)
@@ -42,41 +31,42 @@ least_at m loops t s xs h d min =
     least_row m loops t.remaining (rows_of t) s xs h (subst (λ (n : ℕ). lexicographic.IsLeast (IsTaken s) n xs) d min)
 
 pub posed_over-requires-clause-between : goal.posed_over-requires-clause-between
-posed_over-requires-clause-between c =
-    let g = c.args.search.now in
-    subst (λ (z : List RuledDep). (x : RuledDep) → In x z → IsRuled x
-    × IsBetween g.parameters g.loops.now x.dep) (sym c.deref.ensures.value)
-    (are_between g.parameters g.loops.now g.budget c.args.progress c.requires.good)
+posed_over-requires-clause-between c x i =
+    let p = c.args.progress in
+    are_between p x c.requires.rules (subst (λ (z : List RuledDep). In x z) c.deref.ensures.value i)
 
 pub posed_over-requires-clause-vectors : goal.posed_over-requires-clause-vectors
 posed_over-requires-clause-vectors c =
-    let g = c.args.search.now in
-    subst (λ (z : List Vectors). AreSmallVectors g.loops.now (map shown z)) (sym c.deref-2.ensures.value)
-    (small_vectors g.parameters g.loops.now g.budget c.args.progress g.small c.requires.good)
+    subst (λ (z : List Vectors). AreSmallVectors c.args.progress.search.now.loops.now (map shown z))
+    (sym c.deref-2.ensures.value) (small_vectors c.args.progress)
 
 -- the system is the state's posed system, and holds its posed rows
 is_posed : (c : In-Ok)
-    → IsPosedAt c.args.search.now.parameters c.args.search.now.loops.now c.args.search.now.budget
-    (state_of c.args.progress) c.in-Ok.posed
+    → IsPosedAt c.args.progress.search.now.parameters c.args.progress.search.now.loops.now
+    c.args.progress.search.now.budget (state_of c.args.progress) c.in-Ok.posed
 is_posed c =
-    let g = c.args.search.now in
-    posed_at g.parameters g.loops.now g.budget c.args.progress c.deref.result.now c.deref-2.result.now
-    c.in-Ok.posed c.deref.ensures.value c.deref-2.ensures.value c.requires.ruled c.requires.good c.in-Ok.ensures.exact
+    posed_at c.args.progress c.deref.result.now c.deref-2.result.now c.in-Ok.posed c.deref.ensures.value
+    c.deref-2.ensures.value c.requires.ruled c.requires.rules c.in-Ok.ensures.exact
 
 has : (c : In-Ok)
-    → HasPosed c.args.search.now.parameters c.args.search.now.loops.now (state_of c.args.progress).remaining
-    (rows_of (state_of c.args.progress)) c.in-Ok.posed
+    → HasPosed c.args.progress.search.now.parameters c.args.progress.search.now.loops.now
+    (state_of c.args.progress).remaining (rows_of (state_of c.args.progress)) c.in-Ok.posed
 has c =
-    let g = c.args.search.now in
-    has_at g.parameters g.loops.now g.budget c.args.progress c.deref.result.now c.deref-2.result.now
-    c.in-Ok.posed c.deref.ensures.value c.deref-2.ensures.value c.requires.ruled c.requires.good c.in-Ok.ensures.points
+    let p = c.args.progress in
+    let g = p.search.now in
+    let before = rows_of (state_of p) in
+    subst (λ (ds : List Dependence). HasPosed g.parameters g.loops.now ds before c.in-Ok.posed)
+    (remains p c.deref.result.now c.deref.ensures.value c.requires.ruled)
+    (c.in-Ok.ensures.points before (subst (λ (z : List Vectors). AreVectorsOf g.loops.now before (map shown z))
+    (sym c.deref-2.ensures.value) p.good.vectors))
 
-columns : (c : In-Ok) → c.in-Ok.posed.dimensions ≡ columns_of c.args.search.now.parameters c.args.search.now.loops.now
+columns : (c : In-Ok)
+    → c.in-Ok.posed.dimensions ≡ columns_of c.args.progress.search.now.parameters c.args.progress.search.now.loops.now
 columns c = ap (λ (z : Constraints). z.dimensions) c.in-Ok.ensures.exact
 
 pub lack-requires-clause-none : goal.lack-requires-clause-none
 lack-requires-clause-none c =
-    let g = c.args.search.now in
+    let g = c.args.progress.search.now in
     let at = (goal.at.lack-requires-clause-none c).In-Ok in
     let s = c.in-Ok.posed in
     let is = c.in-Ok-None.field-0-is in (
@@ -99,7 +89,7 @@ take-requires-clause-size c =
 
 pub take-requires-clause-least : goal.take-requires-clause-least
 take-requires-clause-least c =
-    let g = c.args.search.now in
+    let g = c.args.progress.search.now in
     let at = (goal.at.take-requires-clause-least c).In-Ok in
     let s = c.in-Ok.posed in
     let is = c.in-Ok-Some.field-0-is in (
@@ -117,12 +107,12 @@ take-requires-clause-least c =
 
 pub returns-in-Err-least_point_in : goal.returns-in-Err-least_point_in
 returns-in-Err-least_point_in c =
-    let g = c.args.search.now in
+    let g = c.args.progress.search.now in
     let at = (goal.at.returns-in-Err-least_point_in c).In-Ok in
     let t = state_of c.args.progress in
     let s = c.in-Ok.posed in
-    subst (λ (k : kept.the_data). Steps g.parameters g.loops.now g.budget t (Err k)) (sym c.by_solver.ensures)
-    (stop_at g.parameters g.loops.now g.budget t _
+    subst (λ (k : kept.the_data). Steps g t (Err k)) (sym c.by_solver.ensures)
+    (stop_at g t _
     (stop_of (StopsMinimum g.budget s) (StopsAt g.parameters g.loops.now g.budget t) _
     (λ stop h. inr (c.requires.more, inr (inl (s, is_posed at, h))))
     (minimum_stops g.budget s c.in-Err-least_point_in.stop c.in-Err-least_point_in.ensures.run)))

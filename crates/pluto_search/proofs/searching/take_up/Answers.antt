@@ -7,15 +7,15 @@ use Rattle.pluto_search.proofs.searching.take_up.Goals as goal
 pub restrict_all-requires-clause-parameters : goal.restrict_all-requires-clause-parameters
 restrict_all-requires-clause-parameters c d i = (c.requires d i).0.parameters
 
+pub begin-requires : goal.begin-requires
+begin-requires c =
+    let g = c.args.search.now in
+    restricts_between g.parameters g.loops.now [] c.args.deps.now c.in-Ok.taken.items c.requires c.in-Ok.ensures.kept
+
 pub returns-in-Ok-begin : goal.returns-in-Ok-begin
 returns-in-Ok-begin c =
-    let g = c.args.search.now in
-    let deps = c.args.deps.now in
-    let taken = c.in-Ok.taken.items in
-    let takes = c.in-Ok.ensures.kept in (
-      c.in-Ok-begin.ensures.good g.parameters g.budget
-          (restricts_between g.parameters g.loops.now [] deps taken c.requires takes),
-      answered_first g.parameters g.loops.now g.budget deps taken (state_of c.in-Ok-begin.progress)
-          c.in-Ok-begin.ensures.first
-          takes c.in-Ok.ensures.answered,
+    (
+      c.in-Ok-begin.ensures.own,
+      answered_first c.args.search.now c.args.deps.now c.in-Ok.taken.items (state_of c.in-Ok-begin.progress)
+          c.in-Ok-begin.ensures.first c.in-Ok.ensures.kept c.in-Ok.ensures.answered,
     )
