@@ -32,8 +32,8 @@ use Rattle.pluto_search.specs.Questions.{AnswersRestricted, FindsNone, IsPosedAt
 use Rattle.pluto_search.specs.Searching.{AreBetween}
 use Rattle.pluto_search.specs.steps.Good.{IsGood, IsGoodRow}
 use Rattle.pluto_search.specs.steps.Sizes.{CanNarrow, CanNarrowEach, narrowed_each}
-use Rattle.pluto_search.specs.steps.StepParts.{AreWithin, IsClosed, IsCut, DropsNone, Cuts, EndsWith, Ended, IsAppended}
-use Rattle.pluto_search.specs.steps.Steps.{state_of, vectors_in, AreRules, HasMore, IsOf, Steps, going, KeepsAt}
+use Rattle.pluto_search.specs.steps.StepParts.{AreWithin, IsClosed, Cuts, EndsWith, Ended, IsAppended}
+use Rattle.pluto_search.specs.steps.Steps.{state_of, vectors_in, AreRules, HasMore, Steps, going, KeepsAt}
 use Rattle.pluto_search.specs.steps.Stopping.{IsStop}
 use Rattle.pluto_search.proofs.Counts.{least_good, can_tell, counts_within}
 use Rattle.pluto_search.proofs.QuestionStops.{stop_of, stop_at}

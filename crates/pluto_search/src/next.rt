@@ -234,11 +234,7 @@ fn append<'a>(
 }
 
 /// The least row is appended, marked by the questions of `phi_T - phi_S >= 1`; or it is too large.
-fn take<'a>(
-    alloc: Global,
-    progress: Progress<'a>,
-    numbers: Vec<i128>,
-) -> Result<Step<'a>, Kept>
+fn take<'a>(alloc: Global, progress: Progress<'a>, numbers: Vec<i128>) -> Result<Step<'a>, Kept>
     requires rules { AreRules progress.search.now.budget progress.ruled.items }
     requires ruled { progress.bare.items ≡ [] }
     requires more { HasMore progress.search.now (state_of progress) }
@@ -318,7 +314,13 @@ fn next_row<'a>(alloc: Global, progress: Progress<'a>) -> Result<Step<'a>, Kept>
     ensures { Steps progress.entry.search.now (state_of progress.entry) result }
 {
     let (search, loops) = (progress.search, progress.search.loops);
-    let posed = match posed_over(alloc, search.parameters, loops, &progress.ruled, &progress.vectors) {
+    let posed = match posed_over(
+        alloc,
+        search.parameters,
+        loops,
+        &progress.ruled,
+        &progress.vectors,
+    ) {
         Err(_) => return Err(Kept::NoMemory),
         Ok(posed) => posed,
     };

@@ -14,11 +14,7 @@ use schedule_rows::{Block, Schedule};
 use std::alloc::Global;
 
 /// The first state: the dependences that have a point.
-fn take_up<'a>(
-    alloc: Global,
-    search: &'a Search<'a>,
-    deps: &[Dep],
-) -> Result<Progress<'a>, Kept>
+fn take_up<'a>(alloc: Global, search: &'a Search<'a>, deps: &[Dep]) -> Result<Progress<'a>, Kept>
     requires { AreBetween search.now.parameters search.now.loops.now deps.now }
     ensures { Starts search.now deps.now result }
 {

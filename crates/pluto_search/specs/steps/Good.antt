@@ -1,6 +1,5 @@
 -- What holds of a state between steps.
 use Rattle.std.specs.Prelude.{◌≡◌, ℕ, ◌<◌, ℤ, List, length, slice_index_or, All}
-use Rattle.iteration_domains.specs.Dependence.{Dependence}
 use Rattle.null_space.specs.Sizes.{AreCoefficients}
 use Rattle.schedule_rows.specs.Items.{Row, part_of}
 use Rattle.schedule_rows.specs.Posed.{coefficients_in}

@@ -5,7 +5,7 @@ use Rattle.std.specs.Global.{Global}
 use Rattle.integer_sets.specs.Constraints.{Constraints}
 use Rattle.iteration_domains.specs.Dependence.{Dependence}
 use Rattle.stmt_graph.specs.Graph.{IsNumbering}
-use Rattle.schedule_rows.specs.Items.{Marked, Block, scalar, closed_by}
+use Rattle.schedule_rows.specs.Items.{Block, scalar, closed_by}
 use Rattle.schedule_rows.specs.Dependences.{edges_of}
 use Rattle.schedule_rows.specs.Next.{Restricts, Uncuts}
 use Rattle.schedule_rows.specs.Outcomes.{Outcome, ends, no_order, Orders}

@@ -32,11 +32,11 @@ invariant_of-result c =
     rw (c.new.ensures.items, c.new-in-Ok-close.ensures.items)
     (record {
       good = fresh g.parameters g.loops.now s _ (map block_of c.in-Ok-close.closed.items) kept p.good
-    (ap rows_in c.in-Ok-close.ensures ∙ rows_closed s.closed s.rows)
-    (restricts_between g.parameters g.loops.now s.rows s.remaining kept p.good.between
-    (subst (λ (z : List code.Marked). Restricts g.parameters (map marked_of z) s.remaining kept) c.deref.ensures.value
-    (subst (λ (l : List Dependence). Restricts g.parameters (map marked_of c.deref.result.now) l kept)
-    (c.deref-2.ensures.value ∙ c.requires) c.in-Ok.ensures.kept)));
+          (ap rows_in c.in-Ok-close.ensures ∙ rows_closed s.closed s.rows)
+          (restricts_between g.parameters g.loops.now s.rows s.remaining kept p.good.between
+          (subst (λ (z : List code.Marked). Restricts g.parameters (map marked_of z) s.remaining kept) c.deref.ensures.value
+          (subst (λ (l : List Dependence). Restricts g.parameters (map marked_of c.deref.result.now) l kept)
+          (c.deref-2.ensures.value ∙ c.requires) c.in-Ok.ensures.kept)));
     })
 
 pub returns-clause-answered : goal.returns-clause-answered

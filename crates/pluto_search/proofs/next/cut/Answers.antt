@@ -19,8 +19,8 @@ invariant_of-result c =
     rw (c.new.ensures.items, c.new-in-Ok-with_scalar.ensures.items)
     (record {
       good = fresh g.parameters g.loops.now s _ (map block_of c.in-Ok-with_scalar.closed.items) kept p.good
-    (ap rows_in c.in-Ok-with_scalar.ensures ∙ (rows_scalar s.closed numbers ∙ (sym (append-nil (rows_in s.closed))
-    ∙ ap (λ z. rows_in s.closed ++ band_rows (map marked_of z)) (sym c.requires.none))))
-    (λ d i. p.good.between d (uncuts_from c.deref-2.result.now s.remaining kept d
-    (subst (λ (l : List Dependence). Uncuts c.deref-2.result.now l kept) c.requires.left c.in-Ok-uncut.ensures) i));
+          (ap rows_in c.in-Ok-with_scalar.ensures ∙ (rows_scalar s.closed numbers ∙ (sym (append-nil (rows_in s.closed))
+          ∙ ap (λ z. rows_in s.closed ++ band_rows (map marked_of z)) (sym c.requires.none))))
+          (λ d i. p.good.between d (uncuts_from c.deref-2.result.now s.remaining kept d
+          (subst (λ (l : List Dependence). Uncuts c.deref-2.result.now l kept) c.requires.left c.in-Ok-uncut.ensures) i));
     })

@@ -1,9 +1,8 @@
-use Rattle.scop_syntax.proofs.Common.{[], ◌≡◌, ℕ, ℤ, List, map, sym, ◌∙◌, ap, subst, inl, inr, None, Some, Err, Ok}
+use Rattle.scop_syntax.proofs.Common.{◌≡◌, ℕ, ℤ, List, map, sym, ◌∙◌, ap, subst, inl, inr, None, Some, Err, Ok}
 use Rattle.scop_syntax.proofs.Common.{Option, Vec, In}
 use Rattle.std.specs.Global.{Global}
 use Rattle.iteration_domains.specs.Dependence.{Dependence}
 use Rattle.integer_sets.specs.Constraints.{Constraints}
-use Rattle.schedule_rows.specs.Items.{Row}
 use Rattle.schedule_rows.specs.Next.{State, rows_of}
 use Rattle.schedule_rows.specs.Posed.{IsLeast, HasNone}
 use Rattle.whole_numbers.specs.Lexicographic as lexicographic

@@ -13,9 +13,8 @@ begin-requires c =
     restricts_between g.parameters g.loops.now [] c.args.deps.now c.in-Ok.taken.items c.requires c.in-Ok.ensures.kept
 
 pub returns-in-Ok-begin : goal.returns-in-Ok-begin
-returns-in-Ok-begin c =
-    (
-      c.in-Ok-begin.ensures.own,
-      answered_first c.args.search.now c.args.deps.now c.in-Ok.taken.items (state_of c.in-Ok-begin.progress)
-          c.in-Ok-begin.ensures.first c.in-Ok.ensures.kept c.in-Ok.ensures.answered,
-    )
+returns-in-Ok-begin c = (
+  c.in-Ok-begin.ensures.own,
+  answered_first c.args.search.now c.args.deps.now c.in-Ok.taken.items (state_of c.in-Ok-begin.progress)
+      c.in-Ok-begin.ensures.first c.in-Ok.ensures.kept c.in-Ok.ensures.answered,
+)
