@@ -8,10 +8,8 @@ use Rattle.iteration_domains.proofs.Surroundings.{length-variable, sized-variabl
 use Rattle.conflict_deps.specs.Conflicts.{source_form, difference_of_forms}
 use Rattle.conflict_deps.proofs.Shapes.{length-source, length-target, length-difference}
 use Rattle.loop_tree.specs.Tiling.{TileRow, Item, row, scalar, Items}
-use Rattle.loop_tree.specs.TilingView.{item_of}
-use Rattle.loop_tree.specs.declared.tiling.TileItem.TheVariants as code_item
 use Rattle.tile_skew.specs.declared.layout.Layout.{Layout}
-use Rattle.tile_skew.specs.steps.Sizes.{FitsTurns, FitsItem}
+use Rattle.tile_skew.specs.steps.Sizes.{FitItems, FitsItem, FitsTurns}
 use Rattle.tile_skew.specs.ScanSets.{width, domain_form, row_form, number_form, item_form, carried_form, have_values}
 use Rattle.tile_skew.specs.ScanSets.{tile_begins, tile_ends, are_coordinates, front_of, dimension_equalities}
 use Rattle.tile_skew.proofs.Widths.{length-row, length-number, length-carried_form, length-end, end_form}
@@ -48,11 +46,6 @@ all_wide n k (f ∷ fs) l h =
     All-cons (λ g. n ≤ variables_of g) f fs (omega (arith, l, own))
     (all_wide n k fs l (All-tail (λ (g : Affine). variables_of g ≡ k) f fs h))
 
--- the items that the code's stand for fit
-pub items_fit : (n : ℕ) (is : List code_item.the_data) → All (λ i. FitsItem n (item_of i)) is
-    → All (FitsItem n) (map item_of is)
-items_fit n is h = All-map (FitsItem n) item_of is h
-
 -- values of forms over all variables
 have_over : (l : Layout) (j : ℕ) (fs : List Affine) → All (Over l) fs → All (Over l) (have_values l j fs)
 have_over l j [] h = All-nil (Over l)
@@ -86,9 +79,9 @@ items_over l (i ∷ is) h =
     (items_over l is (All-tail (FitsItem l.turns) i is h))
 
 -- the dimensions'
-pub dimensions_over : (l : Layout) (s : Items) → front_of s ≤ width l → All (λ r. FitsTurns l.turns r.form) s.band
-    → All (FitsItem l.turns) s.behind → All (Over l) (dimension_equalities l s)
-dimensions_over l s place rows behind =
+pub dimensions_over : (l : Layout) (s : Items) → front_of s ≤ width l → FitItems l.turns s
+    → All (Over l) (dimension_equalities l s)
+dimensions_over l s place fit =
     let leads = numbers_over l s.leading in
     let numbers = map (λ k. number_form l (pos k)) s.leading in
     let sum = carried_form l (length s.leading + 1) s.band in
@@ -100,7 +93,7 @@ dimensions_over l s place rows behind =
     let at = length s.leading + (1 + length s.band) in
     let items = have_over l at (numbers ++ (band ++ last))
     (All-append (Over l) numbers (band ++ last) leads
-    (All-append (Over l) band last (rows_over l s.band rows) (items_over l s.behind behind))) in
+    (All-append (Over l) band last (rows_over l s.band fit.band) (items_over l s.behind fit.behind))) in
     let missing = variables (width l) (l.front + l.turns) l.missing in
     All-append (Over l) (have_values l 0 (numbers ++ sum ∷ []))
     (have_values l at (numbers ++ (band ++ last)) ++ missing) waves

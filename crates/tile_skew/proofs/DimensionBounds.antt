@@ -180,7 +180,7 @@ rows_near l b d s hs bs cs ts zs ps n =
     All-weaker (λ r. FitsTurns l.turns r.form)
     (λ r. IsWithin (24576 * b) (value_at d (point hs bs cs ts zs ps) (row_form l r.form)))
     (λ r fits. row_near l b d r.form (hs ++ (bs ++ cs)) ts (zs ++ ps) front n.parts.turns n.few fits n.denominator
-    n.turns) s.band n.modest.band
+    n.turns) s.band n.modest.fit.band
 
 items_near : (l : Layout) (b : ℕ) (d : ℤ) (s : Items) (hs bs cs ts zs ps : List ℤ) → Near l b d s hs bs cs ts zs ps
     → All (λ f. IsWithin (24576 * b) (value_at d (point hs bs cs ts zs ps) f)) (forms_of_items l s)
@@ -195,7 +195,7 @@ items_near l b d s hs bs cs ts zs ps n =
     λ i both. item_near l b d i (hs ++ (bs ++ cs)) ts (zs ++ ps) front n.parts.turns n.few both.0 both.1 n.denominator
     n.turns in
     let both : All (λ i. FitsItem l.turns i × IsLow 32 i) s.behind =
-    λ k e lt. (n.modest.behind k e lt, n.modest.low k e lt) in
+    λ k e lt. (n.modest.fit.behind k e lt, n.modest.low k e lt) in
     All-append N first (second ++ third) (leads_near l b d x s.leading n.denominator n.modest.leading)
     (All-append N second third
     (All-map N (λ r. row_form l r.form) s.band (rows_near l b d s hs bs cs ts zs ps n))

@@ -5,8 +5,8 @@ use Rattle.loop_tree.specs.Tiling.{TileRow, row, scalar as number}
 use Rattle.schedule_rows.specs.Items.{Row, Marked, Block, scalar, band, part_of}
 use Rattle.schedule_rows.specs.Posed.{loops_of}
 use Rattle.schedule_rows.specs.Sized.{IsSizedRow, AreSizedRows, AreSized}
-use Rattle.tile_skew.specs.steps.Sizes.{FitsTurns, FitsItem}
-use Rattle.tile_skew.specs.Tilings.{form_at, rows_at, row_items, block_items, first_band_at, behind_at}
+use Rattle.tile_skew.specs.steps.Sizes.{FitItems, FitsItem, FitsTurns}
+use Rattle.tile_skew.specs.Tilings.{form_at, rows_at, row_items, block_items, statement_items}
 use Rattle.tile_skew.proofs.Widths.{size-few, small_number}
 
 form_fits : (loops : List ℕ) (r : Row) (k : ℕ) → IsSizedRow loops r → FitsTurns (loops_of loops k) (form_at r k)
@@ -45,16 +45,14 @@ block_items_fit loops (band (m ∷ ms) ∷ bs) k h =
     All-append (FitsItem (loops_of loops k)) (row_items (m ∷ ms) k) (block_items bs k)
     (row_items_fit loops (m ∷ ms) k h.0) (block_items_fit loops bs k h.1)
 
-pub first_fit : (loops : List ℕ) (bs : List Block) (k : ℕ) → AreSized loops bs
-    → All (λ r. FitsTurns (loops_of loops k) r.form) (first_band_at bs k)
-first_fit loops [] k h = All-nil (λ (r : TileRow). FitsTurns (loops_of loops k) r.form)
-first_fit loops (scalar numbers ∷ bs) k h = first_fit loops bs k h.1
-first_fit loops (band [] ∷ bs) k h = absurd h.0
-first_fit loops (band (m ∷ ms) ∷ bs) k h = rows_fit loops (m ∷ ms) k h.0
-
-pub behind_fit : (loops : List ℕ) (bs : List Block) (k : ℕ) → AreSized loops bs
-    → All (FitsItem (loops_of loops k)) (behind_at bs k)
-behind_fit loops [] k h = All-nil (FitsItem (loops_of loops k))
-behind_fit loops (scalar numbers ∷ bs) k h = behind_fit loops bs k h.1
-behind_fit loops (band [] ∷ bs) k h = absurd h.0
-behind_fit loops (band (m ∷ ms) ∷ bs) k h = block_items_fit loops bs k h.1
+pub items_fit : (loops : List ℕ) (bs : List Block) (k : ℕ) → AreSized loops bs
+    → FitItems (loops_of loops k) (statement_items bs k)
+items_fit loops [] k h = record {
+  band = All-nil (λ (r : TileRow). FitsTurns (loops_of loops k) r.form);
+  behind = All-nil (FitsItem (loops_of loops k));
+}
+items_fit loops (scalar numbers ∷ bs) k h =
+    let rest = items_fit loops bs k h.1 in record { band = rest.band; behind = rest.behind }
+items_fit loops (band [] ∷ bs) k h = absurd h.0
+items_fit loops (band (m ∷ ms) ∷ bs) k h =
+    record { band = rows_fit loops (m ∷ ms) k h.0; behind = block_items_fit loops bs k h.1 }

@@ -11,20 +11,20 @@ use Rattle.scop_syntax.proofs.Members.{place_of as place_in}
 use Rattle.stmt_graph.specs.Graph.{number_in}
 use Rattle.iteration_domains.specs.Model.{Modelled, modelled, model_of}
 use Rattle.iteration_domains.specs.Sizes.{IsKernelModel}
-use Rattle.loop_tree.specs.Tiling.{TileRow, row, scalar as number}
+use Rattle.loop_tree.specs.Tiling.{row, scalar as number}
 use Rattle.schedule_rows.specs.Items.{Marked, Block, scalar, band, band_rows, rows_in}
 use Rattle.schedule_rows.specs.Schedule.{loops_in}
 use Rattle.schedule_rows.specs.Sized.{AreSized}
 use Rattle.schedule_rows.proofs.ModelLoops.{loops_at}
 use Rattle.tile_skew.specs.ScanSets.{most_iterators, layout_of, scan_set, scan_sets}
-use Rattle.tile_skew.specs.Tilings.{row_items, block_items, first_band, first_band_at, leading_at, behind_at}
+use Rattle.tile_skew.specs.Tilings.{row_items, block_items, first_band, leading_at, behind_at}
 use Rattle.tile_skew.specs.Tilings.{statement_items, form_at}
 use Rattle.tile_skew.specs.steps.Facts.{StatementFacts}
-use Rattle.tile_skew.specs.steps.Sizes.{FitsTurns, FitsItem, IsLow, AreModest}
+use Rattle.tile_skew.specs.steps.Sizes.{FitItems, IsLow, AreModest}
 use Rattle.tile_skew.proofs.AlikeSets.{band_many, within_most}
 use Rattle.tile_skew.proofs.DimensionBounds.{HasNearTurns, set_bounded}
 use Rattle.tile_skew.proofs.Counts.{dimensions_few, items_many, most_few, statements_few}
-use Rattle.tile_skew.proofs.ItemFits.{first_fit, behind_fit}
+use Rattle.tile_skew.proofs.ItemFits.{items_fit}
 use Rattle.tile_skew.proofs.Instances.{loops_are, parameters_are}
 use Rattle.tile_skew.proofs.Ranks.{AreNumbered, HasFewItems}
 
@@ -89,10 +89,7 @@ items_modest program blocks k m kernel one i sized few =
     record {
       few = omega arith;
       leading = leading_low (length loops) 32 blocks m.number few.numbers below many;
-      band = subst (λ n. All (λ (r : TileRow). FitsTurns n r.form) (first_band_at blocks m.number)) own
-          (first_fit loops blocks m.number sized);
-      behind = subst (λ n. All (FitsItem n) (behind_at blocks m.number)) own
-          (behind_fit loops blocks m.number sized);
+      fit = subst (λ n. FitItems n (statement_items blocks m.number)) own (items_fit loops blocks m.number sized);
       low = behind_low (length loops) 32 blocks m.number few.numbers below many;
     }
 

@@ -6,7 +6,7 @@ ghost use Rattle.schedule_rows.specs.Schedule.{item_of, row, row_of, loops_in, I
 ghost use Rattle.schedule_rows.specs.Posed.{loops_of};
 ghost use Rattle.schedule_rows.specs.Sized.{IsSmall};
 ghost use Rattle.tile_skew.specs.Tilings.{form_at, statement_items};
-ghost use Rattle.tile_skew.specs.steps.Sizes.{FitsItem, FitsTurns};
+ghost use Rattle.tile_skew.specs.steps.Sizes.{FitItems};
 ghost use Rattle.tile_skew.specs.steps.Listed.{AreBounds, HasStatement, IsInside, item_at, leading_in, rows_in};
 
 use affine_forms::push;
@@ -156,10 +156,8 @@ pub fn statement(alloc: Global, schedule: &Schedule, k: usize) -> Result<TileIte
     requires { k < length schedule.now.model.statements }
     ensures items { IfOk result (λ found. (s : IsScheduled schedule.now)
         → tile_items_of found ≡ statement_items s.blocks k) }
-    ensures rows { IfOk result (λ found.
-        All (λ r. FitsTurns (loops_of (loops_in schedule.now.model) k) r.form) found.band.items) }
-    ensures behind { IfOk result (λ found.
-        All (λ i. FitsItem (loops_of (loops_in schedule.now.model) k) (tile_item_of i)) found.behind.items) }
+    ensures fit { IfOk result (λ found.
+        FitItems (loops_of (loops_in schedule.now.model) k) (tile_items_of found)) }
 {
     schedules_have_small_items();
     let items = schedule.items();

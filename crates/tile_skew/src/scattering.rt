@@ -1,9 +1,9 @@
 //! What the scan set of a statement is made of.
 
-ghost use Rattle.std.specs.Prelude.{◌≡◌, ◌<◌, ◌≤◌, ◌^◌, All};
-ghost use Rattle.loop_tree.specs.TilingView.{item_of, items_of};
+ghost use Rattle.std.specs.Prelude.{◌≡◌, ◌<◌, ◌≤◌, ◌^◌};
+ghost use Rattle.loop_tree.specs.TilingView.{items_of};
 ghost use Rattle.tile_skew.specs.ScanSets.{front_of, width};
-ghost use Rattle.tile_skew.specs.steps.Sizes.{FitsItem, FitsTurns};
+ghost use Rattle.tile_skew.specs.steps.Sizes.{FitItems};
 
 use crate::layout::Layout;
 use iteration_domains::StatementModel;
@@ -21,6 +21,5 @@ pub struct Scattering<'a> {
     ghost turns: { layout.turns ≡ statement.now.domain.dimensions },
     ghost parameters: { layout.parameters ≡ statement.now.domain.parameters },
     ghost fits: { width layout < 2 ^ 64 },
-    ghost rows: { All (λ r. FitsTurns layout.turns r.form) items.now.band.items },
-    ghost behind: { All (λ i. FitsItem layout.turns (item_of i)) items.now.behind.items },
+    ghost fit: { FitItems layout.turns (items_of items.now) },
 }

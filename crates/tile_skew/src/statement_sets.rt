@@ -1,11 +1,11 @@
 //! The tiling of a schedule, and the scan sets of its statements, in textual order.
-ghost use Rattle.std.specs.Prelude.{◌≡◌, ◌+◌, ◌<◌, ◌≤◌, All, pos, IfOk, length, max};
-ghost use Rattle.loop_tree.specs.TilingView.{item_of, items_of, tiling_of};
+ghost use Rattle.std.specs.Prelude.{◌≡◌, ◌+◌, ◌<◌, ◌≤◌, pos, IfOk, length, max};
+ghost use Rattle.loop_tree.specs.TilingView.{items_of, tiling_of};
 ghost use Rattle.schedule_rows.specs.Schedule.{IsScheduled};
 ghost use Rattle.tile_skew.specs.ScanSets.{most_iterators as greatest, parallel_place as place_in, points_of};
 ghost use Rattle.tile_skew.specs.ScanSets.{scan_set as set_of, scan_sets};
 ghost use Rattle.tile_skew.specs.Tilings.{schedule_tiling};
-ghost use Rattle.tile_skew.specs.steps.Sizes.{FitsItem, FitsTurns};
+ghost use Rattle.tile_skew.specs.steps.Sizes.{FitItems};
 
 use crate::items::statement;
 use crate::layout::layout_of;
@@ -50,8 +50,7 @@ fn scan_set(
 ) -> Result<ScanSet, AllocError>
     requires size { (0 < size) × (size ≤ 1024) }
     requires most { statement.now.domain.dimensions ≤ most }
-    requires rows { All (λ r. FitsTurns statement.now.domain.dimensions r.form) items.now.band.items }
-    requires behind { All (λ i. FitsItem statement.now.domain.dimensions (item_of i)) items.now.behind.items }
+    requires fit { FitItems statement.now.domain.dimensions (items_of items.now) }
     ensures { IfOk result (λ s. s ≡ set_of (pos size) most statement.now (items_of items.now)) }
 {
     let layout = match layout_of(statement, items, most) {

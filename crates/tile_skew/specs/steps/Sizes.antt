@@ -35,15 +35,19 @@ FitsWidth l f = (variables_of f ≡ width l) × (form_size f ≤ 2 ^ 99)
 abbrev pub FitsItem : ℕ → Item → Type 0
 FitsItem n i = (f : Affine) → i ≡ row f → FitsTurns n f
 
+-- a statement's items: rows over n turns, with small numbers
+pub record FitItems (n : ℕ) (s : Items) : Type 0 where
+  pub band : All (λ r. FitsTurns n r.form) s.band
+  pub behind : All (FitsItem n) s.behind
+
 -- an item whose scalar is below n
 abbrev pub IsLow : ℕ → Item → Type 0
 IsLow n (row f) = ⊤
 IsLow n (scalar k) = k < n
 
--- a statement's items: rows over n turns with small numbers, a few in the first band, and scalars below 32
+-- items that fit, a few of them in the first band, and scalars below 32
 pub record AreModest (n : ℕ) (s : Items) : Type 0 where
   pub few : length s.band ≤ 5
   pub leading : All (λ k. k < 32) s.leading
-  pub band : All (λ r. FitsTurns n r.form) s.band
-  pub behind : All (FitsItem n) s.behind
+  pub fit : FitItems n s
   pub low : All (IsLow 32) s.behind

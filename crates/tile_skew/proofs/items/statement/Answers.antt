@@ -4,11 +4,11 @@ use Rattle.iteration_domains.specs.Model.{Modelled}
 use Rattle.loop_tree.specs.Tiling.{Items, TileRow}
 use Rattle.loop_tree.specs.TilingView.{item_of as tile_item_of}
 use Rattle.schedule_rows.specs.Posed.{loops_of}
-use Rattle.tile_skew.specs.steps.Sizes.{FitsTurns, FitsItem}
+use Rattle.tile_skew.specs.steps.Sizes.{FitItems}
 use Rattle.schedule_rows.specs.Schedule.{item_of, loops_in, items_of}
 use Rattle.tile_skew.specs.steps.Listed.{HasStatement, IsInside, AreBounds, leading_in, item_at}
 use Rattle.tile_skew.proofs.ItemParts.{band_inside, bounds_are, ends_within, items_have, told_items}
-use Rattle.tile_skew.proofs.ItemFits.{first_fit, behind_fit}
+use Rattle.tile_skew.proofs.ItemFits.{items_fit}
 use Rattle.tile_skew.proofs.items.statement.Goals as goal
 
 pub band_bounds-first-requires : goal.band_bounds-first-requires
@@ -97,23 +97,11 @@ returns-clause-items c s =
     (c.in_ok-leading.ensures ∙ ap (λ zs. leading_in zs k) shown) c.in_ok-first_band.ensures
     (c.in_ok-tile_items.ensures ∙ ap (λ zs. map (item_at k) (drop c.band_bounds-first.result.1 zs)) shown)
 
-pub returns-clause-rows : goal.returns-clause-rows
-returns-clause-rows c =
+pub returns-clause-fit : goal.returns-clause-fit
+returns-clause-fit c =
     let schedule = c.args.schedule.now in
     let is = c.items-items.ensures.schedule in
     let loops = loops_in schedule.model in
     let k = c.args.k in
     let sized = c.schedules_have_small_items.ensures schedule.model.parameters loops schedule.deps is.blocks is.run in
-    subst (λ (t : Items). All (λ (r : TileRow). FitsTurns (loops_of loops k) r.form) t.band)
-    (sym (returns-clause-items c is)) (first_fit loops is.blocks k sized)
-
-pub returns-clause-behind : goal.returns-clause-behind
-returns-clause-behind c =
-    let schedule = c.args.schedule.now in
-    let is = c.items-items.ensures.schedule in
-    let loops = loops_in schedule.model in
-    let k = c.args.k in
-    let sized = c.schedules_have_small_items.ensures schedule.model.parameters loops schedule.deps is.blocks is.run in
-    all_unmapped (FitsItem (loops_of loops k)) tile_item_of _
-    (subst (λ (t : Items). All (FitsItem (loops_of loops k)) t.behind) (sym (returns-clause-items c is))
-    (behind_fit loops is.blocks k sized))
+    subst (FitItems (loops_of loops k)) (sym (returns-clause-items c is)) (items_fit loops is.blocks k sized)

@@ -4,7 +4,7 @@ use Rattle.loop_tree.specs.TilingView.{items_of}
 use Rattle.tile_skew.specs.ScanSets.{domain_form, dimension_equalities, wave_equalities, item_equalities}
 use Rattle.tile_skew.specs.ScanSets.{missing_equalities}
 use Rattle.tile_skew.proofs.ItemSteps.{four_put}
-use Rattle.tile_skew.proofs.ConstraintVariables.{Over, all_wide, resized, domain_over, dimensions_over, items_fit}
+use Rattle.tile_skew.proofs.ConstraintVariables.{Over, all_wide, resized, domain_over, dimensions_over}
 use Rattle.tile_skew.proofs.sets.equalities.Goals as goal
 
 pub push_domain-requires : goal.push_domain-requires
@@ -43,4 +43,4 @@ returns-clause-sized c =
     c.equalities.result.now own.equalities many shown c.equalities.ensures.sized) in
     subst (All (Over l)) (sym (returns-clause-forms c))
     (All-append (Over l) (map (domain_form l) own.equalities) (dimension_equalities l items) domain
-    (dimensions_over l items (omega (arith, s.front)) s.rows (items_fit l.turns s.items.now.behind.items s.behind)))
+    (dimensions_over l items (omega (arith, s.front)) s.fit))

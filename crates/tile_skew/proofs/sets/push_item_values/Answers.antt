@@ -1,5 +1,5 @@
 use Rattle.scop_syntax.proofs.Common.{◌≡◌, ◌+◌, ◌∙◌, rules, ap, sym, subst, arith, length, map, pos, ◌++◌, All}
-use Rattle.scop_syntax.proofs.Common.{length-map}
+use Rattle.scop_syntax.proofs.Common.{all_unmapped, length-map}
 use Rattle.loop_tree.specs.TilingView.{item_of}
 use Rattle.tile_skew.specs.ScanSets.{have_values, number_form, row_form, item_form}
 use Rattle.tile_skew.specs.steps.Sizes.{FitsTurns, FitsItem}
@@ -9,12 +9,13 @@ use Rattle.tile_skew.proofs.sets.push_item_values.Goals as goal
 pub push_rows-requires-clause-small : goal.push_rows-requires-clause-small
 push_rows-requires-clause-small c =
     let s = c.args.scattering.now in
-    subst (λ rs. All (λ r. FitsTurns s.layout.turns r.form) rs) (sym c.as_slice-2.ensures.value) s.rows
+    subst (λ rs. All (λ r. FitsTurns s.layout.turns r.form) rs) (sym c.as_slice-2.ensures.value) s.fit.band
 
 pub push_items-requires-clause-small : goal.push_items-requires-clause-small
 push_items-requires-clause-small c =
     let s = c.args.scattering.now in
-    subst (λ is. All (λ i. FitsItem s.layout.turns (item_of i)) is) (sym c.as_slice-3.ensures.value) s.behind
+    let P = FitsItem s.layout.turns in
+    all_unmapped P item_of _ (subst (λ is. All P (map item_of is)) (sym c.as_slice-3.ensures.value) s.fit.behind)
 
 pub returns : goal.returns
 returns c =

@@ -1,26 +1,23 @@
-use Rattle.scop_syntax.proofs.Common.{◌∙◌, refl, ap, ap₂, subst, sym, pos, All}
+use Rattle.scop_syntax.proofs.Common.{◌∙◌, refl, ap, ap₂, subst, sym, pos}
 use Rattle.integer_sets.specs.Constraints.{Constraints}
 use Rattle.integer_sets.specs.Scanned.{scanned}
-use Rattle.loop_tree.specs.Tiling.{TileRow}
-use Rattle.loop_tree.specs.TilingView.{item_of, items_of}
+use Rattle.loop_tree.specs.TilingView.{items_of}
 use Rattle.tile_skew.specs.ScanSets.{layout_of, points_of}
 use Rattle.tile_skew.specs.declared.layout.Layout.{Layout}
-use Rattle.tile_skew.specs.steps.Sizes.{FitsItem, FitsTurns}
+use Rattle.tile_skew.specs.steps.Sizes.{FitItems}
 use Rattle.tile_skew.proofs.statement_sets.scan_set.Goals as goal
 
 pub invariant_of-scattering : goal.invariant_of-scattering
 invariant_of-scattering c =
     let is = c.in-Some.ensures.layout c.in-Some.layout refl in
     let same = ap (λ (l : Layout). l.turns) is in
-    let items = c.args.items.now in
     record {
       tiles = c.requires.size;
       front = ap (λ (l : Layout). l.front) is;
       turns = same;
       parameters = ap (λ (l : Layout). l.parameters) is;
       fits = c.in-Some.ensures.fits c.in-Some.layout refl;
-      rows = subst (λ n. All (λ (r : TileRow). FitsTurns n r.form) items.band.items) (sym same) c.requires.rows;
-      behind = subst (λ n. All (λ i. FitsItem n (item_of i)) items.behind.items) (sym same) c.requires.behind;
+      fit = subst (λ n. FitItems n (items_of c.args.items.now)) (sym same) c.requires.fit;
     }
 
 pub returns : goal.returns

@@ -1,10 +1,10 @@
 use Rattle.scop_syntax.proofs.Common.{◌≡◌, ◌<◌, ◌≤◌, ◌-◌, ◌∙◌, ◌++◌, ◌∷◌, [], ap, ap₂, sym, subst, arith, length, map, pos}
-use Rattle.scop_syntax.proofs.Common.{get_or, drop_of_length-le, map-append, All}
+use Rattle.scop_syntax.proofs.Common.{get_or, drop_of_length-le, map-append}
 use Rattle.integer_sets.specs.Scanned.{Scanned}
 use Rattle.iteration_domains.specs.Model.{Modelled, KernelModel}
-use Rattle.loop_tree.specs.Tiling.{TileRow, tiled}
-use Rattle.loop_tree.specs.TilingView.{item_of, items_of}
-use Rattle.tile_skew.specs.steps.Sizes.{FitsTurns, FitsItem}
+use Rattle.loop_tree.specs.Tiling.{tiled}
+use Rattle.loop_tree.specs.TilingView.{items_of}
+use Rattle.tile_skew.specs.steps.Sizes.{FitItems}
 use Rattle.tile_skew.specs.ScanSets.{scan_set, most_iterators}
 use Rattle.tile_skew.specs.Tilings.{statement_items, statements_from}
 use Rattle.tile_skew.proofs.ItemSteps.{mapped_step, nothing_left, statements_step}
@@ -77,8 +77,8 @@ statement-requires c =
     let many = ap length shown in
     omega (arith, c.loop-k-test.true, many)
 
-pub scan_set-requires-clause-rows : goal.scan_set-requires-clause-rows
-scan_set-requires-clause-rows c =
+pub scan_set-requires-clause-fit : goal.scan_set-requires-clause-fit
+scan_set-requires-clause-fit c =
     let m = c.args.schedule.now.model in
     let x = c.index-statements-k.result in
     let k = c.loop-k.k in
@@ -86,17 +86,4 @@ scan_set-requires-clause-rows c =
     let many = ap length shown in
     let few : k < length m.statements = omega (arith, c.loop-k-test.true, many) in
     let loops = loops_there m k x few (c.index-statements-k.is ∙ ap (λ zs. get_or zs k x) shown) in
-    subst (λ n. All (λ (r : TileRow). FitsTurns n r.form) c.in_ok-items.items.band.items) loops
-    c.in_ok-items.ensures.rows
-
-pub scan_set-requires-clause-behind : goal.scan_set-requires-clause-behind
-scan_set-requires-clause-behind c =
-    let m = c.args.schedule.now.model in
-    let x = c.index-statements-k.result in
-    let k = c.loop-k.k in
-    let shown = c.statements-statements.ensures.statements ∙ ap (λ (m : KernelModel). m.statements) c.model.ensures in
-    let many = ap length shown in
-    let few : k < length m.statements = omega (arith, c.loop-k-test.true, many) in
-    let loops = loops_there m k x few (c.index-statements-k.is ∙ ap (λ zs. get_or zs k x) shown) in
-    subst (λ n. All (λ i. FitsItem n (item_of i)) c.in_ok-items.items.behind.items) loops
-    c.in_ok-items.ensures.behind
+    subst (λ n. FitItems n (items_of c.in_ok-items.items)) loops c.in_ok-items.ensures.fit
