@@ -16,6 +16,7 @@ use iteration_domains::StatementModel;
 use loop_tree::{TileItems, Tiling};
 use schedule_rows::Schedule;
 use std::alloc::{AllocError, Global};
+use std::num::NonZeroU64;
 
 /// The points of a statement's scan set.
 fn points(alloc: Global, scattering: &Scattering) -> Result<System, AllocError>
@@ -119,7 +120,7 @@ pub fn tiling_and_sets(
         sets.push(set)?;
         tiles.push(items)?;
     }
-    Ok((Tiling::Tiled(size, tiles), sets))
+    Ok((Tiling::Tiled(NonZeroU64::new(size).unwrap(), tiles), sets))
 }
 
 /// The tiling alone.

@@ -1,5 +1,5 @@
 use Rattle.scop_syntax.proofs.Common.{◌≡◌, ◌<◌, ◌≤◌, ◌-◌, ◌∙◌, ◌++◌, ◌∷◌, [], ap, ap₂, sym, subst, arith, length, map, pos}
-use Rattle.scop_syntax.proofs.Common.{get_or, drop_of_length-le, map-append}
+use Rattle.scop_syntax.proofs.Common.{get_or, drop_of_length-le, map-append, rules}
 use Rattle.integer_sets.specs.Scanned.{Scanned}
 use Rattle.iteration_domains.specs.Model.{Modelled, KernelModel}
 use Rattle.loop_tree.specs.Tiling.{tiled}
@@ -57,7 +57,7 @@ returns-clause-tiling c s =
     let shown = c.statements-statements.ensures.statements ∙ ap (λ (m : KernelModel). m.statements) c.model.ensures in
     let many = ap length shown in
     let none : length ss - k ≡ 0 = omega (arith, c.loop-k-test.false, many) in
-    ap (tiled c.args.size)
+    ap₂ tiled (search rules)
     (nothing_left (map items_of c.loop-k.tiles.items) _ _ (ap (statements_from s.blocks k) none)
     (c.loop-k.invariant.0 s))
 
