@@ -1,6 +1,6 @@
 -- All constraints of a scan set speak of all its variables.
 use Rattle.scop_syntax.proofs.Common.{◌≡◌, ℕ, suc, ◌+◌, ◌≤◌, ℤ, pos, List, [], ◌∷◌, ◌++◌, sym, ◌∙◌, arith, length, map}
-use Rattle.scop_syntax.proofs.Common.{subst, ap, All, neg_ℤ, All-nil, All-cons, All-head, All-tail, All-append, All-map}
+use Rattle.scop_syntax.proofs.Common.{subst, ap, All, neg_ℤ, All-nil, All-cons, All-head, All-tail, All-append}
 use Rattle.scop_syntax.proofs.Common.{refl, Affine, multiples, length-sums, length-multiples}
 use Rattle.affine_forms.specs.Parts.{variables_of}
 use Rattle.iteration_domains.specs.Rows.{variable, variables}
