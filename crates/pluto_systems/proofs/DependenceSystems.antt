@@ -135,21 +135,21 @@ are_posed m p loops k ruled vs ws es rs a b d e f =
     }
 
 -- they are sized as its forms are
-pub posed_sizes : (m : ℕ) (loops : List ℕ) (ruled : List RuledDep) (vectors : List (List (List ℤ))) (n : ℕ)
-    (es rs : List Affine) → ArePosed m loops ruled vectors n es rs
+pub posed_sizes : {m : ℕ} {loops : List ℕ} {ruled : List RuledDep} {vectors : List (List (List ℤ))} {n : ℕ}
+    {es rs : List Affine} → ArePosed m loops ruled vectors n es rs
     → IsSized (columns_of m loops) (flat_map (equalities_for m loops) ruled)
     (flat_map (rows_for m loops) ruled ++ growth_from m loops 0 vectors)
     → IsSized n es rs
-posed_sizes m loops ruled vectors n es rs h s =
+posed_sizes {m} {loops} {ruled} {vectors} {n} {es} {rs} h s =
     subst (λ (i : ℕ). IsSized i es rs) (sym h.columns)
     (subst (λ (x : List Affine). IsSized (columns_of m loops) x rs) (sym h.equalities)
     (subst (λ (x : List Affine). IsSized (columns_of m loops) (flat_map (equalities_for m loops) ruled) x)
     (sym h.rows) s))
 
 -- and make that system
-pub posed_is : (m : ℕ) (loops : List ℕ) (ruled : List RuledDep) (vectors : List (List (List ℤ))) (n : ℕ)
-    (es rs : List Affine) (s : Constraints) → ArePosed m loops ruled vectors n es rs → s ≡ system_of n 0 es rs
+pub posed_is : {m : ℕ} {loops : List ℕ} {ruled : List RuledDep} {vectors : List (List (List ℤ))} {n : ℕ}
+    {es rs : List Affine} {s : Constraints} → ArePosed m loops ruled vectors n es rs → s ≡ system_of n 0 es rs
     → s ≡ posed_system m loops ruled vectors
-posed_is m loops ruled vectors n es rs s h e =
+posed_is {m} {loops} {ruled} {vectors} {n} {es} {rs} {s} h e =
     e ∙ (ap (λ (i : ℕ). system_of i 0 es rs) h.columns
     ∙ ap₂ (λ (x y : List Affine). system_of (columns_of m loops) 0 x y) h.equalities h.rows)

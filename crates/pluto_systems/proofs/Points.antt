@@ -1,6 +1,6 @@
 -- The points of a posed system are the posed rows.
 use Rattle.scop_syntax.proofs.Common.{◌≡◌, ℕ, zero, suc, ◌+◌, ◌<◌, ℤ, pos, negsuc, List, [], ◌∷◌, ◌++◌, refl, sym, ◌∙◌}
-use Rattle.scop_syntax.proofs.Common.{ap, ap₂, subst, ◌⊎◌, inl, inr, arith, length, reverse, map, All, ◌≤◌, ◌+ℤ◌, ◌≤ℤ◌}
+use Rattle.scop_syntax.proofs.Common.{ap, ap₂, subst, inl, inr, arith, length, reverse, map, All, ◌≤◌, ◌+ℤ◌, ◌≤ℤ◌}
 use Rattle.scop_syntax.proofs.Common.{slice_index_or, ◌↔◌, flat_map, ints, length-reverse, reverse-append, All-nil}
 use Rattle.scop_syntax.proofs.Common.{All-cons, All-head, All-tail, All-append, cases_Bool, Affine, value_of, dot}
 use Rattle.scop_syntax.proofs.Common.{zeros, sums, dot-append, dot-zeros, dot-sums, length-zeros, length-sums}

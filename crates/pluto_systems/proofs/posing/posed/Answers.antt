@@ -1,10 +1,8 @@
-use Rattle.scop_syntax.proofs.Common.{◌≡◌, ℕ, ℤ, List, ◌++◌, map, Vec, Global, sym, ◌∙◌, ap, subst, All, ◌≤◌}
+use Rattle.scop_syntax.proofs.Common.{ℕ, ℤ, List, ◌++◌, map, Vec, Global, sym, ◌∙◌, ap, subst, All, ◌≤◌}
 use Rattle.scop_syntax.proofs.Common.{IfOk-weaker, In}
-use Rattle.integer_sets.specs.Constraints.{Constraints, system_of}
-use Rattle.schedule_rows.specs.Items.{Row}
 use Rattle.iteration_domains.specs.Dependence.{Dependence}
 use Rattle.pluto_systems.specs.Placing.{columns_of}
-use Rattle.pluto_systems.specs.Posing.{RuledDep, IsRuled, IsBetween, dep_of, growth_from, AreVectorsOf, HasPosed}
+use Rattle.pluto_systems.specs.Posing.{RuledDep, IsRuled, IsBetween, growth_from, HasPosed}
 use Rattle.pluto_systems.specs.Posing.{posed_system, ruled_deps, vectors_for, AreSmallVectors, HasPosedBehind}
 use Rattle.schedule_rows.specs.Schedule.{loops_in}
 use Rattle.pluto_systems.proofs.DependenceSystems.{ArePosed, are_posed, posed_sizes, posed_is, is_ruled, ruled_alone}
@@ -51,54 +49,36 @@ with_growth-requires-clause-sized c =
     let five = subst (All (λ (l : ℕ). l ≤ 5)) c.in_ok-loops.ensures.loops c.in_ok-loops.ensures.few in
     let small : AreSmallVectors loops vs =
     c.kernel_vectors_of_rows_are_small.ensures loops (views c.args.rows.now) five c.requires.rows in
-    posed_sizes m loops all vs (columns_of c.parameters.result c.deref.result.now)
-    c.in_ok-equalities.equalities.items
-    (c.in_ok-equalities.rules.items
-    ++ growth_from c.parameters.result c.deref.result.now 0 (views c.deref-2.result.now))
-    (parts c) (c.posed_systems_are_sized.ensures m loops all vs (ruled
+    posed_sizes (parts c) (c.posed_systems_are_sized.ensures m loops all vs (ruled
     (goal.at.with_growth-requires-clause-sized c).In_ok-equalities) small)
-
--- what holds of the posed system holds of the one that is made
-made : (c : After-deref-2) (P : List Dependence → Constraints → Type 0) (s : Constraints)
-    → P (map dep_of (ruled_deps c.args.deps.now c.args.legal.now c.args.bounded.now))
-    (posed_system c.args.model.now.parameters (loops_in c.args.model.now)
-    (ruled_deps c.args.deps.now c.args.legal.now c.args.bounded.now)
-    (vectors_for (loops_in c.args.model.now) (views c.args.rows.now)))
-    → s ≡ system_of (columns_of c.parameters.result c.deref.result.now) 0 c.in_ok-equalities.equalities.items
-    (c.in_ok-equalities.rules.items
-    ++ growth_from c.parameters.result c.deref.result.now 0 (views c.deref-2.result.now))
-    → P c.args.deps.now s
-made c P s h e =
-    let m = c.args.model.now.parameters in
-    let loops = loops_in c.args.model.now in
-    let all = ruled_deps c.args.deps.now c.args.legal.now c.args.bounded.now in
-    let vs = vectors_for loops (views c.args.rows.now) in
-    subst (P c.args.deps.now) (sym (posed_is m loops all vs (columns_of c.parameters.result c.deref.result.now)
-    c.in_ok-equalities.equalities.items
-    (c.in_ok-equalities.rules.items
-    ++ growth_from c.parameters.result c.deref.result.now 0 (views c.deref-2.result.now)) s (parts c) e))
-    (subst (λ (ds : List Dependence). P ds (posed_system m loops all vs))
-    (ruled_alone c.args.deps.now c.args.legal.now c.args.bounded.now c.requires.legal c.requires.bounded) h)
 
 pub returns-clause-points : goal.returns-clause-points
 returns-clause-points c =
-    let at = (goal.at.returns-clause-points c).After-deref-2 in
     let m = c.args.model.now.parameters in
     let loops = loops_in c.args.model.now in
+    let deps = c.args.deps.now in
+    let all = ruled_deps deps c.args.legal.now c.args.bounded.now in
     let rows = views c.args.rows.now in
-    IfOk-weaker c.with_growth.result _ _ (λ s. made at (λ deps t. HasPosedBehind m loops deps rows t) s
-    (c.posed_systems_hold_the_posed_rows.ensures.behind m loops
-    (ruled_deps c.args.deps.now c.args.legal.now c.args.bounded.now) rows
-    (ruled (goal.at.returns-clause-points c).In_ok-equalities) c.requires.rows.size)) c.with_growth.ensures
+    let alone = ruled_alone deps c.args.legal.now c.args.bounded.now c.requires.legal c.requires.bounded in
+    IfOk-weaker c.with_growth.result _ _ (λ s e.
+    subst (HasPosedBehind m loops deps rows)
+    (sym (posed_is (parts (goal.at.returns-clause-points c).After-deref-2) e))
+    (subst (λ (ds : List Dependence). HasPosedBehind m loops ds rows (posed_system m loops all
+    (vectors_for loops rows))) alone
+    (c.posed_systems_hold_the_posed_rows.ensures.behind m loops all rows
+    (ruled (goal.at.returns-clause-points c).In_ok-equalities) c.requires.rows.size))) c.with_growth.ensures
 
 pub returns-clause-before : goal.returns-clause-before
 returns-clause-before c =
-    let at = (goal.at.returns-clause-before c).After-deref-2 in
     let m = c.args.model.now.parameters in
     let loops = loops_in c.args.model.now in
+    let deps = c.args.deps.now in
+    let all = ruled_deps deps c.args.legal.now c.args.bounded.now in
     let vs = vectors_for loops (views c.args.rows.now) in
-    IfOk-weaker c.with_growth.result _ _ (λ s. made at
-    (λ deps t. (before : List Row) → AreVectorsOf loops before vs → HasPosed m loops deps before t) s
-    (λ before v. c.posed_systems_hold_the_posed_rows.ensures.before m loops
-    (ruled_deps c.args.deps.now c.args.legal.now c.args.bounded.now) before vs
-    (ruled (goal.at.returns-clause-before c).In_ok-equalities) v)) c.with_growth.ensures
+    let alone = ruled_alone deps c.args.legal.now c.args.bounded.now c.requires.legal c.requires.bounded in
+    IfOk-weaker c.with_growth.result _ _ (λ s e before v.
+    subst (HasPosed m loops deps before)
+    (sym (posed_is (parts (goal.at.returns-clause-before c).After-deref-2) e))
+    (subst (λ (ds : List Dependence). HasPosed m loops ds before (posed_system m loops all vs)) alone
+    (c.posed_systems_hold_the_posed_rows.ensures.before m loops all before vs
+    (ruled (goal.at.returns-clause-before c).In_ok-equalities) v))) c.with_growth.ensures

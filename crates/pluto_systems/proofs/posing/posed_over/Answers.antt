@@ -1,8 +1,7 @@
-use Rattle.scop_syntax.proofs.Common.{◌≡◌, ℤ, List, ◌++◌, map, Vec, Global, refl, sym, subst, IfOk-weaker}
-use Rattle.integer_sets.specs.Constraints.{Constraints, system_of}
-use Rattle.schedule_rows.specs.Items.{Row}
+use Rattle.scop_syntax.proofs.Common.{ℤ, List, ◌++◌, map, Vec, Global, refl, sym, subst, IfOk-weaker}
+use Rattle.integer_sets.specs.Constraints.{Constraints}
 use Rattle.pluto_systems.specs.Placing.{columns_of}
-use Rattle.pluto_systems.specs.Posing.{growth_from, AreVectorsOf, HasPosed, dep_of}
+use Rattle.pluto_systems.specs.Posing.{growth_from, HasPosed, dep_of}
 use Rattle.pluto_systems.proofs.DependenceSystems.{ArePosed, are_posed, posed_sizes, posed_is}
 use Rattle.pluto_systems.proofs.posing.posed_over.Goals as goal
 use Rattle.pluto_systems.proofs.posing.posed_over.Goals.{In_ok-equalities}
@@ -27,9 +26,7 @@ with_growth-requires-clause-sized c =
     let loops = c.args.loops.now in
     let ruled = c.args.ruled.now in
     let vs = views c.args.vectors.now in
-    posed_sizes m loops ruled vs (columns_of m loops) c.in_ok-equalities.equalities.items
-    (c.in_ok-equalities.rows.items ++ growth_from m loops 0 vs)
-    (parts (goal.at.with_growth-requires-clause-sized c).In_ok-equalities)
+    posed_sizes (parts (goal.at.with_growth-requires-clause-sized c).In_ok-equalities)
     (c.posed_systems_are_sized.ensures m loops ruled vs c.requires.between c.requires.vectors)
 
 pub returns-clause-points : goal.returns-clause-points
@@ -38,13 +35,8 @@ returns-clause-points c =
     let loops = c.args.loops.now in
     let ruled = c.args.ruled.now in
     let vs = views c.args.vectors.now in
-    let es = c.in_ok-equalities.equalities.items in
-    let rs = c.in_ok-equalities.rows.items ++ growth_from m loops 0 vs in
-    IfOk-weaker c.with_growth.result (λ s. s ≡ system_of (columns_of m loops) 0 es rs)
-    (λ s. (before : List Row) → AreVectorsOf loops before vs → HasPosed m loops (map dep_of ruled) before s)
-    (λ s e before v.
+    IfOk-weaker c.with_growth.result _ _ (λ s e before v.
     subst (λ (t : Constraints). HasPosed m loops (map dep_of ruled) before t)
-    (sym (posed_is m loops ruled vs (columns_of m loops) es rs s (parts
-    (goal.at.returns-clause-points c).In_ok-equalities) e))
+    (sym (posed_is (parts (goal.at.returns-clause-points c).In_ok-equalities) e))
     (c.posed_systems_hold_the_posed_rows.ensures.before m loops ruled before vs c.requires.between v))
     c.with_growth.ensures
