@@ -162,23 +162,22 @@ fn push_missing(
     push_variables(alloc, out, layout.width(), first, layout.missing)
 }
 
-/// Appends that the dimensions from `first` on are the tile coordinates of the rows.
+/// Appends that the dimensions behind the wave sum are the tile coordinates of the rows of the first band.
 fn push_coordinates(
     alloc: Global,
     out: &mut Vec<Form>,
     scattering: &Scattering,
-    first: usize,
-    rows: &[TileRow],
 ) -> Result<(), AllocError>
-    requires place { first + length rows.now ≤ width scattering.now.layout }
-    requires small { All (λ r. FitsTurns scattering.now.layout.turns r.form) rows.now }
     ensures { OnOk result (out.new.items ≡ out.old.items
-        ++ are_coordinates scattering.now.layout (pos scattering.now.size) first rows.now) }
+        ++ are_coordinates scattering.now.layout (pos scattering.now.size)
+        (length scattering.now.items.now.leading.items + 1) scattering.now.items.now.band.items) }
 {
+    let wave = scattering.items.leading.len();
+    let rows = scattering.items.band.as_slice();
     for at in 0..rows.len() {
         let row = &rows[at];
         let form = row_form(alloc, scattering, &row.form)?;
-        push_coordinate(alloc, out, scattering, first + at, &form)?;
+        push_coordinate(alloc, out, scattering, wave + 1 + at, &form)?;
     }
     Ok(())
 }
@@ -209,12 +208,11 @@ pub fn rows(alloc: Global, scattering: &Scattering) -> Result<Vec<Form>, AllocEr
     ensures sized { IfOk result (λ fs. All (λ f. variables_of f ≡ width scattering.now.layout) fs.items) }
 {
     let layout = scattering.layout;
-    let items = scattering.items;
     let domain = scattering.statement.domain();
-    let wave = items.leading.len();
+    let wave = scattering.items.leading.len();
     let mut out = Vec::new(alloc);
     push_domain(alloc, &mut out, layout, domain.rows())?;
     push(&mut out, variable_form(alloc, layout.width(), wave)?)?;
-    push_coordinates(alloc, &mut out, scattering, wave + 1, items.band.as_slice())?;
+    push_coordinates(alloc, &mut out, scattering)?;
     Ok(out)
 }

@@ -4,6 +4,6 @@ use Rattle.tile_skew.proofs.sets.push_coordinates.Given as goal
 
 abbrev pub invariant-loop-at : goal.invariant-loop-at
 invariant-loop-at l =
-    let layout = l.scattering.layout in
-    l.out.items ++ are_coordinates layout (pos l.scattering.size) (l.first + l.at) (drop l.at l.rows)
-    ≡ l.fn.out.items ++ are_coordinates layout (pos l.scattering.size) l.first l.rows
+    let s = l.scattering in
+    l.out.items ++ are_coordinates s.layout (pos s.size) (l.wave + 1 + l.at) (drop l.at l.rows)
+    ≡ l.fn.out.items ++ are_coordinates s.layout (pos s.size) (l.wave + 1) l.rows

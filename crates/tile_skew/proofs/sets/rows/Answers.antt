@@ -15,11 +15,6 @@ push_domain-requires c =
     all_wide s.layout.turns (variables_in c.domain-domain.result.now) c.rows.result.now (omega (arith, d, e))
     c.rows.ensures.sized
 
-pub push_coordinates-requires-clause-small : goal.push_coordinates-requires-clause-small
-push_coordinates-requires-clause-small c =
-    let s = c.args.scattering.now in
-    subst (λ rs. All (λ r. FitsTurns s.layout.turns r.form) rs) (sym c.as_slice.ensures.value) s.fit.band
-
 pub returns-clause-sized : goal.returns-clause-sized
 returns-clause-sized c =
     let s = c.args.scattering.now in
@@ -31,9 +26,8 @@ returns-clause-sized c =
     omega (arith, d, p, e) in
     let domain = domain_over l c.rows.result.now (resized (variables_in c.domain-domain.result.now) (l.turns + l.parameters)
     c.rows.result.now c.rows.result.now many refl c.rows.ensures.sized) in
-    let small = subst (λ rs. All (λ r. FitsTurns l.turns r.form) rs) (sym c.as_slice.ensures.value) s.fit.band in
     parts_over l c.new-out.result.items c.push_domain.new.out.items c.push.new.list.items
     c.push_coordinates.new.out.items (map (domain_form l) c.rows.result.now) _ _ c.new-out.ensures.items
     c.in_ok-push_domain.ensures c.in_ok-push.ensures.pushed c.in_ok-push_coordinates.ensures domain
     (ap variables_of c.in_ok-variable_form.ensures ∙ (length-variable _ _ ∙ c.width.ensures))
-    (coordinates_over l (pos s.size) _ c.as_slice.result.now small)
+    (coordinates_over l (pos s.size) _ s.items.now.band.items s.fit.band)
