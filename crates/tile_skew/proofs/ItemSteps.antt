@@ -155,7 +155,7 @@ coordinates_step l size first at rows r f done new whole few is made now before 
 pub waves_put : (l : Layout) (s : Items) (old first second : List Affine) (sum : Affine) (at : ℕ)
     → at ≡ length s.leading
     → first ≡ old ++ have_values l 0 (map (λ k. number_form l (pos k)) s.leading)
-    → sum ≡ carried_form l (at + 1) s.band → second ≡ first ++ have_values l at (sum ∷ [])
+    → sum ≡ carried_form l (length s.leading + 1) s.band → second ≡ first ++ have_values l at (sum ∷ [])
     → second ≡ old ++ wave_equalities l s
 waves_put l s old first second sum at h a b c =
     let numbers = map (λ (k : ℕ). number_form l (pos k)) s.leading in
@@ -165,9 +165,7 @@ waves_put l s old first second sum at h a b c =
     let split : wave_equalities l s ≡ have_values l 0 numbers ++ have_values l (length s.leading) (last ∷ []) =
     values_behind l 0 numbers (last ∷ [])
     ∙ ap (λ k. have_values l 0 numbers ++ have_values l k (last ∷ [])) size in
-    let own : have_values l at (sum ∷ []) ≡ have_values l (length s.leading) (last ∷ []) =
-    ap₂ (λ k f. have_values l k (f ∷ [])) h (b ∙ ap (λ k. carried_form l (k + 1) s.band) h) in
-    c ∙ (ap₂ (λ xs ys. xs ++ ys) a own
+    c ∙ (ap₂ (λ xs ys. xs ++ ys) a (ap₂ (λ k f. have_values l k (f ∷ [])) h b)
     ∙ (append_assoc old (have_values l 0 numbers) (have_values l (length s.leading) (last ∷ []))
     ∙ ap (λ xs. old ++ xs) (sym split)))
 

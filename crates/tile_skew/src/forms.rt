@@ -78,22 +78,19 @@ pub fn row_form(alloc: Global, scattering: &Scattering, form: &Aff) -> Result<Fo
     form_from(alloc, numbers.as_slice(), form.constant as i128)
 }
 
-/// The sum of the tile coordinates, from dimension `first` on, of the rows that carry.
-pub fn carried_form(
-    alloc: Global,
-    scattering: &Scattering,
-    first: usize,
-    rows: &[TileRow],
-) -> Result<Form, AllocError>
-    requires { first + length rows.now ≤ width scattering.now.layout }
-    ensures form { IfOk result (λ f. f ≡ carried_form scattering.now.layout first rows.now) }
+/// The sum of the tile coordinates of the rows that carry.
+pub fn carried_form(alloc: Global, scattering: &Scattering) -> Result<Form, AllocError>
+    ensures form { IfOk result (λ f. f ≡ carried_form scattering.now.layout
+        (length scattering.now.items.now.leading.items + 1) scattering.now.items.now.band.items) }
     ensures small { IfOk result (FitsWidth scattering.now.layout) }
 {
     let width = scattering.layout.width();
+    let wave = scattering.items.leading.len();
+    let rows = scattering.items.band.as_slice();
     let mut numbers = Numbers::new(alloc);
-    push_zeros(&mut numbers, first)?;
+    push_zeros(&mut numbers, wave + 1)?;
     push_carried(&mut numbers, rows)?;
-    push_zeros(&mut numbers, width - (first + rows.len()))?;
+    push_zeros(&mut numbers, width - (wave + 1 + rows.len()))?;
     form_from(alloc, numbers.as_slice(), 0)
 }
 

@@ -56,11 +56,10 @@ fn push_waves(alloc: Global, out: &mut Vec<Form>, scattering: &Scattering) -> Re
     ensures { OnOk result (out.new.items
         ≡ out.old.items ++ wave_equalities scattering.now.layout (items_of scattering.now.items.now)) }
 {
-    let items = scattering.items;
-    let at = items.leading.len();
-    push_leading(alloc, out, scattering, 0, items.leading.as_slice())?;
-    let sum = carried_form(alloc, scattering, at + 1, items.band.as_slice())?;
-    push_value(alloc, out, scattering, at, &sum)?;
+    let leading = scattering.items.leading.as_slice();
+    push_leading(alloc, out, scattering, 0, leading)?;
+    let sum = carried_form(alloc, scattering)?;
+    push_value(alloc, out, scattering, leading.len(), &sum)?;
     Ok(())
 }
 
