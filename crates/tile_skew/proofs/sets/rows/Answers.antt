@@ -1,9 +1,8 @@
-use Rattle.scop_syntax.proofs.Common.{◌≡◌, ◌+◌, ◌∙◌, ap, sym, subst, arith, map, pos, refl, All}
+use Rattle.scop_syntax.proofs.Common.{◌≡◌, ◌+◌, ◌∙◌, ap, arith, map, pos, refl}
 use Rattle.affine_forms.specs.Parts.{variables_of}
 use Rattle.integer_sets.specs.Constraints.{variables_in}
 use Rattle.iteration_domains.proofs.Surroundings.{length-variable}
 use Rattle.tile_skew.specs.ScanSets.{domain_form}
-use Rattle.tile_skew.specs.steps.Sizes.{FitsTurns}
 use Rattle.tile_skew.proofs.ConstraintVariables.{all_wide, resized, domain_over, coordinates_over, parts_over}
 use Rattle.tile_skew.proofs.sets.rows.Goals as goal
 
