@@ -21,5 +21,5 @@ pub struct Scattering<'a> {
     ghost turns: { layout.turns ≡ statement.now.domain.dimensions },
     ghost parameters: { layout.parameters ≡ statement.now.domain.parameters },
     ghost fits: { width layout < 2 ^ 64 },
-    ghost fit: { FitItems layout.turns (items_of items.now) },
+    ghost small: { FitItems layout.turns (items_of items.now) },
 }

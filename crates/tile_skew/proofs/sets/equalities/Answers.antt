@@ -43,4 +43,4 @@ returns-clause-sized c =
     c.equalities.result.now own.equalities many shown c.equalities.ensures.sized) in
     subst (All (Over l)) (sym (returns-clause-forms c))
     (All-append (Over l) (map (domain_form l) own.equalities) (dimension_equalities l items) domain
-    (dimensions_over l items (omega (arith, s.front)) s.fit))
+    (dimensions_over l items (omega (arith, s.front)) s.small))

@@ -13,7 +13,7 @@ row_form-requires c =
     let inside : c.loop-at.at < length rows = omega (arith, c.loop-at-test.true) in
     let P : TileRow → Type 0 = λ r. FitsTurns s.layout.turns r.form in
     subst P (sym (c.row.view_is ∙ c.index-rows-at.is))
-    (subst (All P) (sym c.as_slice-rows.ensures.value) s.fit.band c.loop-at.at c.index-rows-at.result inside)
+    (subst (All P) (sym c.as_slice-rows.ensures.value) s.small.band c.loop-at.at c.index-rows-at.result inside)
 
 pub loop-at-preserved : goal.loop-at-preserved
 loop-at-preserved c =

@@ -9,13 +9,13 @@ use Rattle.tile_skew.proofs.sets.push_item_values.Goals as goal
 pub push_rows-requires-clause-small : goal.push_rows-requires-clause-small
 push_rows-requires-clause-small c =
     let s = c.args.scattering.now in
-    subst (λ rs. All (λ r. FitsTurns s.layout.turns r.form) rs) (sym c.as_slice-2.ensures.value) s.fit.band
+    subst (λ rs. All (λ r. FitsTurns s.layout.turns r.form) rs) (sym c.as_slice-2.ensures.value) s.small.band
 
 pub push_items-requires-clause-small : goal.push_items-requires-clause-small
 push_items-requires-clause-small c =
     let s = c.args.scattering.now in
     let P = FitsItem s.layout.turns in
-    all_unmapped P item_of _ (subst (λ is. All P (map item_of is)) (sym c.as_slice-3.ensures.value) s.fit.behind)
+    all_unmapped P item_of _ (subst (λ is. All P (map item_of is)) (sym c.as_slice-3.ensures.value) s.small.behind)
 
 pub returns : goal.returns
 returns c =

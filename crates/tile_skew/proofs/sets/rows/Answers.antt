@@ -29,4 +29,4 @@ returns-clause-sized c =
     c.push_coordinates.new.out.items (map (domain_form l) c.rows.result.now) _ _ c.new-out.ensures.items
     c.in_ok-push_domain.ensures c.in_ok-push.ensures.pushed c.in_ok-push_coordinates.ensures domain
     (ap variables_of c.in_ok-variable_form.ensures ∙ (length-variable _ _ ∙ c.width.ensures))
-    (coordinates_over l (pos s.size) _ s.items.now.band.items s.fit.band)
+    (coordinates_over l (pos s.size) _ s.items.now.band.items s.small.band)

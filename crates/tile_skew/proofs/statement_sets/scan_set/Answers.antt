@@ -17,7 +17,7 @@ invariant_of-scattering c =
       turns = same;
       parameters = ap (λ (l : Layout). l.parameters) is;
       fits = c.in-Some.ensures.fits c.in-Some.layout refl;
-      fit = subst (λ n. FitItems n (items_of c.args.items.now)) (sym same) c.requires.fit;
+      small = subst (λ n. FitItems n (items_of c.args.items.now)) (sym same) c.requires.fit;
     }
 
 pub returns : goal.returns
