@@ -44,8 +44,8 @@ pub fn pairs_along_blocks_are_in_order()
         → IsInOrder (schedule_tiling size count blocks) i x j y }
 {}
 
-/// So is each pair of a dependence under the tiling of its schedule, where the dependence's pairs of one statement are in
-/// order.
+/// Each pair of a schedule's dependences is in order under its tiling, for any size of tiles, where turns rise at pairs of
+/// one statement.
 pub fn tiled_dependences_are_in_order()
     ensures { (m : ℕ) (loops : List ℕ) (deps : List Dependence) (blocks : List Block) (size i j : ℕ) → 0 < size
         → ((d : Dependence) → In d deps → IsSizedDep loops d) → IsSchedule m loops deps blocks
