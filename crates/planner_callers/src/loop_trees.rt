@@ -1,21 +1,28 @@
-//! Callers of loop trees: the source's own, walks, guards, and what marks say.
-ghost use Rattle.std.specs.Prelude.{◌≡◌, ◌^◌, ◌++◌, [], ◌∷◌, IfOk, IsNone, false, map, true};
+//! Callers of loop trees: the source's own, walks, runs, guards, and what marks say.
+ghost use Rattle.std.specs.Prelude.{◌≡◌, ◌^◌, ◌++◌, [], ◌∷◌, IfOk, IsNone, List, false, filter, map, reverse, true, ℤ};
 ghost use Rattle.scop_syntax.specs.Kernel.{IsKernel};
 ghost use Rattle.scop_syntax.specs.Limits.{HasParameters};
-ghost use Rattle.scop_syntax.specs.Members.{In};
+ghost use Rattle.scop_syntax.specs.Members.{In, Sorted};
 ghost use Rattle.scop_syntax.specs.Tree.{Program, none as nothing};
 ghost use Rattle.scop_syntax.specs.View.{program_of};
 ghost use Rattle.scop_syntax.specs.Walk.{instance, walk_of};
 ghost use Rattle.loop_tree.specs.Conditions.{CanWalk};
+ghost use Rattle.loop_tree.specs.Interleavings.{InTurn, Interleaves, stands_at};
 ghost use Rattle.loop_tree.specs.Marks.{FlatAll, MarksAll, ShowsAll, marked};
+ghost use Rattle.loop_tree.specs.Runs.{MayRun, MayRunAll};
+ghost use Rattle.loop_tree.specs.Scans.{Within};
 ghost use Rattle.loop_tree.specs.Shape.{AreSerial, TreesAreOf, TreesAreOver, TreesAreUpTo};
 ghost use Rattle.loop_tree.specs.Source.{source_of};
 ghost use Rattle.loop_tree.specs.SpotView.{IsSpotOf, found_in, to_come};
-ghost use Rattle.loop_tree.specs.Tree.{Trees, none};
+ghost use Rattle.loop_tree.specs.Tree.{Bounds, Trees, loop, none};
+ghost use Rattle.loop_tree.specs.TwoIterations.{twice};
 ghost use Rattle.loop_tree.specs.View.{trees_in};
-ghost use Rattle.loop_tree.specs.Walk.{Visit, visits, walk_all};
+ghost use Rattle.loop_tree.specs.Walk.{Visit, through, visits, walk_all};
 
-use loop_tree::{Spot, Tree, Visitor, marks_are_the_parallel_loops, source_trees_visit_the_walk};
+use loop_tree::{
+    Spot, Tree, Visitor, loops_interleave_their_iterations, marks_are_the_parallel_loops,
+    source_trees_visit_the_walk, two_iterations_in_both_orders,
+};
 use scop_syntax::{Instance, Kernel};
 use std::alloc::{AllocError, Global};
 
@@ -62,6 +69,39 @@ pub fn visits_of_one_parallel_loop()
         → v.turns ≡ [] }
 {
     marks_are_the_parallel_loops();
+}
+
+/// In a run of one loop the visits of each iteration are a run of it, by `iterations` of
+/// `loops_interleave_their_iterations`; visits of which this is so are a run where the loop is parallel, by `parallel`,
+/// and where they come in turn, by `serial`; those of a loop that is not parallel do, by `in_turn`.
+pub fn runs_of_one_loop()
+    ensures iterations { (lo up : Bounds) (body : Trees) (zs : List Visit) → MayRun (loop true lo up body) [] [] zs
+        → ((v : Visit) → In v zs → (x : ℤ) × Within lo up [] x × (stands_at x v ≡ true))
+        × ((x : ℤ) → Within lo up [] x
+        → (ys : List Visit) × MayRunAll body [] (x ∷ []) ys × (filter (stands_at x) zs ≡ map (through true x) ys)) }
+    ensures parallel { (lo up : Bounds) (body : Trees) (zs : List Visit)
+        → ((v : Visit) → In v zs → (x : ℤ) × Within lo up [] x × (stands_at x v ≡ true))
+        → ((x : ℤ) → Within lo up [] x
+        → (ys : List Visit) × MayRunAll body [] (x ∷ []) ys × (filter (stands_at x) zs ≡ map (through true x) ys))
+        → MayRun (loop true lo up body) [] [] zs }
+    ensures serial { (lo up : Bounds) (zs : List Visit) → Interleaves false lo up none [] [] zs → Sorted InTurn zs
+        → MayRun (loop false lo up none) [] [] zs }
+    ensures in_turn { (lo up : Bounds) (zs : List Visit) → MayRun (loop false lo up none) [] [] zs
+        → Sorted InTurn zs }
+{
+    loops_interleave_their_iterations();
+}
+
+/// The visits of a loop of two iterations in their own order and the other way round: both are runs where it is
+/// parallel, by `upwards` and `downwards` of `two_iterations_in_both_orders`, and else the first alone, by `serial` and
+/// `no_other`.
+pub fn two_iterations_turned_round()
+    ensures upwards { MayRunAll (twice true) [] [] (walk_all (twice true) [] []) }
+    ensures downwards { MayRunAll (twice true) [] [] (reverse (walk_all (twice true) [] [])) }
+    ensures serial { MayRunAll (twice false) [] [] (walk_all (twice false) [] []) }
+    ensures no_other { MayRunAll (twice false) [] [] (reverse (walk_all (twice false) [] [])) → ⊥ }
+{
+    two_iterations_in_both_orders();
 }
 
 /// Whether an instance was seen.
