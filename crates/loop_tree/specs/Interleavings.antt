@@ -25,8 +25,8 @@ abbrev pub MayRunAt : Bool → Trees → List ℤ → List ℤ → ℤ → List 
 MayRunAt flag body params outer x zs =
     (ys : List Visit) × MayRunAll body params (outer ++ x ∷ []) ys × (zs ≡ map (through flag x) ys)
 
--- an interleaving of one run of each iteration between the bounds: each visit stands in one of them, and those that stand
--- in the same are, in their order, a run of it
+-- an interleaving of one run of each iteration between the bounds: each visit stands in one of them, and those that
+-- stand in the same are, in their order, a run of it
 pub record Interleaves (flag : Bool) (lo up : Bounds) (body : Trees) (params outer : List ℤ) (zs : List Visit)
     : Type 0 where
   pub within : (v : Visit) → In v zs → (x : ℤ) × Within lo up (outer ++ params) x × (stands_at x v ≡ true)

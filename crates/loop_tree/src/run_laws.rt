@@ -1,5 +1,5 @@
-//! Laws of a loop's runs, as contracts of functions that do nothing: the orders in which an execution may make the visits
-//! of its iterations; both orders of two iterations, worked out.
+//! Laws of a loop's runs, as contracts of functions that do nothing: the orders in which an execution may make the
+//! visits of its iterations; both orders of two iterations, worked out.
 ghost use Rattle.std.specs.Prelude.{◌≡◌, [], ◌∷◌, Bool, List, false, pos, true, ℤ};
 ghost use Rattle.scop_syntax.specs.Members.{Sorted};
 ghost use Rattle.loop_tree.specs.Interleavings.{InTurn, Interleaves};

@@ -4,7 +4,7 @@ use Rattle.whole_numbers.specs.Affine.{form_of}
 use Rattle.loop_tree.specs.Tree.{only, besides, at_least, Tree, loop, guard, instance, Trees, none, more}
 use Rattle.loop_tree.specs.TwoIterations.{one, over}
 
--- the second
+-- the second statement
 abbrev two : Tree
 two = instance 1 (form_of (pos 1 ∷ []) (pos 0) ∷ [])
 
