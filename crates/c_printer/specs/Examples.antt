@@ -21,7 +21,7 @@ abbrev value : Expression
 value =
     source.shifted_left (source.binary source.plus
     (source.binary source.times (source.complemented (source.negated
-    (source.read (cell 0 (form_of (pos 1 ∷ negsuc 0 ∷ []) (pos 0) ∷ []))))) (source.constant 5))
+    (source.read (cell 1 (form_of (pos 1 ∷ negsuc 0 ∷ []) (pos 0) ∷ []))))) (source.constant 5))
     (source.cast (source.affine (form_of (pos 0 ∷ pos 2 ∷ []) (negsuc 2))))) 2
 
 -- `for (int64_t i = N; i >= 0; i -= 2)`
@@ -34,7 +34,7 @@ head =
       condition = form_of (pos 0 ∷ pos 1 ∷ []) (pos 0);
     }
 
--- `void k(int64_t N, uint64_t A[N + 1], uint32_t B[N])`, whose loop's body is `A[i] += ..`
+-- `void k(uint64_t C[2], int64_t N, uint64_t A[N + 1], uint32_t B[N])`, whose loop's body is `A[i] += ..`
 abbrev pub kernel : Program
 kernel =
     record {
@@ -42,6 +42,11 @@ kernel =
       parameters = codes "N" ∷ [];
       arrays =
           record {
+            name = codes "C";
+            parameters_before = 0;
+            narrow = false;
+            extents = form_of (pos 0 ∷ []) (pos 2) ∷ [];
+          } ∷ record {
             name = codes "A";
             parameters_before = 1;
             narrow = false;
@@ -53,7 +58,7 @@ kernel =
             extents = form_of (pos 1 ∷ []) (pos 0) ∷ [];
           } ∷ [];
       body = source.more (source.loop head (source.more (source.statement (record {
-        place = cell 0 (form_of (pos 0 ∷ pos 1 ∷ []) (pos 0) ∷ []);
+        place = cell 1 (form_of (pos 0 ∷ pos 1 ∷ []) (pos 0) ∷ []);
         right = source.combined source.plus value;
       })) source.none)) source.none;
     }
@@ -84,7 +89,7 @@ text = codes "#include <stdint.h>\n"
     ++ codes "static int64_t pp_ceild(int64_t n, int64_t d) { return n < 0 ? -((-n) / d) : (n + d - 1) / d; }\n"
     ++ codes "static int64_t pp_max(int64_t a, int64_t b) { return a > b ? a : b; }\n"
     ++ codes "static int64_t pp_min(int64_t a, int64_t b) { return a < b ? a : b; }\n"
-    ++ codes "void k(int64_t N, uint64_t A[N + 1], uint32_t B[N]) {\n"
+    ++ codes "void k(uint64_t C[2], int64_t N, uint64_t A[N + 1], uint32_t B[N]) {\n"
     ++ codes "  #pragma omp parallel for\n"
     ++ codes "  for (int64_t pp_1 = pp_max(pp_ceild(-N + 3, 2), 0); pp_1 <= pp_floord(N, 32); pp_1++) {\n"
     ++ codes "    for (int64_t pp_2 = 32*pp_1; pp_2 <= pp_min(32*pp_1 + 31, N); pp_2++) {\n"
@@ -102,11 +107,11 @@ iterator = form_of (pos 0 ∷ pos 1 ∷ []) (pos 0)
 
 -- `A[i]`
 abbrev here : Access
-here = cell 0 (iterator ∷ [])
+here = cell 1 (iterator ∷ [])
 
 -- `B[i]`
 abbrev there : Access
-there = cell 1 (iterator ∷ [])
+there = cell 2 (iterator ∷ [])
 
 -- a statement whose place is that cell of A
 abbrev to_here : Right → Statement
