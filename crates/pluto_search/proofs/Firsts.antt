@@ -17,15 +17,6 @@ first_next {A} P Q xs rest i x e h q =
     subst (IsFirst P Q) (ap (λ (z : List A). take i xs ++ z) (sym e) ∙ take-append-drop i xs)
     (first_behind P Q (take i xs) (x ∷ rest) h (inl q))
 
--- one more of which P holds
-pub taken_more : {A : Type 0} (P : A → Type 0) (xs : List A) (i : ℕ) (x d : A) → i < length xs
-    → x ≡ slice_index_or xs i d → P x → All P (take i xs) → All P (take (i + 1) xs)
-taken_more {A} P xs i x d l e p h =
-    subst (All P)
-    (sym (ap (λ (n : ℕ). take n xs) (add-one i)
-    ∙ (take-suc xs i d l ∙ ap (λ (z : A). take i xs ++ z ∷ []) (sym e))))
-    (All-push P (take i xs) x h p)
-
 -- of a list that is made from another
 pub first_mapped : {A B : Type 0} (f : A → B) (P Q : B → Type 0) (xs : List A)
     → IsFirst (λ x. P (f x)) (λ x. Q (f x)) xs → IsFirst P Q (map f xs)

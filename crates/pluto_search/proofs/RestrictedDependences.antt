@@ -40,17 +40,8 @@ pub next_of : {X : Type 0} (xs : List X) (i : ℕ) (x : X) (d : X) → i < lengt
 next_of xs i x d h e =
     drop-cons xs i d h ∙ (ap (λ (z : _). z ∷ drop (suc i) xs) (sym e) ∙ ap (λ (n : ℕ). x ∷ drop n xs) (sym (add-one i)))
 
-pub in_drop : {X : Type 0} (xs : List X) (i : ℕ) (x : X) → In x (drop i xs) → In x xs
-in_drop xs zero x h = h
-in_drop [] (suc i) x h = absurd h
-in_drop (y ∷ xs) (suc i) x h = inr (in_drop xs i x h)
-
--- it stands among them
-pub is_among : {X : Type 0} (xs rest : List X) (i : ℕ) (x : X) → drop i xs ≡ x ∷ rest → In x xs
-is_among xs rest i x e = in_drop xs i x (subst (λ l. In x l) (sym e) (inl refl))
-
 -- a restricted dependence is told by the same rows
-pub tell_more : (m : ℕ) (r q : Row) (d : Dependence) → CanTell m r d → CanTell m r (equal_at m q d)
+tell_more : (m : ℕ) (r q : Row) (d : Dependence) → CanTell m r d → CanTell m r (equal_at m q d)
 tell_more m r q d h =
     record {
       source = h.source;
@@ -66,11 +57,7 @@ tell_more m r q d h =
 
 pub all_tell_more : (m : ℕ) (rows : List Marked) (q : Row) (d : Dependence) → All (λ r. CanTell m r.row d) rows
     → All (λ r. CanTell m r.row (equal_at m q d)) rows
-all_tell_more m [] q d h = All-nil (λ (r : Marked). CanTell m r.row (equal_at m q d))
-all_tell_more m (r ∷ rows) q d h =
-    let P : Marked → Type 0 = λ r. CanTell m r.row d in
-    let Q : Marked → Type 0 = λ r. CanTell m r.row (equal_at m q d) in
-    All-cons Q r rows (tell_more m r.row q d (All-head P r rows h)) (all_tell_more m rows q d (All-tail P r rows h))
+all_tell_more m rows q d h k e l = tell_more m (slice_index_or rows k e).row q d (h k e l)
 
 -- what is kept stands between the same statements
 restricted_between : (m : ℕ) (loops : List ℕ) (rows : List Marked) (d : Dependence) → IsBetween m loops d
@@ -119,12 +106,3 @@ pub restricted_parameters : (m : ℕ) (rows : List Marked) (d : Dependence)
     → (restricted m rows d).system.parameters ≡ d.system.parameters
 restricted_parameters m [] d = refl
 restricted_parameters m (r ∷ rows) d = restricted_parameters m rows (equal_at m r.row d)
-
-pub all_among : (m : ℕ) (rows : List code.Marked) (d : Dependence) (r : code.Marked)
-    → All (λ q. CanTell m q.row d) (map marked_of rows) → In r rows → CanTell m (row_of r.row) d
-all_among m [] d r h i = absurd i
-all_among m (q ∷ rows) d r h (inl e) =
-    subst (λ (z : code.Marked). CanTell m (row_of z.row) d) (sym e)
-    (All-head (λ (q : Marked). CanTell m q.row d) (marked_of q) (map marked_of rows) h)
-all_among m (q ∷ rows) d r h (inr i) =
-    all_among m rows d r (All-tail (λ (q : Marked). CanTell m q.row d) (marked_of q) (map marked_of rows) h) i

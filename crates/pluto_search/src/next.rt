@@ -82,17 +82,13 @@ fn finish<'a>(alloc: Global, progress: Progress<'a>) -> Result<Step<'a>, Kept>
         Err(_) => return Err(Kept::NoMemory),
         Ok(deps) => deps,
     };
-    let Progress {
-        search,
-        closed,
-        rows,
-        ..
-    } = progress;
+    let search = progress.search;
+    let rows = progress.rows;
     let left = match restrict_all(alloc, search.parameters, &rows, &deps, search.budget) {
         Err(kept) => return Err(kept),
         Ok(left) => left,
     };
-    let blocks = match close(closed, rows) {
+    let blocks = match close(progress.closed, rows) {
         Err(_) => return Err(Kept::NoMemory),
         Ok(blocks) => blocks,
     };
@@ -313,14 +309,9 @@ fn next_row<'a>(alloc: Global, progress: Progress<'a>) -> Result<Step<'a>, Kept>
     requires more { HasMore progress.search.now (state_of progress) }
     ensures { Steps progress.entry.search.now (state_of progress.entry) result }
 {
-    let (search, loops) = (progress.search, progress.search.loops);
-    let posed = match posed_over(
-        alloc,
-        search.parameters,
-        loops,
-        &progress.ruled,
-        &progress.vectors,
-    ) {
+    let search = progress.search;
+    let (parameters, loops) = (search.parameters, search.loops);
+    let posed = match posed_over(alloc, parameters, loops, &progress.ruled, &progress.vectors) {
         Err(_) => return Err(Kept::NoMemory),
         Ok(posed) => posed,
     };

@@ -1,13 +1,13 @@
 use Rattle.scop_syntax.proofs.Common.{◌≡◌, ◌+◌, List, ◌∷◌, arith, map, drop, take, sym, subst, drop_all, In, Option, Ok}
-use Rattle.scop_syntax.proofs.Common.{true, false, all_taken}
+use Rattle.scop_syntax.proofs.Common.{true, false, all_next, all_taken, member_at}
 use Rattle.iteration_domains.specs.Dependence.{Dependence}
 use Rattle.schedule_rows.specs.Next.{restricted}
 use Rattle.schedule_rows.specs.Schedule.{marked_of}
 use Rattle.pluto_search.specs.Questions.{AnswersRestricted, IsAnswered, StopsEmptiness, StopsRestricted}
 use Rattle.pluto_search.specs.steps.Stopping.{Restrictions}
-use Rattle.pluto_search.proofs.Firsts.{first_next, taken_more}
+use Rattle.pluto_search.proofs.Firsts.{first_next}
 use Rattle.pluto_search.proofs.QuestionStops.{stop_of}
-use Rattle.pluto_search.proofs.RestrictedDependences.{Leads, dropped, held_back, leads_last, next_of, is_among}
+use Rattle.pluto_search.proofs.RestrictedDependences.{Leads, dropped, held_back, leads_last, next_of}
 use Rattle.pluto_search.proofs.restricting.restrict_all.Goals as goal
 use Rattle.pluto_search.proofs.restricting.restrict_all.Goals.{After-index-deps-at}
 
@@ -19,7 +19,8 @@ dep_next c =
 
 dep_among : (c : After-index-deps-at) → In c.index-deps-at.result c.args.deps.now
 dep_among c =
-    is_among c.args.deps.now (drop (c.loop-at.at + 1) c.args.deps.now) c.loop-at.at c.index-deps-at.result (dep_next c)
+    member_at c.args.deps.now c.loop-at.at c.index-deps-at.result c.index-deps-at.is
+    (omega (arith, c.loop-at-test.true))
 
 pub restrict-requires-clause-tells : goal.restrict-requires-clause-tells
 restrict-requires-clause-tells c = c.requires.tells c.index-deps-at.result
@@ -50,9 +51,9 @@ answered_more : (c : After-index-deps-at) → IsAnswered c.args.budget
     → AnswersRestricted c.args.parameters (map marked_of c.args.rows.now) c.args.budget
     (take (c.loop-at.at + 1) c.args.deps.now)
 answered_more c h =
-    taken_more (λ e. IsAnswered c.args.budget (restricted c.args.parameters (map marked_of c.args.rows.now) e))
-    c.args.deps.now c.loop-at.at c.index-deps-at.result c.index-deps-at.result (omega (arith, c.loop-at-test.true))
-    c.index-deps-at.is h c.loop-at.invariant.1
+    all_next (λ e. IsAnswered c.args.budget (restricted c.args.parameters (map marked_of c.args.rows.now) e))
+    c.args.deps.now c.loop-at.at c.index-deps-at.result c.index-deps-at.is (omega (arith, c.loop-at-test.true))
+    c.loop-at.invariant.1 h
 
 pub loop-at-preserved-in-Ok-None : goal.loop-at-preserved-in-Ok-None
 loop-at-preserved-in-Ok-None c =

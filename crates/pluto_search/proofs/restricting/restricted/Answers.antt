@@ -1,11 +1,11 @@
-use Rattle.scop_syntax.proofs.Common.{◌≡◌, ◌∙◌, ◌+◌, List, ◌∷◌, All, arith, map, drop, sym, ap, subst, drop_all}
+use Rattle.scop_syntax.proofs.Common.{◌≡◌, ◌∙◌, ◌+◌, List, ◌∷◌, All, all_in, arith, in_map, member_at, map, drop, sym, ap, subst, drop_all}
 use Rattle.iteration_domains.specs.Dependence.{Dependence}
 use Rattle.schedule_rows.specs.declared.item.Marked as code
 use Rattle.schedule_rows.specs.Items.{Marked}
 use Rattle.schedule_rows.specs.Next.{restricted}
 use Rattle.schedule_rows.specs.Schedule.{row_of, marked_of}
 use Rattle.pluto_search.specs.steps.Sizes.{CanTell}
-use Rattle.pluto_search.proofs.RestrictedDependences.{next_of, is_among, all_tell_more, all_among}
+use Rattle.pluto_search.proofs.RestrictedDependences.{next_of, all_tell_more}
 use Rattle.pluto_search.proofs.restricting.restricted.Goals as goal
 use Rattle.pluto_search.proofs.restricting.restricted.Goals.{After-marked-item}
 
@@ -17,10 +17,11 @@ row_next c =
 
 pub equal_at-requires : goal.equal_at-requires
 equal_at-requires c =
-    let at = (goal.at.equal_at-requires c).After-marked-item in
-    all_among c.args.parameters c.args.rows.now c.loop-marked.equal c.marked-item.result c.loop-marked.invariant.1
-    (is_among c.args.rows.now (drop (c.loop-marked.marked-index + 1) c.args.rows.now) c.loop-marked.marked-index
-    c.marked-item.result (row_next at))
+    let rows = c.args.rows.now in
+    let own = c.marked-item.result in
+    all_in (λ (q : Marked). CanTell c.args.parameters q.row c.loop-marked.equal) (map marked_of rows) (marked_of own)
+    c.loop-marked.invariant.1 (in_map marked_of own rows (member_at rows c.loop-marked.marked-index own c.marked-item.is
+    (omega (arith, c.loop-marked-test.true))))
 
 pub loop-marked-preserved : goal.loop-marked-preserved
 loop-marked-preserved c =

@@ -1,14 +1,14 @@
 use Rattle.scop_syntax.proofs.Common.{◌≡◌, ◌+◌, List, ◌∷◌, arith, map, drop, sym, subst, ap, inl, inr, Ok, In, in_map}
-use Rattle.scop_syntax.proofs.Common.{Bool, true, false, All-map, drop_all, all_taken}
+use Rattle.scop_syntax.proofs.Common.{Bool, true, false, All-map, drop_all, all_next, all_taken, member_at}
 use Rattle.iteration_domains.specs.Dependence.{Dependence}
 use Rattle.schedule_rows.specs.Dependences.{IsEmptyDep, above_at}
 use Rattle.schedule_rows.specs.Schedule.{row_of}
 use Rattle.pluto_systems.specs.Posing.{RuledDep, dep_of}
 use Rattle.pluto_search.specs.Questions.{IsFirst, AnswersMark, StopsEmptiness, StopsMarks}
 use Rattle.pluto_search.specs.steps.Sizes.{CanTell}
-use Rattle.pluto_search.proofs.Firsts.{first_next, first_mapped, taken_more}
+use Rattle.pluto_search.proofs.Firsts.{first_next, first_mapped}
 use Rattle.pluto_search.proofs.QuestionStops.{stop_of}
-use Rattle.pluto_search.proofs.RestrictedDependences.{next_of, is_among}
+use Rattle.pluto_search.proofs.RestrictedDependences.{next_of}
 use Rattle.pluto_search.proofs.rows.is_parallel.Goals as goal
 use Rattle.pluto_search.proofs.rows.is_parallel.Goals.{After-dep}
 
@@ -21,8 +21,8 @@ asked_next c =
 
 asked_among : (c : After-dep) → In c.index-ruled-at.result c.args.ruled.now
 asked_among c =
-    is_among c.args.ruled.now (drop (c.loop-at.at + 1) c.args.ruled.now) c.loop-at.at c.index-ruled-at.result
-    (asked_next c)
+    member_at c.args.ruled.now c.loop-at.at c.index-ruled-at.result c.index-ruled-at.is
+    (omega (arith, c.loop-at-test.true))
 
 -- it is the first of which P holds, where the row rises on none before
 first_asked : (c : After-dep) (P : Dependence → Type 0) → P c.index-ruled-at.result.dep
@@ -83,10 +83,10 @@ loop-at-preserved c =
             | inl e ↦ subst (λ (z : Dependence). IsEmptyDep g.parameters (above_at g.parameters r z)) (sym e) own
             | inr j ↦ h d j
           ]),
-      taken_more (λ x. Q x.dep) c.args.ruled.now c.loop-at.at c.index-ruled-at.result c.index-ruled-at.result
-          (omega (arith, c.loop-at-test.true)) c.index-ruled-at.is
+      all_next (λ x. Q x.dep) c.args.ruled.now c.loop-at.at c.index-ruled-at.result c.index-ruled-at.is
+          (omega (arith, c.loop-at-test.true)) c.loop-at.invariant.1
           (subst Q c.dep.ensures (subst (λ (level : Bool). AnswersMark g.parameters r g.budget level c.dep.result.now)
-          c.in-Ok-true.field-0-test c.in-Ok-true.ensures.answered)) c.loop-at.invariant.1,
+          c.in-Ok-true.field-0-test c.in-Ok-true.ensures.answered)),
     )
 
 pub returns-clause-answered : goal.returns-clause-answered
