@@ -71,18 +71,11 @@ fresh_state q closed c r u =
     ∙ ap (λ z. state closed [] (map dep_of z ++ q.bare.items)) u)
 
 -- the end
-end_next : (g : Search) (s : State) (deps left : List Dependence) (blocks : List Block) (o : Outcome)
-    → deps ≡ s.remaining → IsFull g.loops.now (rows_of s) → Restricts g.parameters s.rows deps left
+end_next : (g : Search) (s : State) (left : List Dependence) (blocks : List Block) (o : Outcome)
+    → IsFull g.loops.now (rows_of s) → Restricts g.parameters s.rows s.remaining left
     → blocks ≡ closed_by s.closed s.rows → EndsWith g.loops.now blocks left o → Next g.parameters g.loops.now s o
-end_next g s deps left blocks o e full r b w =
-    inl (
-      full,
-      (
-        left,
-        subst (λ (z : List Dependence). Restricts g.parameters s.rows z left) e r,
-        subst (λ (z : List Block). EndsWith g.loops.now z left o) b w,
-      ),
-    )
+end_next g s left blocks o full r b w =
+    inl (full, (left, r, subst (λ (z : List Block). EndsWith g.loops.now z left o) b w))
 
 -- the vectors are narrowed
 narrowed_length_each : (cs : List (List ℤ)) (vs : List (List (List ℤ))) → length cs ≡ length vs
@@ -250,59 +243,50 @@ cut_steps p deps posed (Err kept.NoMemory) e more none empty is c = tt
 cut_steps p deps posed (Err (kept.Large row)) e more none empty is c = absurd c
 
 -- a question where a band ends, by full rank
-pub full_stops : (g : Search) (s : State) (deps : List Dependence) (k : kept.the_data) → deps ≡ s.remaining
-    → IsFull g.loops.now (rows_of s) → IsStop (StopsRestricted g.parameters s.rows g.budget deps) k → KeepsAt g s k
-full_stops g s deps k e full h =
+pub full_stops : (g : Search) (s : State) (k : kept.the_data) → IsFull g.loops.now (rows_of s)
+    → IsStop (StopsRestricted g.parameters s.rows g.budget s.remaining) k → KeepsAt g s k
+full_stops g s k full h =
     stop_at g s k
-    (stop_of (StopsRestricted g.parameters s.rows g.budget deps) (StopsAt g.parameters g.loops.now g.budget s) k
-    (λ stop x. inl (full, subst (λ (l : List Dependence). StopsRestricted g.parameters s.rows g.budget l stop) e x)) h)
+    (stop_of (StopsRestricted g.parameters s.rows g.budget s.remaining)
+    (StopsAt g.parameters g.loops.now g.budget s) k (λ stop x. inl (full, x)) h)
 
 -- a step that closes the open band
-pub band_steps : (p : Progress) (deps : List Dependence) (result : Result Progress kept.the_data)
-    → deps ≡ (state_of p).remaining → HasMore p.search.now (state_of p)
+pub band_steps : (p : Progress) (result : Result Progress kept.the_data) → HasMore p.search.now (state_of p)
     → FindsNone p.search.now.parameters p.search.now.loops.now p.search.now.budget (state_of p)
-    → ((state_of p).rows ≡ [] → ⊥) → IfOk result (IsClosed p deps)
-    → IfOk result (λ _. AnswersRestricted p.search.now.parameters (state_of p).rows p.search.now.budget deps)
-    → IfErr result (IsStop (StopsRestricted p.search.now.parameters (state_of p).rows p.search.now.budget deps))
+    → ((state_of p).rows ≡ [] → ⊥) → IfOk result (IsClosed p)
+    → IfOk result (λ _. AnswersRestricted p.search.now.parameters (state_of p).rows p.search.now.budget
+    (state_of p).remaining)
+    → IfErr result (IsStop (StopsRestricted p.search.now.parameters (state_of p).rows p.search.now.budget
+    (state_of p).remaining))
     → Steps p.search.now (state_of p) (going result)
-band_steps p deps (Ok q) e more none some c answered stops =
-    let g = p.search.now in
+band_steps p (Ok q) more none some c answered stops =
     let s = state_of p in
-    let all = subst (λ (l : List Dependence). AnswersRestricted g.parameters s.rows g.budget l) e answered in
-    let r = subst (λ (l : List Dependence). Restricts g.parameters s.rows l q.bare.items) e c.bare in
     let next = ap (λ z. goes z) (fresh_state q (closed_by s.closed s.rows) c.closed_are c.none_open c.none_ruled) in (
-      inr (more, inr (none, inr (some, all))),
-      inr (more, inr (none.1, inl (some, (q.bare.items, r, next)))),
-      record { search = c.search; rules = no_rules g.budget q.ruled.items c.none_ruled },
+      inr (more, inr (none, inr (some, answered))),
+      inr (more, inr (none.1, inl (some, (q.bare.items, c.bare, next)))),
+      record { search = c.search; rules = no_rules p.search.now.budget q.ruled.items c.none_ruled },
     )
-band_steps p deps (Err k) e more none some c answered stops =
+band_steps p (Err k) more none some c answered stops =
     let g = p.search.now in
     let s = state_of p in
     stop_at g s k
-    (stop_of (StopsRestricted g.parameters s.rows g.budget deps) (StopsAt g.parameters g.loops.now g.budget s) k
-    (λ stop x.
-    let asks = subst (λ (l : List Dependence). StopsRestricted g.parameters s.rows g.budget l stop) e x in
-    inr (more, inr (inr (inr (none, some, asks))))) stops)
+    (stop_of (StopsRestricted g.parameters s.rows g.budget s.remaining)
+    (StopsAt g.parameters g.loops.now g.budget s) k (λ stop x. inr (more, inr (inr (inr (none, some, x))))) stops)
 
 -- the end of the run, or that nothing orders what is left
 abbrev pub ending : Result (Vec code_block.the_data Global) kept.the_data → Result step.the_data kept.the_data
 ending (Ok blocks) = Ok (step.Ends blocks)
 ending (Err k) = Err k
 
-pub end_steps : (g : Search) (s : State) (deps left : List Dependence) (blocks : List Block)
-    (result : Result (Vec code_block.the_data Global) kept.the_data) → deps ≡ s.remaining
-    → IsFull g.loops.now (rows_of s) → AnswersRestricted g.parameters s.rows g.budget deps
-    → Restricts g.parameters s.rows deps left → blocks ≡ closed_by s.closed s.rows → Ended g.loops.now blocks left result
-    → Steps g s (ending result)
-end_steps g s deps left blocks (Ok bs) e full a r b h = (
-  inl (full, subst (λ (l : List Dependence). AnswersRestricted g.parameters s.rows g.budget l) e a),
-  end_next g s deps left blocks (ends (map block_of bs.items)) e full r b h,
-)
-end_steps g s deps left blocks (Err (kept.Stuck stuck)) e full a r b h = absurd h
-end_steps g s deps left blocks (Err (kept.NoRow posed)) e full a r b h = absurd h
-end_steps g s deps left blocks (Err (kept.NoOrder component)) e full a r b h = (
-  inl (full, subst (λ (l : List Dependence). AnswersRestricted g.parameters s.rows g.budget l) e a),
-  end_next g s deps left blocks (no_order component) e full r b h,
-)
-end_steps g s deps left blocks (Err kept.NoMemory) e full a r b h = tt
-end_steps g s deps left blocks (Err (kept.Large row)) e full a r b h = absurd h
+pub end_steps : (g : Search) (s : State) (left : List Dependence) (blocks : List Block)
+    (result : Result (Vec code_block.the_data Global) kept.the_data) → IsFull g.loops.now (rows_of s)
+    → AnswersRestricted g.parameters s.rows g.budget s.remaining → Restricts g.parameters s.rows s.remaining left
+    → blocks ≡ closed_by s.closed s.rows → Ended g.loops.now blocks left result → Steps g s (ending result)
+end_steps g s left blocks (Ok bs) full a r b h =
+    (inl (full, a), end_next g s left blocks (ends (map block_of bs.items)) full r b h)
+end_steps g s left blocks (Err (kept.Stuck stuck)) full a r b h = absurd h
+end_steps g s left blocks (Err (kept.NoRow posed)) full a r b h = absurd h
+end_steps g s left blocks (Err (kept.NoOrder component)) full a r b h =
+    (inl (full, a), end_next g s left blocks (no_order component) full r b h)
+end_steps g s left blocks (Err kept.NoMemory) full a r b h = tt
+end_steps g s left blocks (Err (kept.Large row)) full a r b h = absurd h

@@ -1,6 +1,6 @@
 //! The next item, or why there is none.
 ghost use Rattle.std.specs.Prelude.{◌≡◌, true, false, ◌++◌, [], All, IfOk, IfErr, length, map, suc, ◌+◌};
-ghost use Rattle.schedule_rows.specs.Next.{rows_of};
+ghost use Rattle.schedule_rows.specs.Next.{Restricts, rows_of};
 ghost use Rattle.schedule_rows.specs.Posed.{IsFull};
 ghost use Rattle.schedule_rows.specs.Outcomes.{items_in};
 ghost use Rattle.schedule_rows.specs.Schedule.{block_of, row_of};
@@ -73,54 +73,57 @@ fn end(alloc: Global, loops: &[usize], closed: Vec<Block>, left: &[Dep]) -> Resu
     }
 }
 
+/// The dependences that remain, restricted to equal values of the open band's rows; those that are empty are dropped.
+fn restrict_left(alloc: Global, progress: &Progress) -> Result<Vec<Dep>, Kept>
+    ensures kept { IfOk result (λ v. Restricts progress.now.search.now.parameters (state_of progress.now).rows
+        (state_of progress.now).remaining v.items) }
+    ensures answered { IfOk result (λ _. AnswersRestricted progress.now.search.now.parameters
+        (state_of progress.now).rows progress.now.search.now.budget (state_of progress.now).remaining) }
+    ensures stops { IfErr result (IsStop (StopsRestricted progress.now.search.now.parameters
+        (state_of progress.now).rows progress.now.search.now.budget (state_of progress.now).remaining)) }
+{
+    let search = progress.search;
+    match remaining(alloc, progress) {
+        Err(_) => Err(Kept::NoMemory),
+        Ok(deps) => restrict_all(alloc, search.parameters, &progress.rows, &deps, search.budget),
+    }
+}
+
 /// All statements have full rank: the last restriction, and the end.
 fn finish<'a>(alloc: Global, progress: Progress<'a>) -> Result<Step<'a>, Kept>
     requires { IsFull progress.search.now.loops.now (rows_of (state_of progress)) }
     ensures { Steps progress.entry.search.now (state_of progress.entry) result }
 {
-    let deps = match remaining(alloc, &progress) {
-        Err(_) => return Err(Kept::NoMemory),
-        Ok(deps) => deps,
-    };
-    let search = progress.search;
-    let rows = progress.rows;
-    let left = match restrict_all(alloc, search.parameters, &rows, &deps, search.budget) {
+    let left = match restrict_left(alloc, &progress) {
         Err(kept) => return Err(kept),
         Ok(left) => left,
     };
-    let blocks = match close(progress.closed, rows) {
+    let blocks = match close(progress.closed, progress.rows) {
         Err(_) => return Err(Kept::NoMemory),
         Ok(blocks) => blocks,
     };
-    match end(alloc, search.loops, blocks, &left) {
+    match end(alloc, progress.search.loops, blocks, &left) {
         Err(kept) => Err(kept),
         Ok(blocks) => Ok(Step::Ends(blocks)),
     }
 }
 
 /// The band is closed.
-fn close_band<'a>(
-    alloc: Global,
-    progress: Progress<'a>,
-    deps: Vec<Dep>,
-) -> Result<Progress<'a>, Kept>
-    requires { deps.items ≡ (state_of progress).remaining }
-    ensures closed { IfOk result (IsClosed progress.entry deps.items) }
+fn close_band<'a>(alloc: Global, progress: Progress<'a>) -> Result<Progress<'a>, Kept>
+    ensures closed { IfOk result (IsClosed progress.entry) }
     ensures answered { IfOk result (λ _. AnswersRestricted progress.entry.search.now.parameters
-        (state_of progress.entry).rows progress.entry.search.now.budget deps.items) }
+        (state_of progress.entry).rows progress.entry.search.now.budget (state_of progress.entry).remaining) }
     ensures stops { IfErr result (IsStop (StopsRestricted progress.entry.search.now.parameters
-        (state_of progress.entry).rows progress.entry.search.now.budget deps.items)) }
+        (state_of progress.entry).rows progress.entry.search.now.budget (state_of progress.entry).remaining)) }
 {
-    let search = progress.search;
-    let rows = progress.rows;
-    let kept = match restrict_all(alloc, search.parameters, &rows, &deps, search.budget) {
+    let kept = match restrict_left(alloc, &progress) {
         Err(kept) => return Err(kept),
         Ok(kept) => kept,
     };
-    match close(progress.closed, rows) {
+    match close(progress.closed, progress.rows) {
         Err(_) => Err(Kept::NoMemory),
         Ok(closed) => Ok(Progress {
-            search,
+            search: progress.search,
             closed,
             rows: Vec::new(alloc),
             ruled: Vec::new(alloc),
@@ -186,14 +189,14 @@ fn lack<'a>(alloc: Global, progress: Progress<'a>, posed: System) -> Result<Step
         (state_of progress) posed }
     ensures { Steps progress.entry.search.now (state_of progress.entry) result }
 {
+    if !progress.rows.is_empty() {
+        return goes(close_band(alloc, progress));
+    }
     let deps = match remaining(alloc, &progress) {
         Err(_) => return Err(Kept::NoMemory),
         Ok(deps) => deps,
     };
-    if progress.rows.is_empty() {
-        return goes(cut(alloc, progress, deps, posed));
-    }
-    goes(close_band(alloc, progress, deps))
+    goes(cut(alloc, progress, deps, posed))
 }
 
 /// The least row is too large; it would be the next item.

@@ -43,13 +43,13 @@ Ended loops blocks left (Err (kept.NoOrder component)) = EndsWith loops blocks l
 Ended loops blocks left (Err kept.NoMemory) = ⊤
 Ended loops blocks left (Err (kept.Large row)) = ⊥
 
--- the band is closed, where these dependences remain
-pub record IsClosed (p : Progress) (deps : List Dependence) (q : Progress) : Type 0 where
+-- the band is closed
+pub record IsClosed (p q : Progress) : Type 0 where
   pub search : q.search.now ≡ p.search.now
   pub closed_are : map block_of q.closed.items ≡ closed_by (state_of p).closed (state_of p).rows
   pub none_open : q.rows.items ≡ []
   pub none_ruled : q.ruled.items ≡ []
-  pub bare : Restricts p.search.now.parameters (state_of p).rows deps q.bare.items
+  pub bare : Restricts p.search.now.parameters (state_of p).rows (state_of p).remaining q.bare.items
 
 -- a scalar item stands behind the blocks and drops dependences
 pub record IsCut (p : Progress) (deps : List Dependence) (q : Progress) : Type 0 where
