@@ -19,7 +19,8 @@ use null_space::{kernel_vectors_are_kept, kernel_vectors_are_narrow, rows_take_k
 /// A posed system's points that are not negative are exactly the posed rows, by their numbers in the objective's order:
 /// behind rows of all statements, and behind rows of each.
 pub fn posed_systems_hold_the_posed_rows()
-    ensures before { (m : ℕ) (loops : List ℕ) (ruled : List RuledDep) (before : List Row) (vectors : List (List (List ℤ)))
+    ensures before { (m : ℕ) (loops : List ℕ) (ruled : List RuledDep) (before : List Row)
+        (vectors : List (List (List ℤ)))
         → ((x : RuledDep) → In x ruled → IsRuled x × IsBetween m loops x.dep)
         → AreVectorsOf loops before vectors
         → HasPosed m loops (map dep_of ruled) before (posed_system m loops ruled vectors) }

@@ -8,8 +8,9 @@ ghost use Rattle.scop_syntax.specs.Members.{In};
 ghost use Rattle.schedule_rows.specs.Items.{Row};
 ghost use Rattle.pluto_systems.specs.Placing.{columns_of};
 ghost use Rattle.pluto_systems.specs.Posing.{RuledDep, IsRuled, IsFarkasOf, IsBetween, dep_of, ruled_dep, ruled_deps};
-ghost use Rattle.pluto_systems.specs.Posing.{equalities_for, rows_for, growth_from, posed_system, HasPosed, HasPosedBehind, HaveSizes};
-ghost use Rattle.pluto_systems.specs.Posing.{AreVectorsOf, AreSmallVectors, AreCoefficientRows, vectors_for};
+ghost use Rattle.pluto_systems.specs.Posing.{equalities_for, rows_for, growth_from, posed_system, vectors_for};
+ghost use Rattle.pluto_systems.specs.Posing.{HasPosed, HasPosedBehind, HaveSizes};
+ghost use Rattle.pluto_systems.specs.Posing.{AreVectorsOf, AreSmallVectors, AreCoefficientRows};
 ghost use Rattle.schedule_rows.specs.Schedule.{loops_in};
 
 use crate::columns::Columns;
