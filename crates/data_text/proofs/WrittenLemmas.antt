@@ -211,8 +211,7 @@ are_rows : ExtentLaw → (program : Program) (params : List ℤ) (contents : Lis
     → IsWritable program params contents → AreRows (names_of program) (rows_of params contents)
 are_rows law program params contents is =
     let ps : All IsRow (parameter_rows params) = All-map IsRow (λ p. size_of p ∷ []) params (λ k d within.
-    let lies = is.limits.parameters k d within in
-    parameter_row (size_of (get_or params k d)) (small_value (get_or params k d) lies.0 lies.1).0) in
+    parameter_row (size_of (get_or params k d)) (small_value (get_or params k d) (is.limits.parameters k d within)).0) in
     rows_are (names_of program) (rows_of params contents)
     (omega (
       arith,
