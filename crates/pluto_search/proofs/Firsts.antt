@@ -1,7 +1,7 @@
 -- The first of a list that meets one thing, all before it meeting another; going through the list one by one.
-use Rattle.scop_syntax.proofs.Common.{◌≡◌, ℕ, ◌+◌, ◌<◌, List, [], ◌∷◌, ◌++◌, sym, ◌∙◌, ap, subst, inl, inr, length, map}
-use Rattle.scop_syntax.proofs.Common.{All, take, drop, add-one, slice_index_or, take-suc, take-append-drop, All-head}
-use Rattle.scop_syntax.proofs.Common.{All-tail, All-push}
+use Rattle.scop_syntax.proofs.Common.{◌≡◌, ℕ, List, [], ◌∷◌, ◌++◌, sym, ◌∙◌, ap, subst, inl, inr, map}
+use Rattle.scop_syntax.proofs.Common.{All, take, drop, take-append-drop, All-head}
+use Rattle.scop_syntax.proofs.Common.{All-tail}
 use Rattle.pluto_search.specs.Questions.{IsFirst}
 
 -- behind others that meet P

@@ -1,12 +1,10 @@
 -- Dependence by dependence: restricted, asked, dropped.
-use Rattle.scop_syntax.proofs.Common.{◌≡◌, ℕ, zero, suc, ◌+◌, ◌<◌, List, [], ◌∷◌, ◌++◌, refl, sym, ◌∙◌, ap, subst, inl}
+use Rattle.scop_syntax.proofs.Common.{◌≡◌, ℕ, suc, ◌+◌, ◌<◌, List, [], ◌∷◌, ◌++◌, refl, sym, ◌∙◌, ap, subst, inl}
 use Rattle.scop_syntax.proofs.Common.{inr, arith, length, map, All, drop, append_assoc, add-one, drop-cons}
-use Rattle.scop_syntax.proofs.Common.{slice_index_or, length-map, get_or-map, All-nil, All-cons, All-head, All-tail, In}
+use Rattle.scop_syntax.proofs.Common.{slice_index_or, length-map, get_or-map, All-cons, In}
 use Rattle.std.proofs.lemmas.List.{append-nil}
 use Rattle.iteration_domains.specs.Dependence.{Dependence, IsDependence}
 use Rattle.schedule_rows.specs.Items.{Row, Marked}
-use Rattle.schedule_rows.specs.declared.item.Marked as code
-use Rattle.schedule_rows.specs.Schedule.{row_of, marked_of}
 use Rattle.schedule_rows.specs.Dependences.{IsEmptyDep, equal_at}
 use Rattle.schedule_rows.specs.Next.{restricted, Restricts}
 use Rattle.pluto_systems.specs.Posing.{IsBetween}

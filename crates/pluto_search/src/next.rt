@@ -82,10 +82,10 @@ fn restrict_left(alloc: Global, progress: &Progress) -> Result<Vec<Dep>, Kept>
     ensures stops { IfErr result (IsStop (StopsRestricted progress.now.search.now.parameters
         (state_of progress.now).rows progress.now.search.now.budget (state_of progress.now).remaining)) }
 {
-    let search = progress.search;
+    let (parameters, budget) = (progress.search.parameters, progress.search.budget);
     match remaining(alloc, progress) {
         Err(_) => Err(Kept::NoMemory),
-        Ok(deps) => restrict_all(alloc, search.parameters, &progress.rows, &deps, search.budget),
+        Ok(deps) => restrict_all(alloc, parameters, &progress.rows, &deps, budget),
     }
 }
 

@@ -27,7 +27,7 @@ returns-in-Ok c =
     let g = p.search.now in
     let s = state_of p in
     let told : (P : List Marked → List Dependence → Type 0)
-        → P (map marked_of c.deref.result.now) c.deref-in-Ok.result.now → P s.rows s.remaining = λ P h.
+    → P (map marked_of c.deref.result.now) c.deref-in-Ok.result.now → P s.rows s.remaining = λ P h.
     subst (λ (ms : List Marked). P ms s.remaining) (ap (map marked_of) c.deref.ensures.value)
     (subst (P (map marked_of c.deref.result.now)) (c.deref-in-Ok.ensures.value ∙ c.in-Ok.ensures) h) in
     record {
