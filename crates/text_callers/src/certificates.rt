@@ -13,8 +13,8 @@ ghost use Rattle.plan_check.specs.Text.{goal, said_in};
 ghost use Rattle.plan_check.specs.declared.kinds.FaultKind.TheVariants.{Goal};
 
 use plan_check::{
-    derivations_leave_no_point, lines_are_read_where_they_are_printed, needless_lines_may_be_left_out,
-    rejections_are_the_first, texts_say_one_plan,
+    derivations_leave_no_point, lines_are_read_where_they_are_printed,
+    needless_lines_may_be_left_out, rejections_are_the_first, texts_say_one_plan,
 };
 
 /// A text has one first fault, and none where it is accepted.
