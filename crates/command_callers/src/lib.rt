@@ -21,8 +21,9 @@ ghost use Rattle.scop_syntax.specs.Widths.{HoldWidths};
 ghost use Rattle.scop_parser.specs.Spelling.{SpellsProgram};
 ghost use Rattle.data_text.specs.Cases.{Says};
 ghost use Rattle.data_text.specs.Written.{case_text};
-ghost use Rattle.loop_tree.specs.Plans.{AreFree, Conflict, walked};
+ghost use Rattle.loop_tree.specs.Plans.{AreFree, AreMarked, Conflict, walked};
 ghost use Rattle.loop_tree.specs.Runs.{MayRunAll};
+ghost use Rattle.loop_tree.specs.Tiling.{Tiling};
 ghost use Rattle.loop_tree.specs.Tree.{Trees};
 ghost use Rattle.loop_tree.specs.Walk.{Visit, given, visits, walk_all};
 ghost use Rattle.c_printer.specs.Reading.{read_text};
@@ -109,7 +110,7 @@ pub fn runs_of_tiles_of_size_1()
         × ((order : List Walked) × AreVisitsOf program params (map given run) order))
         × ((i j : ℕ) (c : PlacesConflict (walk_of program params) i j)
         → StandInOrder (visits ts params) (instance c.earlier) (instance c.later))
-        × AreFree (Conflict program params) ts params []
+        × ((plan : Tiling) × AreMarked plan ts params) × AreFree (Conflict program params) ts params []
         × ((contents : List (List ℕ)) (run : List Visit) (order : List Walked) → IsInside program params
         → IsShaped (layout program params) contents → MayRunAll ts params [] run
         → AreVisitsOf program params (map given run) order

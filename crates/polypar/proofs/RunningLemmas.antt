@@ -43,6 +43,7 @@ trees_run laws program params plan ts is has = record {
   once = λ run runs. laws.once program params plan ts run is has runs;
   walked_visits = λ run runs. laws.visits_of program params plan ts run is has runs;
   in_order = λ i j c. laws.in_order program params [] plan ts is.even (is.carry_out params has) i j c refl;
+  marked = (plan, (is.carry_out params has).marked);
   free = (is.carry_out params has).free refl;
   arrays = λ contents run order inside shaped runs visits.
       laws.ends program params plan ts contents run order is has inside shaped runs visits;

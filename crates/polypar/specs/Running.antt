@@ -6,8 +6,9 @@ use Rattle.scop_syntax.specs.Limits.{HasParameters}
 use Rattle.scop_syntax.specs.Tree.{Program}
 use Rattle.scop_syntax.specs.Walk.{instance, Visit as Walked, walk_of}
 use Rattle.scop_syntax.specs.ConflictOrders.{IsOrderOf}
-use Rattle.loop_tree.specs.Plans.{AreFree, Conflict, walked}
+use Rattle.loop_tree.specs.Plans.{AreFree, AreMarked, Conflict, walked}
 use Rattle.loop_tree.specs.Runs.{MayRunAll}
+use Rattle.loop_tree.specs.Tiling.{Tiling}
 use Rattle.loop_tree.specs.Tree.{Trees}
 use Rattle.loop_tree.specs.Walk.{Visit, given, visits, walk_all}
 use Rattle.plan_search.specs.Executions.{AreVisitsOf}
@@ -26,6 +27,8 @@ pub record RunKernel (program : Program) (params : List ℤ) (ts : Trees) : Type
   -- of two places of the walk that conflict, the trees visit the earlier one's instance first
   pub in_order : (i j : ℕ) (c : PlacesConflict (walk_of program params) i j)
       → StandInOrder (visits ts params) (instance c.earlier) (instance c.later)
+  -- parallel loops are those of a tiling: each visit stands in one, at its tile's first coordinate, or none is parallel
+  pub marked : (plan : Tiling) × AreMarked plan ts params
   -- at each execution of a parallel loop, instances of two iterations do not conflict
   pub free : AreFree (Conflict program params) ts params []
   -- performed in the order of any execution, the visits leave the arrays of the source's own execution

@@ -22,7 +22,7 @@ struct Row {
     input: &'static str,
     out: &'static str,
     /// How many calls put a line on the error output before anything is written to the output.
-    tells_first: u64,
+    calls_before: u64,
 }
 
 const ROWS: &[Row] = &[
@@ -35,7 +35,7 @@ N = 4
 A = 1 2 3 4
 ",
         out: "A = 1 2 3 4\nB = 1 2 3 4\n",
-        tells_first: 0,
+        calls_before: 0,
     },
     Row {
         words: &["polypar", "run", "--budget", "1"],
@@ -48,7 +48,7 @@ A = 1 2 3 4
 B = 5 6 7 8
 ",
         out: "A = 1 2 3 4\nB = 5 6 7 8\nC = 19 22 43 50\n",
-        tells_first: 2,
+        calls_before: 2,
     },
 ];
 
@@ -104,7 +104,7 @@ fn may_end(row: &Row, failing: Failing, call: u64, end: End) -> bool {
         Failing::Out => end.exit == 6 && end.is_front,
         Failing::Err => {
             end.exit == 6
-                && if call <= row.tells_first {
+                && if call <= row.calls_before {
                     end.is_empty
                 } else {
                     end.is_empty || end.is_whole

@@ -15,7 +15,7 @@ returns c =
         runs.read,
         λ params has.
             let r = runs.runs params has in
-            (r.walk, (λ run may. (r.once run may, r.walked_visits run may)), r.in_order, r.free, r.arrays),
+            (r.walk, (λ run may. (r.once run may, r.walked_visits run may)), r.in_order, r.marked, r.free, r.arrays),
       ),
       prints.5,
     )
