@@ -6,7 +6,7 @@ ghost use Rattle.scop_syntax.specs.Kernel.{IsKernel};
 ghost use Rattle.scop_syntax.specs.View.{program_of};
 ghost use Rattle.polypar.specs.steps.Promises.{AnswersCertificate};
 
-use crate::kernel::print_text;
+use crate::asked::print_text;
 use io_ports::{Failed, Sink};
 use plan_check::{CheckStop, check_plan};
 use plan_search::Status;

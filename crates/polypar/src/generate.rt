@@ -9,7 +9,7 @@ ghost use Rattle.polypar.specs.steps.Promises.{AnswersTold};
 ghost use Rattle.polypar.specs.Runs.{IsPlanTold, IsSummaryText, left_by};
 ghost use Rattle.polypar.specs.Told.{IsHeld, told_of};
 
-use crate::kernel::print_made;
+use crate::asked::print_made;
 use crate::run::{Ran, run_planned};
 use crate::told::Told;
 use command_line::{GeneratedKernel, RunOptions, Sync};

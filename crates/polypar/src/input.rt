@@ -17,10 +17,10 @@ ghost use Rattle.polypar.specs.steps.Promises.{CutsTold, Ends, ReadsKernel, Writ
 ghost use Rattle.command_line.specs.Command.{AreSized, HasSize};
 ghost use Rattle.polypar.specs.Answered.{NamesOf};
 
+use crate::asked::print_asked;
 use crate::check::check;
 use crate::cut::cut;
 use crate::index_check::outside_in;
-use crate::kernel::print_asked;
 use crate::run::run_planned;
 use command_line::{Command, RunOptions};
 use data_text::{Case, DataStop, read_data, write_arrays};

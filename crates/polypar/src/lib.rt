@@ -9,6 +9,7 @@
 //! it was given is good for tiles of every size and all parameters, and each status comes from its cause alone.
 #![tactic(auto)]
 
+mod asked;
 mod call;
 mod certify;
 mod check;
@@ -19,10 +20,10 @@ mod expansion;
 mod generate;
 mod index_check;
 mod input;
-mod kernel;
 mod laws;
 mod memory;
 mod run;
+mod schedule;
 mod told;
 
 pub use call::{command_by, deserved_once, plain_command, polypar};

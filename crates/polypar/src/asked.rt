@@ -1,13 +1,11 @@
-//! The commands that look at a kernel alone: what they ask of it is told, and printed.
+//! What a command asks of a kernel alone, by `schedule`, `deps`, `emit` or `certify`: it is told, and printed.
 
 ghost use Rattle.std.specs.Prelude.{◌≡◌, IfOk, MatchResult};
 ghost use Rattle.io_ports.specs.Writes.{Writes};
 ghost use Rattle.scop_syntax.specs.Kernel.{IsKernel};
 ghost use Rattle.scop_syntax.specs.View.{program_of};
 ghost use Rattle.iteration_domains.specs.Model.{model_of};
-ghost use Rattle.plan_search.specs.Posed.{IsOfKernel};
-ghost use Rattle.plan_search.specs.Planning.{IsPlanOf};
-ghost use Rattle.polypar.specs.Told.{IsTextAlone, told_of};
+ghost use Rattle.polypar.specs.Told.{told_of};
 ghost use Rattle.polypar.specs.KernelText.{IsTextFor};
 ghost use Rattle.command_line.specs.Command.{IsSized};
 ghost use Rattle.polypar.specs.steps.Promises.{AnswersMade, AnswersProgram, WritesTold, CutsTold};
@@ -15,22 +13,14 @@ ghost use Rattle.polypar.specs.steps.Promises.{AnswersMade, AnswersProgram, Writ
 use crate::certify::certificate_told;
 use crate::deps::sources_told;
 use crate::emit::loops_told;
+use crate::schedule::plan_told;
 use crate::told::Told;
 use command_line::KernelCommand;
 use io_ports::{Failed, Sink, write_whole};
 use iteration_domains::Model;
-use plan_search::{Status, plan_text};
+use plan_search::Status;
 use scop_syntax::Kernel;
 use std::alloc::{AllocError, Global};
-
-/// What `schedule` tells of a model: the text alone.
-fn plan_told(alloc: Global, model: &Model, budget: u64) -> Result<Told, AllocError>
-    requires { IsOfKernel model.now }
-    ensures { IfOk result (λ told. IsTextAlone (IsPlanOf budget model.now) (told_of told)) }
-{
-    let text = plan_text(alloc, model, budget)?;
-    Ok(Told::text_alone(alloc, text))
-}
 
 /// What a command asks of a kernel with this model.
 fn model_told(

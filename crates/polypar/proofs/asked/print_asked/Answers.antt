@@ -2,7 +2,7 @@
 use Rattle.scop_syntax.proofs.Common.{program_of}
 use Rattle.polypar.specs.KernelText.{IsTextFor}
 use Rattle.polypar.proofs.PrintLemmas.{made_answers}
-use Rattle.polypar.proofs.kernel.print_asked.Goals as goal
+use Rattle.polypar.proofs.asked.print_asked.Goals as goal
 
 pub returns : goal.returns
 returns g c =

@@ -1,7 +1,7 @@
 -- The model is the program's.
 use Rattle.scop_syntax.proofs.Common.{program_of}
 use Rattle.polypar.proofs.KernelLemmas.{plan_asked}
-use Rattle.polypar.proofs.kernel.model_told.Goals as goal
+use Rattle.polypar.proofs.asked.model_told.Goals as goal
 
 pub plan_told-requires : goal.plan_told-requires
 plan_told-requires c = (program_of c.args.kernel.now, c.requires.kernel, c.requires.model)
