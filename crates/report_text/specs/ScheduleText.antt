@@ -1,12 +1,13 @@
 -- The text of a schedule: a line for each item. Items and bands are numbered from 1, and so are statements.
-use Rattle.std.specs.Prelude.{◌≡◌, ℕ, zero, suc, ◌+◌, Bool, ℤ, List, [], ◌∷◌, ◌++◌, length, codes, decimal}
-use Rattle.std.specs.Prelude.{if◌then◌else◌}
+use Rattle.std.specs.Prelude.{◌≡◌, ℕ, zero, suc, ◌+◌, ◌^◌, ◌<◌, Bool, ℤ, pos, ◌<ℤ◌, List, [], ◌∷◌, ◌++◌, length, codes}
+use Rattle.std.specs.Prelude.{All, decimal, if◌then◌else◌}
 use Rattle.std.specs.Fmt.{signed_decimal}
 use Rattle.std.specs.List.{concat}
 use Rattle.schedule_rows.specs.Unknowns.{Part}
 use Rattle.schedule_rows.specs.Items.{Row, Marked, Block, scalar, band}
 use Rattle.schedule_rows.specs.Outcomes.{IsSchedule}
-use Rattle.schedule_rows.specs.Schedule.{Scheduled, loops_in}
+use Rattle.schedule_rows.specs.Schedule as plain
+use Rattle.schedule_rows.specs.Schedule.{Item, Scheduled, loops_in}
 
 -- what stands in front of the entry at a place: nothing in front of the first, else the text between two
 abbrev pub before : ℕ → List ℕ → List ℕ
@@ -79,3 +80,19 @@ pub record IsTextOf (s : Scheduled) (text : List ℕ) : Type 0 where
   pub blocks : List Block
   pub run : IsSchedule s.model.parameters (loops_in s.model) s.deps blocks
   pub text_is : text ≡ schedule_text blocks
+
+-- numbers that their types hold: below 2^127
+abbrev pub AreNarrow : List ℤ → Type 0
+AreNarrow zs = All (λ z. z <ℤ pos (2 ^ 127)) zs
+
+abbrev pub AreNarrowNumbers : List ℕ → Type 0
+AreNarrowNumbers ns = All (λ n. n < 2 ^ 127) ns
+
+-- the bound of a row
+abbrev pub IsNarrowRow : Row → Type 0
+IsNarrowRow r = AreNarrow r.u × (r.w <ℤ pos (2 ^ 127))
+
+-- the bound of a row, and all numbers of a scalar
+abbrev pub IsNarrowItem : Item → Type 0
+IsNarrowItem (plain.row r) = IsNarrowRow r
+IsNarrowItem (plain.scalar ns) = AreNarrowNumbers ns

@@ -13,8 +13,9 @@ ghost use Rattle.quast_text.specs.Text.{texts_of};
 
 use crate::data_line::array_name;
 use crate::deps_names::names_within;
-use crate::pieces::{Piece, push_pieces, push_text};
+use crate::pieces::{Piece, push_pieces};
 use dataflow::{ReadSource, SourceStop, Stop};
+use form_text::put_bytes;
 use iteration_domains::{Model, StatementModel};
 use quast_text::put_quast;
 use scop_syntax::{Kernel, Name};
@@ -25,7 +26,7 @@ fn push_solver_stop(out: &mut Vec<u8>, stop: &Stop) -> Result<(), AllocError>
     ensures { OnOk result (out.new.items ≡ out.old.items ++ solver_text stop.now) }
 {
     match stop {
-        Stop::Wide { .. } => push_text(out, b"unresolved wide"),
+        Stop::Wide { .. } => put_bytes(out, b"unresolved wide"),
         Stop::Spent { moves, .. } => push_pieces(
             out,
             &[
@@ -117,7 +118,7 @@ fn push_read(
 {
     push_head(out, kernel, statement, access)?;
     push_source(out, names, source)?;
-    push_text(out, b"\n")?;
+    put_bytes(out, b"\n")?;
     Ok(())
 }
 

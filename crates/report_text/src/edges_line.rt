@@ -4,7 +4,8 @@
 ghost use Rattle.std.specs.Prelude.{◌≡◌, IfOk};
 ghost use Rattle.report_text.specs.TilesText.{edges_text, waves_edges_text, waves_reduce_text};
 
-use crate::pieces::{Piece, push_pieces, push_text};
+use crate::pieces::{Piece, push_pieces};
+use form_text::put_bytes;
 use std::alloc::{AllocError, Global};
 
 /// `edges E` and a line feed.
@@ -34,7 +35,7 @@ pub fn waves_edges_text(alloc: Global) -> Result<Vec<u8>, AllocError>
     ensures { IfOk result (λ text. text.items ≡ waves_edges_text) }
 {
     let mut text = Vec::new(alloc);
-    push_text(&mut text, b"waves: edges\n")?;
+    put_bytes(&mut text, b"waves: edges\n")?;
     Ok(text)
 }
 
@@ -46,6 +47,6 @@ pub fn waves_reduce_text(alloc: Global) -> Result<Vec<u8>, AllocError>
     ensures { IfOk result (λ text. text.items ≡ waves_reduce_text) }
 {
     let mut text = Vec::new(alloc);
-    push_text(&mut text, b"waves: reduce\n")?;
+    put_bytes(&mut text, b"waves: reduce\n")?;
     Ok(text)
 }

@@ -1,12 +1,14 @@
 //! The lines of a schedule, one for each of its items.
 
-ghost use Rattle.std.specs.Prelude.{◌≡◌, ◌≤◌, ◌+◌, ◌++◌, IfOk, OnOk, length, map};
+ghost use Rattle.std.specs.Prelude.{◌≡◌, ◌≤◌, ◌+◌, ◌++◌, All, IfOk, OnOk, length, map};
 ghost use Rattle.schedule_rows.specs.Schedule.{item_of, row_of};
 ghost use Rattle.report_text.specs.ScheduleText.{mark_text, row_line, scalar_line, statement_text, statements_from};
 ghost use Rattle.report_text.specs.ScheduleText.{component_text, components_from, IsTextOf};
+ghost use Rattle.report_text.specs.ScheduleText.{AreNarrowNumbers, IsNarrowItem, IsNarrowRow};
 ghost use Rattle.report_text.specs.steps.ScheduleLines.{entered, item_text, part_view};
 
-use crate::pieces::{Piece, before, push_pieces, push_text};
+use crate::pieces::{Piece, before, push_list, push_pieces};
+use form_text::put_bytes;
 use schedule_rows::{Band, Item, Part, Row, Schedule};
 use std::alloc::{AllocError, Global};
 
@@ -59,7 +61,8 @@ fn push_row(
     parallel: bool,
     row: &Row,
 ) -> Result<(), AllocError>
-    ensures { OnOk result (out.new.items ≡ out.old.items ++ row_line number band parallel (row_of row.now)) }
+    ensures text { OnOk result (out.new.items ≡ out.old.items ++ row_line number band parallel (row_of row.now)) }
+    ensures narrow { OnOk result (IsNarrowRow (row_of row.now)) }
 {
     let head = [
         Piece::Text(b"row "),
@@ -67,23 +70,18 @@ fn push_row(
         Piece::Text(b" band "),
         Piece::Number(band as u128),
         Piece::Text(mark_text(parallel)),
-        Piece::List(&row.u),
+    ];
+    push_pieces(out, &head)?;
+    push_list(out, &row.u)?;
+    let bound = [
         Piece::Text(b" w "),
         Piece::Signed(row.w),
         Piece::Text(b": "),
     ];
-    match push_pieces(out, &head) {
-        Err(_) => return Err(AllocError),
-        Ok(()) => {}
-    }
-    match push_statements(out, &row.parts) {
-        Err(_) => return Err(AllocError),
-        Ok(()) => {}
-    }
-    match push_text(out, b"\n") {
-        Err(_) => Err(AllocError),
-        Ok(()) => Ok(()),
-    }
+    push_pieces(out, &bound)?;
+    push_statements(out, &row.parts)?;
+    put_bytes(out, b"\n")?;
+    Ok(())
 }
 
 /// Appends a statement's number of a scalar item.
@@ -117,7 +115,8 @@ fn push_components(out: &mut Vec<u8>, numbers: &[usize]) -> Result<(), AllocErro
 
 /// Appends the line of a scalar item.
 fn push_scalar(out: &mut Vec<u8>, number: usize, numbers: &[usize]) -> Result<(), AllocError>
-    ensures { OnOk result (out.new.items ≡ out.old.items ++ scalar_line number numbers.now) }
+    ensures text { OnOk result (out.new.items ≡ out.old.items ++ scalar_line number numbers.now) }
+    ensures narrow { OnOk result (AreNarrowNumbers numbers.now) }
 {
     let head = [
         Piece::Text(b"scalar "),
@@ -132,7 +131,7 @@ fn push_scalar(out: &mut Vec<u8>, number: usize, numbers: &[usize]) -> Result<()
         Err(_) => return Err(AllocError),
         Ok(()) => {}
     }
-    match push_text(out, b"\n") {
+    match put_bytes(out, b"\n") {
         Err(_) => Err(AllocError),
         Ok(()) => Ok(()),
     }
@@ -146,7 +145,8 @@ fn push_item(
     parallel: bool,
     item: &Item,
 ) -> Result<(), AllocError>
-    ensures { OnOk result (out.new.items ≡ out.old.items ++ item_text number band parallel (item_of item.now)) }
+    ensures text { OnOk result (out.new.items ≡ out.old.items ++ item_text number band parallel (item_of item.now)) }
+    ensures narrow { OnOk result (IsNarrowItem (item_of item.now)) }
 {
     match item {
         Item::Row(row) => push_row(out, number, band, parallel, row),
@@ -166,12 +166,13 @@ fn entered(bands: &[Band], count: usize, at: usize) -> usize
     count
 }
 
-/// The text of a schedule.
+/// The text of a schedule, whose numbers are those that their types hold.
 ///
 /// # Errors
 /// `AllocError` alone.
 pub fn schedule_text(alloc: Global, schedule: &Schedule) -> Result<Vec<u8>, AllocError>
-    ensures { IfOk result (λ text. IsTextOf schedule.now text.items) }
+    ensures text { IfOk result (λ text. IsTextOf schedule.now text.items) }
+    ensures narrow { IfOk result (λ text. All IsNarrowItem schedule.now.items) }
 {
     let items = schedule.items();
     let bands = schedule.bands();

@@ -3,7 +3,8 @@
 ghost use Rattle.std.specs.Prelude.{◌≡◌, ◌++◌, IfOk, OnOk};
 ghost use Rattle.report_text.specs.KeptText.{kept_text};
 
-use crate::pieces::{Piece, push_pieces, push_text};
+use crate::pieces::{Piece, push_pieces};
+use form_text::put_bytes;
 use std::alloc::{AllocError, Global};
 
 /// Why the order of a kernel is kept.
@@ -28,7 +29,7 @@ fn push_kept(out: &mut Vec<u8>, line: KeptLine) -> Result<(), AllocError>
     ensures { OnOk result (out.new.items ≡ out.old.items ++ kept_text line) }
 {
     match line {
-        KeptLine::Wide => push_text(out, b"kept: wide\n"),
+        KeptLine::Wide => put_bytes(out, b"kept: wide\n"),
         KeptLine::Spent(moves) => push_pieces(
             out,
             &[
@@ -45,9 +46,9 @@ fn push_kept(out: &mut Vec<u8>, line: KeptLine) -> Result<(), AllocError>
                 Piece::Text(b"\n"),
             ],
         ),
-        KeptLine::Large => push_text(out, b"kept: large\n"),
-        KeptLine::NoRow => push_text(out, b"kept: no row\n"),
-        KeptLine::NoOrder => push_text(out, b"kept: no order\n"),
+        KeptLine::Large => put_bytes(out, b"kept: large\n"),
+        KeptLine::NoRow => put_bytes(out, b"kept: no row\n"),
+        KeptLine::NoOrder => put_bytes(out, b"kept: no order\n"),
     }
 }
 

@@ -3,8 +3,9 @@
 ghost use Rattle.std.specs.Prelude.{◌≡◌, ◌++◌, OnOk, codes};
 ghost use Rattle.std.specs.Fmt.{signed_decimal};
 ghost use Rattle.report_text.specs.steps.Pieces.{piece_text, pieces_text};
-ghost use Rattle.report_text.specs.ScheduleText.{before, numbers_from, list_text};
+ghost use Rattle.report_text.specs.ScheduleText.{before, numbers_from, list_text, AreNarrow};
 
+use form_text::put_bytes;
 use itoa::Buffer;
 use std::alloc::AllocError;
 
@@ -27,25 +28,15 @@ pub(crate) fn before(at: usize, between: &[u8]) -> &[u8]
     between
 }
 
-/// Appends a text.
-pub(crate) fn push_text(out: &mut Vec<u8>, text: &[u8]) -> Result<(), AllocError>
-    ensures { OnOk result (out.new.items ≡ out.old.items ++ text.now) }
-{
-    match out.extend_from_slice(text) {
-        Err(_) => Err(AllocError),
-        Ok(()) => Ok(()),
-    }
-}
-
 /// Appends a number of a list, and what stands in front of it.
 fn push_entry(out: &mut Vec<u8>, at: usize, number: i128) -> Result<(), AllocError>
     ensures { OnOk result (out.new.items ≡ out.old.items ++ (before at (codes " ") ++ signed_decimal number)) }
 {
-    match push_text(out, before(at, b" ")) {
+    match put_bytes(out, before(at, b" ")) {
         Err(_) => return Err(AllocError),
         Ok(()) => {}
     }
-    match push_text(out, Buffer::new().format(number).as_bytes()) {
+    match put_bytes(out, Buffer::new().format(number).as_bytes()) {
         Err(_) => Err(AllocError),
         Ok(()) => Ok(()),
     }
@@ -53,7 +44,8 @@ fn push_entry(out: &mut Vec<u8>, at: usize, number: i128) -> Result<(), AllocErr
 
 /// Appends numbers, a space between.
 fn push_numbers(out: &mut Vec<u8>, numbers: &[i128]) -> Result<(), AllocError>
-    ensures { OnOk result (out.new.items ≡ out.old.items ++ numbers_from 0 numbers.now) }
+    ensures text { OnOk result (out.new.items ≡ out.old.items ++ numbers_from 0 numbers.now) }
+    ensures narrow { OnOk result (AreNarrow numbers.now) }
 {
     for at in 0..numbers.len() {
         match push_entry(out, at, numbers[at]) {
@@ -65,10 +57,11 @@ fn push_numbers(out: &mut Vec<u8>, numbers: &[i128]) -> Result<(), AllocError>
 }
 
 /// Appends numbers in parentheses.
-fn push_list(out: &mut Vec<u8>, numbers: &[i128]) -> Result<(), AllocError>
-    ensures { OnOk result (out.new.items ≡ out.old.items ++ list_text numbers.now) }
+pub(crate) fn push_list(out: &mut Vec<u8>, numbers: &[i128]) -> Result<(), AllocError>
+    ensures text { OnOk result (out.new.items ≡ out.old.items ++ list_text numbers.now) }
+    ensures narrow { OnOk result (AreNarrow numbers.now) }
 {
-    match push_text(out, b"(") {
+    match put_bytes(out, b"(") {
         Err(_) => return Err(AllocError),
         Ok(()) => {}
     }
@@ -76,7 +69,7 @@ fn push_list(out: &mut Vec<u8>, numbers: &[i128]) -> Result<(), AllocError>
         Err(_) => return Err(AllocError),
         Ok(()) => {}
     }
-    match push_text(out, b")") {
+    match put_bytes(out, b")") {
         Err(_) => Err(AllocError),
         Ok(()) => Ok(()),
     }
@@ -87,9 +80,9 @@ fn push_piece(out: &mut Vec<u8>, piece: Piece) -> Result<(), AllocError>
     ensures { OnOk result (out.new.items ≡ out.old.items ++ piece_text piece.entry) }
 {
     match piece {
-        Piece::Text(text) => push_text(out, text),
-        Piece::Number(number) => push_text(out, Buffer::new().format(number).as_bytes()),
-        Piece::Signed(number) => push_text(out, Buffer::new().format(number).as_bytes()),
+        Piece::Text(text) => put_bytes(out, text),
+        Piece::Number(number) => put_bytes(out, Buffer::new().format(number).as_bytes()),
+        Piece::Signed(number) => put_bytes(out, Buffer::new().format(number).as_bytes()),
         Piece::List(numbers) => push_list(out, numbers),
     }
 }

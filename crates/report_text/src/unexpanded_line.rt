@@ -3,7 +3,8 @@
 ghost use Rattle.std.specs.Prelude.{◌≡◌, ◌++◌, IfOk, OnOk};
 ghost use Rattle.report_text.specs.UnexpandedText.{unexpanded_text};
 
-use crate::pieces::{Piece, push_pieces, push_text};
+use crate::pieces::{Piece, push_pieces};
+use form_text::put_bytes;
 use std::alloc::{AllocError, Global};
 
 /// Why a run is not expanded: its instances have no copies of their own.
@@ -26,7 +27,7 @@ fn push_unexpanded(out: &mut Vec<u8>, line: UnexpandedLine) -> Result<(), AllocE
     ensures { OnOk result (out.new.items ≡ out.old.items ++ unexpanded_text line) }
 {
     match line {
-        UnexpandedLine::Wide => push_text(out, b"unexpanded: wide\n"),
+        UnexpandedLine::Wide => put_bytes(out, b"unexpanded: wide\n"),
         UnexpandedLine::Spent(moves) => push_pieces(
             out,
             &[
@@ -43,8 +44,8 @@ fn push_unexpanded(out: &mut Vec<u8>, line: UnexpandedLine) -> Result<(), AllocE
                 Piece::Text(b"\n"),
             ],
         ),
-        UnexpandedLine::Copies => push_text(out, b"unexpanded: copies\n"),
-        UnexpandedLine::Reduce => push_text(out, b"unexpanded: reduce\n"),
+        UnexpandedLine::Copies => put_bytes(out, b"unexpanded: copies\n"),
+        UnexpandedLine::Reduce => put_bytes(out, b"unexpanded: reduce\n"),
     }
 }
 

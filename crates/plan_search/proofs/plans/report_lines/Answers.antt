@@ -9,4 +9,4 @@ returns-then-report c =
     IfOk-weaker c.schedule_text.result _ _
     (λ text told s. subst (λ asked. text.items ≡ report_of asked s.blocks) (sym c.if-report.true)
     (text_of_blocks c.dependences_have_one_schedule.ensures c.args.schedule.now s text.items told))
-    c.schedule_text.ensures
+    c.schedule_text.ensures.text

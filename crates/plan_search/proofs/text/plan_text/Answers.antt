@@ -13,7 +13,7 @@ returns-in-Ok-schedule_of c =
     (λ text is. schedule_is_plan c.dependences_have_one_schedule.ensures c.args.budget c.deref.result.now
     c.args.model.now c.in-Ok-schedule_of.schedule text.items (c.deref.ensures.value ∙ c.in-Ok.ensures.deps)
     c.in-Ok-schedule_of.ensures.found is)
-    c.schedule_text.ensures
+    c.schedule_text.ensures.text
 
 pub returns : goal.returns
 returns c =

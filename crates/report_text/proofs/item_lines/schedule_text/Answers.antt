@@ -1,7 +1,8 @@
--- One line more, and at the end the text of the blocks.
+-- One line more, and at the end the text of the blocks, whose numbers fit their types.
 use Rattle.scop_syntax.proofs.Common.{◌∙◌, ◌+◌, ◌++◌, ◌<◌, ◌≤◌, sym, subst, ap, arith, length, drop, get_or, length-map}
-use Rattle.scop_syntax.proofs.Common.{get_or-map}
+use Rattle.scop_syntax.proofs.Common.{all_next, all_taken, get_or-map}
 use Rattle.schedule_rows.specs.Schedule.{item_of}
+use Rattle.report_text.specs.ScheduleText.{IsNarrowItem}
 use Rattle.report_text.specs.steps.ScheduleLines.{item_text, items_text}
 use Rattle.report_text.proofs.AppendedTexts.{next_appended}
 use Rattle.report_text.proofs.ScheduleLemmas.{lines_next, schedule_lines}
@@ -27,8 +28,10 @@ loop-at-preserved c =
       whole = next_appended c.loop-at.text.items c.push_item.new.out.items
           (item_text (at + 1) c.entered-count.result c.is_parallel-parallel.result item)
           (items_text (at + 1) c.entered-count.result schedule.bands (drop (at + 1) schedule.items)
-          (drop (at + 1) schedule.parallel)) _ c.in-Ok.ensures
+          (drop (at + 1) schedule.parallel)) _ c.in-Ok.ensures.text
           (ap (λ t. c.loop-at.text.items ++ t) next ∙ c.loop-at.invariant.whole);
+      narrow = all_next IsNarrowItem schedule.items at item (sym is) less c.loop-at.invariant.narrow
+          c.in-Ok.ensures.narrow;
     }
 
 pub returns : goal.returns
@@ -40,9 +43,11 @@ returns c =
     let past : length schedule.items ≤ c.loop-at.at =
     omega (arith, c.loop-at-test.false, length-map own item_of, ap length shown) in
     record {
-      blocks = is.blocks;
-      run = is.run;
-      text_is = schedule_lines schedule.items schedule.parallel schedule.bands is.blocks c.loop-at.text.items
-          c.loop-at.at
-          c.loop-at.count is.items is.bands is.parallel past c.loop-at.invariant.whole;
+      text = record {
+        blocks = is.blocks;
+        run = is.run;
+        text_is = schedule_lines schedule.items schedule.parallel schedule.bands is.blocks c.loop-at.text.items
+            c.loop-at.at c.loop-at.count is.items is.bands is.parallel past c.loop-at.invariant.whole;
+      };
+      narrow = all_taken IsNarrowItem schedule.items c.loop-at.at past c.loop-at.invariant.narrow;
     }
