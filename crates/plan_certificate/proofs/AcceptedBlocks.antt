@@ -5,7 +5,7 @@ use Rattle.scop_syntax.proofs.Common.{All-head, All-tail, All-weaker, all_front,
 use Rattle.schedule_rows.specs.Unknowns.{Part, part_numbers}
 use Rattle.schedule_rows.specs.Items.{Row, Marked, Block, scalar, band, band_rows, part_of, rows_in}
 use Rattle.schedule_rows.specs.Sized.{AreSized, AreSizedRows, IsSizedRow, IsSmall}
-use Rattle.plan_certificate.specs.steps.Narrow.{IsNarrowRow}
+use Rattle.report_text.specs.ScheduleText.{IsNarrowRow}
 use Rattle.plan_certificate.proofs.AcceptedItems.{ArePrinted, ArePrintedRows}
 use Rattle.plan_certificate.proofs.AcceptedRanks.{IsUpRow}
 use Rattle.plan_certificate.proofs.AcceptedTexts.{IsPrinted, IsPrintedPart, IsPrintedRow}

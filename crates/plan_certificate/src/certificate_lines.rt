@@ -1,37 +1,29 @@
-//! The lines of goals and of their derivations.
-ghost use Rattle.std.specs.Prelude.{◌≡◌, ◌++◌, OnOk, codes, map};
+//! The lines of goals and of their derivations, whose rows' numbers are those that their types hold.
+ghost use Rattle.std.specs.Prelude.{◌≡◌, ◌++◌, All, OnOk, codes, map};
 ghost use Rattle.schedule_lines.specs.Lines.{numeral};
 ghost use Rattle.plan_check.specs.Derivations.{step_of};
 ghost use Rattle.plan_check.specs.Printed.{goal_text, step_text, terms_text};
 ghost use Rattle.plan_certificate.specs.Certificates.{proof_text, step_line_of, steps_text, term_line_of};
+ghost use Rattle.plan_certificate.specs.steps.Narrow.{AreNarrow, IsNarrowLine, IsNarrowTerm};
 ghost use Rattle.plan_certificate.specs.steps.Numerals.{numbered, term_text};
 
+use form_text::put_bytes;
 use itoa::Buffer;
 use plan_check::{Line, Term};
 use std::alloc::AllocError;
-
-/// Appends a text.
-fn push_text(out: &mut Vec<u8>, text: &[u8]) -> Result<(), AllocError>
-    ensures { OnOk result (out.new.items ≡ out.old.items ++ text.now) }
-{
-    match out.extend_from_slice(text) {
-        Err(_) => Err(AllocError),
-        Ok(()) => Ok(()),
-    }
-}
 
 /// Appends a number in decimals.
 fn push_numeral(out: &mut Vec<u8>, number: u128) -> Result<(), AllocError>
     ensures { OnOk result (out.new.items ≡ out.old.items ++ numeral number) }
 {
-    push_text(out, Buffer::new().format(number).as_bytes())
+    put_bytes(out, Buffer::new().format(number).as_bytes())
 }
 
 /// Appends a text and a number behind it.
 fn push_numbered(out: &mut Vec<u8>, front: &[u8], number: u128) -> Result<(), AllocError>
     ensures { OnOk result (out.new.items ≡ out.old.items ++ numbered front.now number) }
 {
-    match push_text(out, front) {
+    match put_bytes(out, front) {
         Err(error) => Err(error),
         Ok(()) => push_numeral(out, number),
     }
@@ -39,7 +31,8 @@ fn push_numbered(out: &mut Vec<u8>, front: &[u8], number: u128) -> Result<(), Al
 
 /// Appends a term.
 fn push_term(out: &mut Vec<u8>, term: &Term) -> Result<(), AllocError>
-    ensures { OnOk result (out.new.items ≡ out.old.items ++ term_text (term_line_of term.now)) }
+    ensures text { OnOk result (out.new.items ≡ out.old.items ++ term_text (term_line_of term.now)) }
+    ensures narrow { IsNarrowTerm term.now }
 {
     match push_numbered(out, b" ", term.row as u128) {
         Err(error) => Err(error),
@@ -49,7 +42,8 @@ fn push_term(out: &mut Vec<u8>, term: &Term) -> Result<(), AllocError>
 
 /// Appends terms.
 fn push_terms(out: &mut Vec<u8>, terms: &[Term]) -> Result<(), AllocError>
-    ensures { OnOk result (out.new.items ≡ out.old.items ++ terms_text (map term_line_of terms.now)) }
+    ensures text { OnOk result (out.new.items ≡ out.old.items ++ terms_text (map term_line_of terms.now)) }
+    ensures narrow { OnOk result (All IsNarrowTerm terms.now) }
 {
     for term in terms {
         match push_term(out, term) {
@@ -62,20 +56,23 @@ fn push_terms(out: &mut Vec<u8>, terms: &[Term]) -> Result<(), AllocError>
 
 /// Appends the line of a step.
 fn push_step(out: &mut Vec<u8>, line: &Line) -> Result<(), AllocError>
-    ensures { OnOk result (out.new.items ≡ out.old.items ++ (step_text (step_line_of (step_of line.now)) ++ codes "\n")) }
+    ensures text { OnOk result
+        (out.new.items ≡ out.old.items ++ (step_text (step_line_of (step_of line.now)) ++ codes "\n")) }
+    ensures narrow { OnOk result (IsNarrowLine line.now) }
 {
     match push_numbered(out, b"line ", line.divisor.unsigned_abs()) {
         Err(error) => Err(error),
         Ok(()) => match push_terms(out, &line.terms) {
             Err(error) => Err(error),
-            Ok(()) => push_text(out, b"\n"),
+            Ok(()) => put_bytes(out, b"\n"),
         },
     }
 }
 
 /// Appends the lines of steps.
 fn push_steps(out: &mut Vec<u8>, lines: &[Line]) -> Result<(), AllocError>
-    ensures { OnOk result (out.new.items ≡ out.old.items ++ steps_text (map step_of lines.now)) }
+    ensures text { OnOk result (out.new.items ≡ out.old.items ++ steps_text (map step_of lines.now)) }
+    ensures narrow { OnOk result (AreNarrow (map step_of lines.now)) }
 {
     for line in lines {
         match push_step(out, line) {
@@ -92,7 +89,7 @@ fn push_goal(out: &mut Vec<u8>, number: u64) -> Result<(), AllocError>
 {
     match push_numbered(out, b"goal ", number as u128) {
         Err(error) => Err(error),
-        Ok(()) => push_text(out, b"\n"),
+        Ok(()) => put_bytes(out, b"\n"),
     }
 }
 
@@ -101,7 +98,8 @@ fn push_goal(out: &mut Vec<u8>, number: u64) -> Result<(), AllocError>
 /// # Errors
 /// `AllocError` alone.
 pub fn push_proof(out: &mut Vec<u8>, number: u64, lines: &[Line]) -> Result<(), AllocError>
-    ensures { OnOk result (out.new.items ≡ out.old.items ++ proof_text number (map step_of lines.now)) }
+    ensures text { OnOk result (out.new.items ≡ out.old.items ++ proof_text number (map step_of lines.now)) }
+    ensures narrow { OnOk result (AreNarrow (map step_of lines.now)) }
 {
     match push_goal(out, number) {
         Err(error) => Err(error),

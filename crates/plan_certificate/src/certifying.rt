@@ -15,7 +15,6 @@ ghost use Rattle.plan_certificate.specs.View.{uncertified_in};
 use crate::certificate_laws::certificates_are_accepted;
 use crate::certificate_lines::push_proof;
 use crate::determined::derivation;
-use crate::ranges::{read_items, read_lines};
 use crate::schedule_items::plan_items;
 use crate::stop::CertifyStop;
 use iteration_domains::Dep;
@@ -42,9 +41,8 @@ fn lines_for(alloc: Global, goal: &Dep) -> Result<Option<Vec<Line>>, AllocError>
 fn push_lines(out: &mut Vec<u8>, number: u64, lines: &[Line]) -> Result<(), CertifyStop>
     ensures gives { Gives uncertified_in (λ u. out.new.items) result
         (Ok (out.old.items ++ proof_text number (map step_of lines.now))) }
-    ensures narrow { AreNarrow (map step_of lines.now) }
+    ensures narrow { OnOk result (AreNarrow (map step_of lines.now)) }
 {
-    read_lines(lines);
     match push_proof(out, number, lines) {
         Err(_) => Err(CertifyStop::NoMemory),
         Ok(()) => Ok(()),
@@ -100,8 +98,6 @@ fn certified(alloc: Global, schedule: &Schedule) -> Result<Vec<u8>, CertifyStop>
     ensures { IsCertified (λ v. v.items) schedule.now result }
 {
     dependences_have_one_schedule();
-    let items = schedule.items();
-    read_items(items);
     match plan_items(alloc, schedule) {
         Err(_) => Err(CertifyStop::NoMemory),
         Ok(plan) => match Goals::of(alloc, schedule.model(), plan) {

@@ -12,7 +12,6 @@ mod dividing;
 mod eliminating;
 mod needed;
 mod places;
-mod ranges;
 mod rows;
 mod schedule_items;
 mod stop;

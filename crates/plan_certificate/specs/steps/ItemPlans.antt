@@ -4,7 +4,7 @@ use Rattle.std.specs.Prelude.{if◌then◌else◌}
 use Rattle.whole_numbers.specs.Affine.{Affine}
 use Rattle.schedule_rows.specs.Items.{Block}
 use Rattle.schedule_rows.specs.Outcomes.{IsSchedule}
-use Rattle.schedule_rows.specs.Schedule.{Item, row, scalar, Scheduled, loops_in}
+use Rattle.schedule_rows.specs.Schedule.{Item, row, scalar, Scheduled, items_of, loops_in}
 use Rattle.schedule_rows.specs.declared.item.Band.{Band}
 use Rattle.plan_check.specs.Plans.{Plan, PlanRow, rows, numbers, Suits, IsUp}
 use Rattle.plan_check.specs.PlanView.{plan_of}
@@ -52,8 +52,9 @@ pub record Fits (loops : List ℕ) (blocks : List Block) (p : Plan) : Type 0 whe
   pub suits : Suits loops p
   pub up : IsUp p
 
--- a schedule has these blocks, and its plan is theirs
+-- a schedule has these blocks, its items are theirs, and so is its plan
 pub record IsPlanned {E : Type 0} (s : Scheduled) (result : Result PlanItems E) : Type 0 where
   pub blocks : List Block
   pub run : IsSchedule s.model.parameters (loops_in s.model) s.deps blocks
+  pub items : s.items ≡ items_of blocks
   pub plan : IfOk result (λ p. Fits (loops_in s.model) blocks (plan_of p))

@@ -1,28 +1,17 @@
--- Numbers that types of the code hold: those of a schedule, and the rows' numbers of the lines that are written.
-use Rattle.std.specs.Prelude.{◌≡◌, ℕ, ◌^◌, ◌<◌, pos, ◌<ℤ◌, List, All, IfOk, Result, Some}
+-- Numbers that types of the code hold: those of the rows that lines take, and all of a certificate.
+use Rattle.std.specs.Prelude.{◌≡◌, ◌^◌, ◌<◌, List, All, IfOk, Result, Some}
 use Rattle.wide_math.specs.Gives.{Gives}
 use Rattle.scop_lexer.specs.Bytes.{Text}
 use Rattle.iteration_domains.specs.Dependence.{Dependence}
-use Rattle.schedule_rows.specs.Items.{Block, Row}
+use Rattle.schedule_rows.specs.Items.{Block}
 use Rattle.schedule_rows.specs.Outcomes.{IsSchedule}
-use Rattle.schedule_rows.specs.Schedule.{Item, row, scalar, Scheduled, loops_in}
+use Rattle.schedule_rows.specs.Schedule.{Scheduled, loops_in}
 use Rattle.plan_check.specs.Derivations.{Step, step_of}
 use Rattle.plan_check.specs.declared.lines.Line.{Line}
 use Rattle.plan_check.specs.declared.lines.Term.{Term}
 use Rattle.plan_certificate.specs.Certificates.{certificate_of, derivation_of, IsNarrow}
 use Rattle.plan_certificate.specs.View.{uncertified_in}
 use Rattle.plan_certificate.specs.declared.stop.CertifyStop.{CertifyStop}
-
--- below 2^127
-abbrev pub IsNarrowRow : Row → Type 0
-IsNarrowRow r = All (λ z. z <ℤ pos (2 ^ 127)) r.u × (r.w <ℤ pos (2 ^ 127))
-
-abbrev pub AreNarrowNumbers : List ℕ → Type 0
-AreNarrowNumbers ns = All (λ n. n < 2 ^ 127) ns
-
-abbrev pub IsNarrowItem : Item → Type 0
-IsNarrowItem (row r) = IsNarrowRow r
-IsNarrowItem (scalar ns) = AreNarrowNumbers ns
 
 -- the numbers of rows that lines take are below 2^64
 abbrev pub IsNarrowTerm : Term → Type 0

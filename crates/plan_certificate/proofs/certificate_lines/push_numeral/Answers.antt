@@ -8,5 +8,5 @@ pub returns : goal.returns
 returns c =
     let same = decimal_is_numeral c.args.number (omega (arith, c.ranges.number.fits)) in
     let text : c.as_bytes.result.now ≡ numeral c.args.number = rw (sym same) (search rules) in
-    subst (λ (z : List ℕ). OnOk c.push_text.result (c.push_text.new.out.items ≡ c.args.out.now.items ++ z)) text
-    c.push_text.ensures
+    subst (λ (z : List ℕ). OnOk c.put_bytes.result (c.put_bytes.new.out.items ≡ c.args.out.now.items ++ z)) text
+    c.put_bytes.ensures

@@ -40,6 +40,7 @@ returns c =
     record {
       blocks = is.blocks;
       run = is.run;
+      items = is.items;
       plan = record {
         plan_is = same;
         suits = subst (Suits loops) (sym same) fits.0;
