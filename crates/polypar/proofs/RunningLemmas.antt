@@ -37,13 +37,13 @@ pub record Laws : Type 0 where
 
 -- at parameters of the program
 trees_run : Laws → (program : Program) (params : List ℤ) (plan : Tiling) (ts : Trees) → AreTreesOf program [] plan ts
-    → HasParameters program params → RunKernel program params ts
+    → HasParameters program params → RunKernel program params plan ts
 trees_run laws program params plan ts is has = record {
   walk = laws.walk ts params;
   once = λ run runs. laws.once program params plan ts run is has runs;
   walked_visits = λ run runs. laws.visits_of program params plan ts run is has runs;
   in_order = λ i j c. laws.in_order program params [] plan ts is.even (is.carry_out params has) i j c refl;
-  marked = (plan, (is.carry_out params has).marked);
+  marked = (is.carry_out params has).marked;
   free = (is.carry_out params has).free refl;
   arrays = λ contents run order inside shaped runs visits.
       laws.ends program params plan ts contents run order is has inside shaped runs visits;
@@ -51,11 +51,10 @@ trees_run laws program params plan ts is has = record {
 
 -- so do those that are read of a text
 pub loops_run : Laws → (tile budget : ℕ) (program : Program) (told : Told) → ReadsAsLoops tile budget program told
-    → RunsKernel program told.text
+    → RunsKernel tile budget program told
 loops_run laws tile budget program told reads =
     let carried = planned_carried tile budget false program reads.plan told.lines reads.trees reads.planned in
     record {
-      trees = reads.trees;
-      read = reads.read;
+      loops = reads;
       runs = λ params has. trees_run laws program params reads.plan reads.trees carried has;
     }

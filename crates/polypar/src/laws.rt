@@ -70,15 +70,16 @@ pub fn printed_loops_are_read_back()
 }
 
 /// What `emit` prints runs the kernel: at Done some input, which is all that the source told, spells a kernel, and `out`
-/// has gained exactly a text that is read as loop trees which for all parameters in 0..=65536 visit of two instances
-/// that conflict the earlier first, whose parallel loops are free of conflicts, and which visit each walked instance
-/// once and leave the arrays of the source's own execution, in whichever order the iterations of those loops are
-/// interleaved.
+/// has gained exactly a text that is read as loop trees of a plan of the kernel: that of its schedule, or the kept
+/// order, whose line `err` has gained. For all parameters in 0..=65536 these visit of two instances that conflict the
+/// earlier first; their parallel loops are those of the plan's tiling, and free of conflicts; and they visit each
+/// walked instance once and leave the arrays of the source's own execution, in whichever order the iterations of those
+/// loops are interleaved.
 pub fn printed_loops_run_the_kernel()
     ensures { (words : List (List ℕ)) (tile budget : ℕ) (source source_after : SourceShows)
         (out out_after err err_after : SinkShows)
         → Answered words Done source source_after out out_after err err_after → IsEmitCommand tile budget words
-        → PrintsText RunsKernel source.left out.taken out_after.taken }
+        → PrintsTold (RunsKernel tile budget) source.left out out_after err err_after }
 {
     loops_end_as_the_source_does();
     printed_loops_are_read_back();

@@ -15,8 +15,9 @@ returns c = λ words tile budget source source_after out out_after err err_after
     } in (
       printed.0,
       printed.1,
-      printed.2.text,
+      printed.2,
       printed.3,
       loops_run laws tile budget printed.1.program printed.2 printed.4,
       printed.5,
+      printed.6,
     )
