@@ -6,7 +6,7 @@
 
 pub mod calls;
 
-ghost use Rattle.std.specs.Prelude.{All, ◌≡◌, ◌⊎◌, ◌<◌, ◌≤◌, ◌^◌, ℕ, ℤ, [], List, Option, Some, map};
+ghost use Rattle.std.specs.Prelude.{All, ◌≡◌, ◌⊎◌, ◌<◌, ◌≤◌, ◌^◌, ℕ, ℤ, [], List, Option, Some, false, map};
 ghost use Rattle.clap.specs.Words.{fault_of};
 ghost use Rattle.io_ports.specs.Reads.{SourceShows};
 ghost use Rattle.io_ports.specs.Writes.{SinkShows};
@@ -40,6 +40,7 @@ ghost use Rattle.polypar.specs.Deserves.{Deserves, IsVerdict};
 ghost use Rattle.polypar.specs.Emitting.{ReadsAsLoops};
 ghost use Rattle.polypar.specs.Executions.{AreVisitsOf};
 ghost use Rattle.polypar.specs.ConflictOrders.{IsOrderOf};
+ghost use Rattle.polypar.specs.Planned.{ArePlanned};
 ghost use Rattle.polypar.specs.Sources.{TellsLastWrites};
 ghost use Rattle.polypar.specs.Trees.{StandInOrder};
 
@@ -96,13 +97,14 @@ pub fn loops_of_tiles_of_size_1()
     printed_loops_are_read_back();
 }
 
-/// What these do, by the clause of `printed_loops_run_the_kernel`, with what it says of the trees that are read of the
-/// text written out.
+/// What these do, by the clause of `printed_loops_run_the_kernel`, with what it says of the plan and of the trees that
+/// are read of the text written out.
 pub fn runs_of_tiles_of_size_1()
     ensures { (words : List (List ℕ)) (budget : ℕ) (source source_after : SourceShows)
         (out out_after err err_after : SinkShows)
         → Answered words Done source source_after out out_after err err_after → IsEmitCommand 1 budget words
-        → PrintsText (λ program text. (ts : Trees) × (read_text program text ≡ Some ts)
+        → PrintsTold (λ program told. (plan : Tiling) × (ts : Trees)
+        × ArePlanned 1 budget false [] program plan told.lines ts × (read_text program told.text ≡ Some ts)
         × ((params : List ℤ) → HasParameters program params
         → MayRunAll ts params [] (walk_all ts params [])
         × ((run : List Visit) → MayRunAll ts params [] run
@@ -110,12 +112,12 @@ pub fn runs_of_tiles_of_size_1()
         × ((order : List Walked) × AreVisitsOf program params (map given run) order))
         × ((i j : ℕ) (c : PlacesConflict (walk_of program params) i j)
         → StandInOrder (visits ts params) (instance c.earlier) (instance c.later))
-        × ((plan : Tiling) × AreMarked plan ts params) × AreFree (Conflict program params) ts params []
+        × AreMarked plan ts params × AreFree (Conflict program params) ts params []
         × ((contents : List (List ℕ)) (run : List Visit) (order : List Walked) → IsInside program params
         → IsShaped (layout program params) contents → MayRunAll ts params [] run
         → AreVisitsOf program params (map given run) order
         → performed_all (layout program params) contents order ≡ exec program params contents)))
-        source.left out.taken out_after.taken }
+        source.left out out_after err err_after }
 {
     printed_loops_run_the_kernel();
 }

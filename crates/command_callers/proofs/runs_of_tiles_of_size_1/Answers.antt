@@ -11,11 +11,14 @@ returns c =
       prints.2,
       prints.3,
       (
-        runs.trees,
-        runs.read,
+        runs.loops.plan,
+        runs.loops.trees,
+        runs.loops.planned,
+        runs.loops.read,
         λ params has.
             let r = runs.runs params has in
             (r.walk, (λ run may. (r.once run may, r.walked_visits run may)), r.in_order, r.marked, r.free, r.arrays),
       ),
       prints.5,
+      prints.6,
     )
