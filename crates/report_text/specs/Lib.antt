@@ -3,6 +3,7 @@ pub mod DepsReading
 pub mod DepsText
 pub mod KeptText
 pub mod TilesText
+pub mod ScheduleExamples
 pub mod ScheduleText
 pub mod StatusText
 pub mod UncertifiedText
