@@ -1,6 +1,7 @@
-//! Callers of the text of loop trees: the call, and the laws at empty trees and in kernels without parameters.
+//! Callers of the text of loop trees: the call, the laws at empty trees and in kernels without parameters, and worked
+//! texts.
 ghost use Rattle.std.specs.Prelude.{◌≡◌, ◌↔◌, ◌∷◌, ◌<◌, ◌^◌, [], ◌-ℤ◌, ◌*ℤ◌, ℕ, ℤ, IfOk, List, None, Some, length, pos};
-ghost use Rattle.std.specs.Prelude.{IfSome, IsNone, map, option_map, slice_get, slice_index_or, false, true};
+ghost use Rattle.std.specs.Prelude.{IfSome, IsNone, codes, map, option_map, slice_get, slice_index_or, false, true};
 ghost use Rattle.whole_numbers.specs.Affine.{Affine, value_of, values_of};
 ghost use Rattle.whole_numbers.specs.Floor.{ceiling, floor};
 ghost use Rattle.scop_lexer.specs.Bytes.{Text};
@@ -17,19 +18,22 @@ ghost use Rattle.loop_tree.specs.Tree.{Trees, multiple, none};
 ghost use Rattle.loop_tree.specs.View.{trees_in};
 ghost use Rattle.loop_tree.specs.Walk.{holds, max_z, min_z};
 ghost use Rattle.c_printer.specs.Divisions.{ceiling_function, floor_function, greater_function, less_function};
+ghost use Rattle.c_printer.specs.Examples as example;
 ghost use Rattle.c_printer.specs.Iterators.{given_value, given_values};
 ghost use Rattle.c_printer.specs.Naming.{HasWords};
 ghost use Rattle.c_printer.specs.Nodes.{text_of};
 ghost use Rattle.c_printer.specs.Printable.{AreNodes, IsInstance, IsNamed};
 ghost use Rattle.c_printer.specs.Reading.{read_text};
+ghost use Rattle.c_printer.specs.Statements.{statement_text};
 ghost use Rattle.c_printer.specs.Values.{stores, worth};
 ghost use Rattle.scop_syntax.specs.Standings.{heads_in};
 
 use c_printer::{
-    kernels_tell_their_names_apart, print, printed_divisions_are_those_of_the_tree,
-    printed_iterators_are_the_source_s, printed_trees_are_read_back,
-    printed_values_are_those_of_the_tree, read_back, texts_are_of_one_tree,
-    the_functions_of_a_text_round_and_choose, unread_texts_are_of_no_tree,
+    a_tree_and_its_text, kernels_tell_their_names_apart, print,
+    printed_divisions_are_those_of_the_tree, printed_iterators_are_the_source_s,
+    printed_trees_are_read_back, printed_values_are_those_of_the_tree, read_back,
+    statements_and_their_texts, texts_are_of_one_tree, the_functions_of_a_text_round_and_choose,
+    unread_texts_are_of_no_tree,
 };
 use loop_tree::Tree;
 use scop_syntax::Kernel;
@@ -57,6 +61,20 @@ pub fn tree_of_a_text(
         → option_map trees_in read ≡ None) }
 {
     read_back(alloc, kernel, text)
+}
+
+/// The text of a tree with each kind of node, by the clause of `a_tree_and_its_text`.
+pub fn a_worked_tree()
+    ensures { text_of example.kernel example.tree ≡ example.text }
+{
+    a_tree_and_its_text();
+}
+
+/// The texts of statements in a loop over i, by the clause of `statements_and_their_texts`.
+pub fn worked_statements()
+    ensures { map (statement_text example.kernel (codes "N" ∷ codes "i" ∷ [])) example.statements ≡ example.texts }
+{
+    statements_and_their_texts();
 }
 
 /// The text of an empty tree is read, by the clause of `printed_trees_are_read_back`.

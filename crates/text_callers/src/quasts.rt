@@ -1,5 +1,5 @@
-//! Callers of the texts of quasts and of sources: the laws over no names, two worked texts, and that a printed text is
-//! read in one way.
+//! Callers of the texts of quasts, of sources and of a schedule: the laws over no names, worked texts, and that a
+//! printed text is read in one way.
 ghost use Rattle.std.specs.Prelude.{◌≡◌, ◌≢◌, ◌++◌, [], List, codes, get_or};
 ghost use Rattle.scop_lexer.specs.Bytes.{Text};
 ghost use Rattle.quast_trees.specs.Tree.{Tree, initial};
@@ -14,9 +14,13 @@ ghost use Rattle.dataflow.specs.declared.source.ReadSource.{ReadSource};
 ghost use Rattle.report_text.specs.DepsReading.{AllSaySame};
 ghost use Rattle.report_text.specs.DepsExamples.{copy, even, even_source, even_text, resolved};
 ghost use Rattle.report_text.specs.DepsText.{deps_text};
+ghost use Rattle.report_text.specs.ScheduleExamples.{blocks, text};
+ghost use Rattle.report_text.specs.ScheduleText.{schedule_text};
 
 use quast_text::texts_are_of_one_quast;
-use report_text::{printed_sources_are_read_in_one_way, texts_of_two_kernels};
+use report_text::{
+    a_schedule_and_its_text, printed_sources_are_read_in_one_way, texts_of_two_kernels,
+};
 
 /// Two quasts over no names with one text are one, by `one` of `texts_are_of_one_quast`; none begins as `unresolved`, by
 /// `first`.
@@ -34,6 +38,13 @@ pub fn worked_texts()
     ensures even { deps_text even (resolved even_source) ≡ even_text }
 {
     texts_of_two_kernels();
+}
+
+/// The text of a schedule with items of both kinds, by the clause of `a_schedule_and_its_text`.
+pub fn a_worked_schedule()
+    ensures { schedule_text blocks ≡ text }
+{
+    a_schedule_and_its_text();
 }
 
 /// Sources of a kernel that have the text of no source are none, by the clause of `printed_sources_are_read_in_one_way`.
