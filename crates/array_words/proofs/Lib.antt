@@ -6,3 +6,4 @@ pub mod OpeningState
 pub mod Members
 pub mod Joins
 pub mod FinalCells
+pub mod Ends

@@ -1,8 +1,11 @@
 //! The end: the passes are joined, and the words go back into the cells.
 ghost use Rattle.array_words.specs.Closing.{IsClosed, IsResting, one_if_ended, stage_in};
 ghost use Rattle.std.specs.Mem.Slots.{IsFull, slots_items, slots_len};
-ghost use Rattle.std.specs.Prelude.{◌≡◌, ℕ, ◌+◌, ◌<◌, All, get_or, length};
+ghost use Rattle.std.specs.Prelude.{◌≡◌, ℕ, ◌+◌, ◌<◌, All, List, false, get_or, length, true};
+ghost use Rattle.scop_syntax.specs.Cells.{Cell};
+ghost use Rattle.scop_syntax.specs.Execution.{IsCell, IsShaped, cell_number, exec, held, value_stored_at};
 ghost use Rattle.tile_core.specs.Passes.{IsPass, IsWords, plan_in};
+ghost use Rattle.tile_core.specs.Plans.{HoldsContents, extents_in, is_expanded, plain_shape, program_in, walk_in};
 ghost use Rattle.tile_events.specs.Sound.{total};
 ghost use lib.ListN.{get_elem?};
 ghost use mathlib.Core.Option.{some};
@@ -10,7 +13,7 @@ ghost use mathlib.Core.Option.{some};
 use crate::gathering::gather;
 use atomic_table::Closed as ClosedTable;
 use std::alloc::Global;
-use tile_core::{Pass, Plan, View, Words};
+use tile_core::{Pass, Plan, View, Words, plans_are_good, plans_execute_the_kernel};
 use tile_events::seats_are_allowed;
 
 /// A run that is over: its plan, and how many of its passes saw the claims run out.
@@ -50,6 +53,9 @@ fn copy_words(closed: &ClosedTable<(), Global>, cells: &mut [u64])
 }
 
 /// Puts the words into the cells, where no pass holds a tile and one has seen the claims run out. It takes no memory.
+/// Where the words were started from the contents of all arrays, one array behind another, each cell of each array is
+/// then what the kernel's own execution leaves there; with an expansion it is what it was at the start, and the copy of
+/// each place holds what that execution stores there.
 pub fn close<'a>(words: Words<'a>, passes: Vec<Pass>, cells: &mut [u64]) -> Closed<'a>
     requires words { IsWords words }
     requires passes { All (IsPass words) passes.items }
@@ -57,11 +63,31 @@ pub fn close<'a>(words: Words<'a>, passes: Vec<Pass>, cells: &mut [u64]) -> Clos
     requires all { length passes.items ≡ words.table.shared.key.workers }
     requires over { 0 < total (λ p. one_if_ended (stage_in p)) passes.items }
     requires cells { length cells.old ≡ (plan_in words).cells }
+    ensures arrays { (contents : List (List ℕ)) → is_expanded words.entry.plan ≡ false
+        → IsShaped (extents_in words.entry.plan) contents
+        → HoldsContents contents words.entry.table.shared.key.cells.items
+        → (c : Cell) → IsCell (extents_in words.entry.plan) c
+        → get_or cells.new (cell_number (extents_in words.entry.plan) c) 0
+        ≡ held (extents_in words.entry.plan)
+        (exec (program_in words.entry.plan) words.entry.plan.params.now contents) c }
+    ensures kept { (contents : List (List ℕ)) → is_expanded words.entry.plan ≡ true
+        → IsShaped (extents_in words.entry.plan) contents
+        → HoldsContents contents words.entry.table.shared.key.cells.items
+        → (c : Cell) → IsCell (extents_in words.entry.plan) c
+        → get_or cells.new (cell_number (extents_in words.entry.plan) c) 0
+        ≡ held (extents_in words.entry.plan) contents c }
+    ensures copies { (contents : List (List ℕ)) (j : ℕ) → is_expanded words.entry.plan ≡ true
+        → IsShaped (extents_in words.entry.plan) contents
+        → HoldsContents contents words.entry.table.shared.key.cells.items → j < length (walk_in words.entry.plan)
+        → get_or cells.new ((plain_shape words.entry.plan).cells + j) 0
+        ≡ value_stored_at (extents_in words.entry.plan) contents (walk_in words.entry.plan) j }
     ensures plan { result.plan ≡ words.entry.plan }
     ensures ended { result.ended ≡ total (λ p. one_if_ended (stage_in p)) passes.items }
     ensures cells { IsClosed (plan_in words.entry) cells.old cells.new }
 {
     seats_are_allowed::<View>();
+    plans_are_good();
+    plans_execute_the_kernel();
     let (seat, ended) = gather(&words, passes);
     let Words { plan, table } = words;
     let closed = table.close_with(seat);

@@ -1,4 +1,4 @@
-pub mod Ends
+pub mod EndRows
 pub mod JoinsNext
 pub mod Laid
 pub mod NextCopies

@@ -1,6 +1,6 @@
 -- Passes before and after a run.
 use Rattle.scop_syntax.proofs.Common.{◌≡◌, ◌∙◌, ◌<◌, ℕ, suc, List, [], ◌∷◌, ◌++◌, take, drop, All, length, ap, refl}
-use Rattle.scop_syntax.proofs.Common.{sym, subst, arith}
+use Rattle.scop_syntax.proofs.Common.{sym, subst, take-append_seam, arith}
 use Rattle.tile_events.specs.Sound.{Holds, total}
 use Rattle.tile_core.specs.Passes.{IsPass}
 use Rattle.tile_core.specs.Plans.{shape_of}
@@ -21,15 +21,10 @@ all_over words (p ∷ ps) h =
     omega (arith, i, e)
 
 -- a vector whose slice was written whole holds what was written
-rewritten : {A : Type 0} (xs ys : List A) → length xs ≡ length ys → take (length ys) (xs ++ drop (length xs) ys) ≡ xs
-rewritten [] [] e = refl
-rewritten [] (y ∷ ys) e = absurd (omega (arith, e))
-rewritten (x ∷ xs) [] e = absurd (omega (arith, e))
-rewritten (x ∷ xs) (y ∷ ys) e = ap (λ zs. x ∷ zs) (rewritten xs ys (omega (arith, e)))
-
-pub whole : (old new : List Pass) (n : ℕ) → n ≡ length old → length new ≡ length old
+pub whole : {A : Type 0} (old new : List A) (n : ℕ) → n ≡ length old → length new ≡ length old
     → take n (new ++ drop (length new) old) ≡ new
-whole old new n is same = ap (λ (m : ℕ). take m (new ++ drop (length new) old)) is ∙ rewritten new old same
+whole old new n is same =
+    ap (λ (m : ℕ). take m (new ++ drop (length new) old)) (is ∙ sym same) ∙ take-append_seam new (drop (length new) old)
 
 -- where each pass of so many was replaced by one that has ended, all have
 pub all_count : (words : Words) (old new : List Pass) (n : ℕ) → n ≡ length old → length new ≡ length old

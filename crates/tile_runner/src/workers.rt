@@ -14,7 +14,7 @@ use std::alloc::{AllocError, Global};
 use std::sync::Wait;
 use std::thread;
 use std::thread::Threads;
-use tile_core::{Pass, Plan, Words, plans_are_good, plans_execute_the_kernel};
+use tile_core::{Pass, Plan, Words};
 
 /// Runs every pass, on at most so many threads.
 fn work_all<R: Threads + Wait + Sync, G: Gate>(
@@ -38,30 +38,6 @@ fn work_all<R: Threads + Wait + Sync, G: Gate>(
             ensures { IsOver words.entry.now pass.new }
         { work(rt, words, pass, gate) },
     );
-}
-
-/// Starts the words of the plan, runs every pass, and puts the words back into the cells.
-fn run_passes<'a, R: Threads + Wait + Sync, G: Gate>(
-    rt: &R,
-    alloc: Global,
-    plan: Plan<'a>,
-    cells: &mut Vec<u64>,
-    workers: usize,
-    gate: &G,
-) -> Result<Closed<'a>, AllocError>
-    requires plan { IsPlan plan }
-    requires cells { length cells.old.items ≡ (shape_of plan).cells }
-    requires rest { HasRest plan cells.old.items }
-    requires some { 1 ≤ workers }
-    requires few { workers ≤ 64 }
-    ensures cells { IfOk result (λ _. IsClosed (plan_of plan.entry cells.old.items) cells.old.items cells.new.items) }
-    ensures plan { IfOk result (λ c. c.plan ≡ plan.entry) }
-    ensures ended { IfOk result (λ c. c.ended ≡ workers) }
-    ensures unchanged { IfErr result (λ _. cells.new.items ≡ cells.old.items) }
-{
-    let (words, mut passes) = start(alloc, plan, cells, workers)?;
-    work_all(rt, &words, &mut passes, workers, gate);
-    Ok(close(words, passes, cells))
 }
 
 /// Runs the plan on these cells with so many workers, each on a thread where there is one. All memory is taken before
@@ -104,7 +80,7 @@ pub fn run_plan<'a, R: Threads + Wait + Sync, G: Gate>(
     ensures ended { IfOk result (λ c. c.ended ≡ workers) }
     ensures unchanged { IfErr result (λ _. cells.new.items ≡ cells.old.items) }
 {
-    plans_are_good();
-    plans_execute_the_kernel();
-    run_passes(rt, alloc, plan, cells, workers, gate)
+    let (words, mut passes) = start(alloc, plan, cells, workers)?;
+    work_all(rt, &words, &mut passes, workers, gate);
+    Ok(close(words, passes, cells))
 }

@@ -47,11 +47,11 @@ module _ (p : events.Plan) (cells : List ℕ) (dealt : IsDealt p) where
     over = λ i at. absurd (some-ne-none ended (sym at));
   }
 
--- the cells at the end of a plan's run over a row that holds the contents
-pub sound_end : (plan : Plan) (contents : List (List ℕ)) (first cells : List ℕ)
-    → plan_of plan first ≡ plan_of plan (flat contents) → IsDealt (plan_of plan (flat contents))
-    → length first ≡ (shape_of plan).cells → IsClosed (plan_of plan first) first cells
+-- the cells at the end of a plan's run from a row that holds the contents
+pub sound_end : (plan : Plan) (contents : List (List ℕ)) (row first cells : List ℕ)
+    → plan_of plan row ≡ plan_of plan (flat contents) → IsDealt (plan_of plan (flat contents))
+    → length first ≡ (shape_of plan).cells → IsClosed (plan_of plan row) first cells
     → Sound (plan_of plan (flat contents)) (end_of (plan_of plan (flat contents)) cells)
-sound_end plan contents first cells row dealt wide closed =
+sound_end plan contents row first cells same dealt wide closed =
     closed_sound (plan_of plan (flat contents)) cells dealt first wide
-    (subst (λ (p : events.Plan). IsClosed p first cells) row closed)
+    (subst (λ (p : events.Plan). IsClosed p first cells) same closed)
