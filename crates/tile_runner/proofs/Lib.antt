@@ -1,4 +1,3 @@
-pub mod EndRows
 pub mod JoinsNext
 pub mod Laid
 pub mod NextCopies
