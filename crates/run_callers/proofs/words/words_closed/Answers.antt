@@ -1,0 +1,6 @@
+use Rattle.scop_syntax.proofs.Common.{ap, is_some}
+use Rattle.run_callers.proofs.words.words_closed.Goals as goal
+
+pub returns : goal.returns
+returns c = λ contents shaped holds d cell.
+    c.close.ensures.arrays contents (ap is_some c.requires.single) shaped holds d cell
