@@ -1,16 +1,17 @@
 -- Given bytes in front of a text are taken off it; no call stands in front of a form.
-use Rattle.whole_numbers.proofs.Common.{◌≡◌, ◌∙◌, ap, sym, subst, refl, ℕ, suc, ◌^◌, ◌<◌, Bool, true, false, List, []}
-use Rattle.whole_numbers.proofs.Common.{◌∷◌, ◌++◌, length, decimal, ◌==◌, ◌&&◌, ℤ, pos, negsuc, Some, None, Option}
-use Rattle.whole_numbers.proofs.Common.{codes, if◌then◌else◌, list_all, false≢true, eq-eqb, Affine, fits}
+use Rattle.whole_numbers.proofs.Common.{◌≡◌, ◌∙◌, ap, sym, subst, refl, ℕ, suc, Bool, true, false, List, [], ◌∷◌}
+use Rattle.whole_numbers.proofs.Common.{◌++◌, ◌==◌, ◌&&◌, ℤ, pos, negsuc, Some, None, Option, codes, if◌then◌else◌}
+use Rattle.whole_numbers.proofs.Common.{list_all, false≢true, eq-eqb, Affine}
 use Rattle.std.proofs.Common.{ne_eqb}
 use Rattle.std.proofs.lemmas.List.{append_assoc}
 use Rattle.scop_lexer.specs.Bytes.{Text, is_digit}
 use Rattle.form_text.specs.Forms.{factor_text, signed_text, is_zero, terms_text, form_text}
-use Rattle.form_text.specs.Names.{begins_name, is_name_byte, AreNameBytes, IsVariableName, AreNames, AllFit, IsFormOver}
+use Rattle.form_text.specs.Names.{begins_name, is_name_byte, AreNameBytes, IsVariableName, AreNames}
+use Rattle.form_text.specs.Numerals.{numeral}
 use Rattle.form_text.specs.Reading.{strip}
-use Rattle.form_text.proofs.Digits.{Clean, decimal_digits}
+use Rattle.form_text.proofs.Digits.{Clean, numeral_digits}
 use Rattle.form_text.proofs.Terms.{IsNameOrNone, name_or_none, begins_is_byte, begins_no_digit, left_true}
-use Rattle.form_text.proofs.Terms.{right_true, small}
+use Rattle.form_text.proofs.Terms.{right_true}
 use Rattle.form_text.proofs.Forms.{clean_terms}
 
 -- given bytes in front are taken off
@@ -74,52 +75,52 @@ bytes_of : (w : Text) → IsVariableName w → AreNameBytes w
 bytes_of [] h = absurd h
 bytes_of (b ∷ bs) h = (begins_is_byte b h.0, h.1)
 
-before_factor : (same : Bool) (w : Text) (m b : ℕ) (bs rest : Text) → IsVariableName w → m < 2 ^ 128
+before_factor : (same : Bool) (w : Text) (m b : ℕ) (bs rest : Text) → IsVariableName w
     → IsVariableName (b ∷ bs) → Clean rest
-    → strip (w ++ (40 ∷ [])) ((if same then b ∷ bs else decimal m ++ (42 ∷ b ∷ bs)) ++ rest) ≡ None
-before_factor true w m b bs rest h small n c =
+    → strip (w ++ (40 ∷ [])) ((if same then b ∷ bs else numeral m ++ (42 ∷ b ∷ bs)) ++ rest) ≡ None
+before_factor true w m b bs rest h n c =
     no_call w (b ∷ bs) rest (bytes_of w h) (bytes_of (b ∷ bs) n) c
-before_factor false w m b bs rest h small n c =
-    ap (strip (w ++ (40 ∷ []))) (append_assoc (decimal m) (42 ∷ b ∷ bs) rest)
-    ∙ at_digits w (decimal m) ((42 ∷ b ∷ bs) ++ rest) h (decimal_digits m small).first
+before_factor false w m b bs rest h n c =
+    ap (strip (w ++ (40 ∷ []))) (append_assoc (numeral m) (42 ∷ b ∷ bs) rest)
+    ∙ at_digits w (numeral m) ((42 ∷ b ∷ bs) ++ rest) h (numeral_digits m).first
 
-before_term : (w : Text) (c : ℤ) (name rest : Text) → IsVariableName w → fits c ≡ true → IsNameOrNone name → Clean rest
+before_term : (w : Text) (c : ℤ) (name rest : Text) → IsVariableName w → IsNameOrNone name → Clean rest
     → strip (w ++ (40 ∷ [])) (signed_text true c name ++ rest) ≡ None
-before_term w (negsuc m) name rest h k n c = letter_first w 45 (factor_text (suc m) name ++ rest) h refl
-before_term w (pos m) [] rest h k n c = at_digits w (decimal m) rest h (decimal_digits m (small m k)).first
-before_term w (pos m) (b ∷ bs) rest h k n c = before_factor (m == 1) w m b bs rest h (small m k) n c
+before_term w (negsuc m) name rest h n c = letter_first w 45 (factor_text (suc m) name ++ rest) h refl
+before_term w (pos m) [] rest h n c = at_digits w (numeral m) rest h (numeral_digits m).first
+before_term w (pos m) (b ∷ bs) rest h n c = before_factor (m == 1) w m b bs rest h n c
 
-before_constant : (none : Bool) (w : Text) (k : ℤ) (rest : Text) → IsVariableName w → fits k ≡ true → Clean rest
+before_constant : (none : Bool) (w : Text) (k : ℤ) (rest : Text) → IsVariableName w → Clean rest
     → strip (w ++ (40 ∷ []))
     ((if none && true then codes "0" else (if none then [] else signed_text true k [])) ++ rest) ≡ None
-before_constant true w k rest h g c = letter_first w 48 rest h refl
-before_constant false w k rest h g c = before_term w k [] rest h g tt c
+before_constant true w k rest h c = letter_first w 48 rest h refl
+before_constant false w k rest h c = before_term w k [] rest h tt c
 
 before_first : (none : Bool) (w : Text) (x : ℤ) (name : Text) (names : List Text) (cs : List ℤ) (k : ℤ) (rest : Text)
-    → IsVariableName w → fits x ≡ true → IsVariableName name → Clean (terms_text false names cs k ++ rest)
+    → IsVariableName w → IsVariableName name → Clean (terms_text false names cs k ++ rest)
     → strip (w ++ (40 ∷ [])) (terms_text true names cs k ++ rest) ≡ None
     → strip (w ++ (40 ∷ []))
     (((if none then [] else signed_text true x name) ++ terms_text (none && true) names cs k) ++ rest) ≡ None
-before_first true w x name names cs k rest h g n c d = d
-before_first false w x name names cs k rest h g n c d =
+before_first true w x name names cs k rest h n c d = d
+before_first false w x name names cs k rest h n c d =
     ap (strip (w ++ (40 ∷ []))) (append_assoc (signed_text true x name) (terms_text false names cs k) rest)
-    ∙ before_term w x name (terms_text false names cs k ++ rest) h g (name_or_none name n) c
+    ∙ before_term w x name (terms_text false names cs k ++ rest) h (name_or_none name n) c
 
 before_terms : (w : Text) (names : List Text) (cs : List ℤ) (k : ℤ) (rest : Text) → IsVariableName w → AreNames names
-    → AllFit cs → fits k ≡ true → Clean rest → strip (w ++ (40 ∷ [])) (terms_text true names cs k ++ rest) ≡ None
-before_terms w [] cs k rest h n hs g c = before_constant (is_zero k) w k rest h g c
-before_terms w (name ∷ names) [] k rest h n hs g c = before_constant (is_zero k) w k rest h g c
-before_terms w (name ∷ names) (x ∷ cs) k rest h n hs g c =
-    before_first (is_zero x) w x name names cs k rest h hs.0 n.0 (clean_terms names cs k rest c)
-    (before_terms w names cs k rest h n.2 hs.1 g c)
+    → Clean rest → strip (w ++ (40 ∷ [])) (terms_text true names cs k ++ rest) ≡ None
+before_terms w [] cs k rest h n c = before_constant (is_zero k) w k rest h c
+before_terms w (name ∷ names) [] k rest h n c = before_constant (is_zero k) w k rest h c
+before_terms w (name ∷ names) (x ∷ cs) k rest h n c =
+    before_first (is_zero x) w x name names cs k rest h n.0 (clean_terms names cs k rest c)
+    (before_terms w names cs k rest h n.2 c)
 
 -- a form is no call
 pub form_no_call : (call : Text) (names : List Text) (form : Affine) (rest : Text) → IsCall call → AreNames names
-    → IsFormOver (length names) form → Clean rest → strip call (form_text names form ++ rest) ≡ None
+    → Clean rest → strip call (form_text names form ++ rest) ≡ None
 unfolding form_text
-form_no_call call names form rest i n f c =
+form_no_call call names form rest i n c =
     subst (λ (x : Text). strip x (form_text names form ++ rest) ≡ None) (sym i.is)
-    (before_terms i.name names form.coefficients form.constant rest i.word n f.coefficients f.constant c)
+    (before_terms i.name names form.coefficients form.constant rest i.word n c)
 
 -- bytes of names, by computation
 pub name_bytes_by : (w : Text) → list_all is_name_byte w ≡ true → AreNameBytes w

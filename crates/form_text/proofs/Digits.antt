@@ -1,12 +1,14 @@
 -- Digits and names in front of a text are read back.
-use Rattle.whole_numbers.proofs.Common.{◌≡◌, ◌∙◌, ap, sym, refl, ℕ, ◌+◌, ◌-◌, ◌*◌, ◌/◌, ◌%◌, ◌^◌, ◌<◌, ◌≤◌, Bool, true}
-use Rattle.whole_numbers.proofs.Common.{false, [], ◌∷◌, ◌++◌, decimal, arith, ◌==◌, ◌||◌, ⊤, false≢true, not-true}
-use Rattle.whole_numbers.proofs.Common.{decimal_by_steps_wide}
+use Rattle.whole_numbers.proofs.Common.{◌≡◌, ◌∙◌, ap, sym, refl, ℕ, zero, suc, ◌+◌, ◌-◌, ◌*◌, ◌<◌, Bool, true}
+use Rattle.whole_numbers.proofs.Common.{false, List, [], ◌∷◌, ◌++◌, get_or, arith, ◌==◌, ◌||◌, ⊤, false≢true, not-true}
+use Rattle.std.specs.Int.Digits.{digits_of, number_from_digits_after, AllBelowBase}
 use Rattle.std.proofs.Common.{le-leb}
-use Rattle.std.proofs.lemmas.List.{append_assoc}
+use Rattle.std.proofs.lemmas.Int.Digits.{all_below_base_digits_of, first_digits_of, number_digits_of}
 use Rattle.scop_lexer.specs.Bytes.{Text, is_letter, is_digit, is_word_byte}
 use Rattle.form_text.specs.Names.{is_mark, is_name_byte, AreNameBytes}
+use Rattle.form_text.specs.Numerals.{numeral}
 use Rattle.form_text.specs.Reading.{number_in_front, behind_digits, name_in_front, behind_name, ends_factor}
+use Rattle.form_text.proofs.Numerals.{bytes_of}
 
 -- what the digits of n are in front of any text
 pub record AreDigitsOf (n : ℕ) (ds : Text) : Type 0 where
@@ -17,36 +19,36 @@ pub record AreDigitsOf (n : ℕ) (ds : Text) : Type 0 where
 pub is_digit_of : (n : ℕ) → n < 10 → is_digit (48 + n) ≡ true
 is_digit_of n h = rw (le-leb 48 (48 + n) (omega arith), le-leb (48 + n) 57 (omega arith)) refl
 
-one_digit : (n : ℕ) → n < 10 → AreDigitsOf n ((48 + n) ∷ [])
-one_digit n h = record {
-  number = λ rest. rw (is_digit_of n h) (ap (λ v. number_in_front v rest)
-      (let e : 0 * 10 + (48 + n - 48) ≡ n = omega arith in e));
-  behind = λ rest. rw (is_digit_of n h) refl;
-  first = (48 + n, [], refl, is_digit_of n h);
-}
+-- digits in front write on a number
+pub digits_front : (v : ℕ) (ds : List ℕ) (rest : Text) → AllBelowBase 10 ds
+    → number_in_front v (bytes_of ds ++ rest) ≡ number_in_front (number_from_digits_after 10 v ds) rest
+digits_front v [] rest below = refl
+digits_front v (d ∷ ds) rest below =
+    let same : 48 + d - 48 ≡ d = omega arith in
+    rw (is_digit_of d below.0) (ap (λ k. number_in_front (v * 10 + k) (bytes_of ds ++ rest)) same
+    ∙ digits_front (v * 10 + d) ds rest below.1)
 
-more_digits : (n : ℕ) (ds : Text) → 10 ≤ n → AreDigitsOf (n / 10) ds → AreDigitsOf n (ds ++ ((48 + n % 10) ∷ []))
-more_digits n ds h d = record {
-  number = λ rest. ap (number_in_front 0) (append_assoc ds ((48 + n % 10) ∷ []) rest)
-      ∙ (d.number ((48 + n % 10) ∷ rest)
-      ∙ rw (is_digit_of (n % 10) small) (ap (λ v. number_in_front v rest)
-      (let e : n / 10 * 10 + (48 + n % 10 - 48) ≡ n = omega arith in e)));
-  behind = λ rest. ap behind_digits (append_assoc ds ((48 + n % 10) ∷ []) rest)
-      ∙ (d.behind ((48 + n % 10) ∷ rest) ∙ rw (is_digit_of (n % 10) small) refl);
-  first = (
-    d.first.0,
-    d.first.1 ++ ((48 + n % 10) ∷ []),
-    ap (λ (x : Text). x ++ ((48 + n % 10) ∷ [])) d.first.2,
-    d.first.3,
-  );
-}
-  where
-    small : n % 10 < 10
-    small = omega arith
+pub digits_behind : (ds : List ℕ) (rest : Text) → AllBelowBase 10 ds
+    → behind_digits (bytes_of ds ++ rest) ≡ behind_digits rest
+digits_behind [] rest below = refl
+digits_behind (d ∷ ds) rest below = rw (is_digit_of d below.0) (digits_behind ds rest below.1)
 
-pub decimal_digits : (n : ℕ) → n < 2 ^ 128 → AreDigitsOf n (decimal n)
-decimal_digits n h = decimal_by_steps_wide (λ m ds. AreDigitsOf m ds) (λ m k. one_digit m k)
-    (λ m ds k d. more_digits m ds k d) n (omega (arith, h))
+first_digit : (ds : List ℕ) → AllBelowBase 10 ds → 0 < get_or ds 0 0
+    → (b : ℕ) × (bs : Text) × (bytes_of ds ≡ b ∷ bs) × (is_digit b ≡ true)
+first_digit [] below some = absurd (omega (arith, some))
+first_digit (d ∷ ds) below some = (48 + d, bytes_of ds, refl, is_digit_of d below.0)
+
+pub numeral_digits : (n : ℕ) → AreDigitsOf n (numeral n)
+numeral_digits zero = record { number = λ rest. refl; behind = λ rest. refl; first = (48, [], refl, refl) }
+numeral_digits (suc n) =
+    let ds = digits_of 10 (suc n) in
+    let below = all_below_base_digits_of 10 (suc n) (omega arith) in
+    record {
+      number = λ rest. digits_front 0 ds rest below
+          ∙ ap (λ v. number_in_front v rest) (number_digits_of 10 (suc n) (omega arith));
+      behind = λ rest. digits_behind ds rest below;
+      first = first_digit ds below (first_digits_of 10 (suc n) (omega arith) (omega arith));
+    }
 
 -- what no byte of a name begins, nor `(` or `*`
 abbrev pub Clean : Text → Type 0
@@ -89,13 +91,29 @@ abbrev pub EndsDigits : Text → Type 0
 EndsDigits [] = ⊤
 EndsDigits (b ∷ bs) = is_digit b ≡ false
 
--- the number that stands in front
-pub decimal_number : (n : ℕ) (rest : Text) → n < 2 ^ 128 → EndsDigits rest
-    → number_in_front 0 (decimal n ++ rest) ≡ n
-decimal_number n [] h c = (decimal_digits n h).number []
-decimal_number n (b ∷ bs) h c = (decimal_digits n h).number (b ∷ bs) ∙ rw c refl
+pub clean_ends : (rest : Text) → Clean rest → EndsDigits rest
+clean_ends [] c = tt
+clean_ends (b ∷ bs) c = no_digit b c.0
 
-pub decimal_behind : (n : ℕ) (rest : Text) → n < 2 ^ 128 → EndsDigits rest
-    → behind_digits (decimal n ++ rest) ≡ rest
-decimal_behind n [] h c = (decimal_digits n h).behind []
-decimal_behind n (b ∷ bs) h c = (decimal_digits n h).behind (b ∷ bs) ∙ rw c refl
+pub stops : (v : ℕ) (rest : Text) → EndsDigits rest → number_in_front v rest ≡ v
+stops v [] e = refl
+stops v (b ∷ bs) e = rw e refl
+
+pub stays : (rest : Text) → EndsDigits rest → behind_digits rest ≡ rest
+stays [] e = refl
+stays (b ∷ bs) e = rw e refl
+
+-- the number that stands in front
+pub numeral_number : (n : ℕ) (rest : Text) → EndsDigits rest → number_in_front 0 (numeral n ++ rest) ≡ n
+numeral_number n rest e = (numeral_digits n).number rest ∙ stops n rest e
+
+pub numeral_behind : (n : ℕ) (rest : Text) → EndsDigits rest → behind_digits (numeral n ++ rest) ≡ rest
+numeral_behind n rest e = (numeral_digits n).behind rest ∙ stays rest e
+
+-- two numerals with one text in front of what no digit begins are one
+pub one_number : (m n : ℕ) (r s : Text) → EndsDigits r → EndsDigits s → numeral m ++ r ≡ numeral n ++ s
+    → (m ≡ n) × (r ≡ s)
+one_number m n r s c d e = (
+  sym (numeral_number m r c) ∙ (ap (number_in_front 0) e ∙ numeral_number n s d),
+  sym (numeral_behind m r c) ∙ (ap behind_digits e ∙ numeral_behind n s d),
+)

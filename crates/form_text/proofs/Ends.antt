@@ -1,9 +1,11 @@
 -- What may stand behind a form.
-use Rattle.whole_numbers.proofs.Common.{◌≡◌, ◌∙◌, ap, refl, ℕ, ◌^◌, ◌<◌, ◌++◌, decimal, codes, None}
+use Rattle.whole_numbers.proofs.Common.{◌≡◌, ◌∙◌, ap, refl, ℕ, ◌++◌, codes, None}
+use Rattle.std.specs.Prelude.{option_map}
 use Rattle.std.proofs.lemmas.List.{append_assoc}
 use Rattle.scop_lexer.specs.Bytes.{Text}
-use Rattle.form_text.specs.Reading.{term_in_front, factor_in_front, minus, when, EndsForm}
-use Rattle.form_text.proofs.Terms.{numeral}
+use Rattle.form_text.specs.Numerals.{numeral}
+use Rattle.form_text.specs.Reading.{term_in_front, factor_in_front, minus, EndsForm}
+use Rattle.form_text.proofs.Terms.{number_back}
 
 pub ends_nothing : EndsForm (codes "")
 unfolding term_in_front
@@ -38,13 +40,11 @@ unfolding term_in_front
 ends_divisor rest = record { factor = refl; term = refl }
 
 -- a call is no name, so a product with one is no term
-call_is_no_factor : (d : ℕ) (rest : Text) → d < 2 ^ 128
-    → factor_in_front (decimal d ++ codes "*pp_floord(" ++ rest) ≡ None
-call_is_no_factor d rest h =
-    ap factor_in_front (append_assoc (decimal d) (codes "*pp_floord(") rest)
-    ∙ numeral d (codes "*pp_floord(" ++ rest) h refl refl
+call_is_no_factor : (d : ℕ) (rest : Text) → factor_in_front (numeral d ++ codes "*pp_floord(" ++ rest) ≡ None
+call_is_no_factor d rest =
+    ap factor_in_front (append_assoc (numeral d) (codes "*pp_floord(") rest)
+    ∙ number_back d (codes "*pp_floord(" ++ rest) refl
 
-pub ends_multiple : (d : ℕ) (rest : Text) → d < 2 ^ 128
-    → EndsForm (codes " - " ++ decimal d ++ codes "*pp_floord(" ++ rest)
+pub ends_multiple : (d : ℕ) (rest : Text) → EndsForm (codes " - " ++ numeral d ++ codes "*pp_floord(" ++ rest)
 unfolding term_in_front
-ends_multiple d rest h = record { factor = refl; term = ap (λ o. when o minus) (call_is_no_factor d rest h) }
+ends_multiple d rest = record { factor = refl; term = ap (option_map minus) (call_is_no_factor d rest) }

@@ -2,12 +2,11 @@
 use Rattle.whole_numbers.proofs.Common.{◌≡◌, ◌∙◌, ap, sym, subst, refl, zero, suc, Bool, true, false, List, [], ◌∷◌}
 use Rattle.whole_numbers.proofs.Common.{◌++◌, length, arith, ◌≢◌, ◌&&◌, ℤ, pos, negsuc, Some, None, Option, codes}
 use Rattle.whole_numbers.proofs.Common.{if◌then◌else◌, bytes_eq, false≢true, false_from_ne_true, bytes_eq-Decides}
-use Rattle.whole_numbers.proofs.Common.{Affine, form_of, fits}
+use Rattle.whole_numbers.proofs.Common.{Affine, form_of}
 use Rattle.std.proofs.lemmas.List.{append_assoc}
-use Rattle.std.proofs.lemmas.Fmt.{decimal_digit}
 use Rattle.scop_lexer.specs.Bytes.{Text}
 use Rattle.form_text.specs.Forms.{signed_text, is_zero, terms_text, form_text}
-use Rattle.form_text.specs.Names.{IsVariableName, IsFresh, AreNames, AllFit, IsFormOver}
+use Rattle.form_text.specs.Names.{IsVariableName, IsFresh, AreNames, IsFormOver}
 use Rattle.form_text.specs.Reading.{Term, term_of, term_in_front, Next, next_of, next_in, ended, with_coefficient}
 use Rattle.form_text.specs.Reading.{read_terms, read_form, EndsForm}
 use Rattle.form_text.proofs.Digits.{Clean, clean_of}
@@ -70,58 +69,56 @@ clean_terms (name ∷ names) (x ∷ cs) k rest c =
     either false h = h
 
 zero_back : (rest : Text) → Clean rest → term_in_front true (codes "0" ++ rest) ≡ Some (term_of (pos 0) [] rest)
-zero_back rest c = subst (λ (x : Text). term_in_front true (x ++ rest) ≡ Some (term_of (pos 0) [] rest))
-    (decimal_digit 0 (omega arith)) (term_back true (pos 0) [] rest refl tt c)
+zero_back rest c = term_back true (pos 0) [] rest tt c
 
 nameless : (name : Text) → IsVariableName name → [] ≢ name
 nameless name w e = subst IsVariableName (sym e) w
 
 -- the constant is no term with a name
-constant_passes : (none front : Bool) (name : Text) (k : ℤ) (rest : Text) → IsVariableName name → fits k ≡ true
-    → EndsForm rest
+constant_passes : (none front : Bool) (name : Text) (k : ℤ) (rest : Text) → IsVariableName name → EndsForm rest
     → Passes front name ((if none && front then codes "0" else (if none then [] else signed_text front k [])) ++ rest)
-constant_passes true true name k rest w h c =
+constant_passes true true name k rest w c =
     passed true name (codes "0" ++ rest) [] (pos 0) rest (zero_back rest (clean_of rest c.factor)) (nameless name w)
-constant_passes true false name k rest w h c = ap (next_in false name rest) c.term
-constant_passes false front name k rest w h c =
+constant_passes true false name k rest w c = ap (next_in false name rest) c.term
+constant_passes false front name k rest w c =
     passed front name (signed_text front k [] ++ rest) [] k rest
-    (term_back front k [] rest h tt (clean_of rest c.factor)) (nameless name w)
+    (term_back front k [] rest tt (clean_of rest c.factor)) (nameless name w)
 
 -- nor is a term of another name, and what begins with it
 term_passes : (none front : Bool) (name v : Text) (x : ℤ) (names : List Text) (cs : List ℤ) (k : ℤ) (rest : Text)
-    → v ≢ name → IsVariableName v → fits x ≡ true → Clean (terms_text false names cs k ++ rest)
+    → v ≢ name → IsVariableName v → Clean (terms_text false names cs k ++ rest)
     → Passes front name (terms_text front names cs k ++ rest)
     → Passes front name
     (((if none then [] else signed_text front x v) ++ terms_text (none && front) names cs k) ++ rest)
-term_passes true front name v x names cs k rest apart w h c d = d
-term_passes false front name v x names cs k rest apart w h c d =
+term_passes true front name v x names cs k rest apart w c d = d
+term_passes false front name v x names cs k rest apart w c d =
     let behind = terms_text false names cs k in
     passed front name ((signed_text front x v ++ behind) ++ rest) v x (behind ++ rest)
     (ap (term_in_front front) (append_assoc (signed_text front x v) behind rest)
-    ∙ term_back front x v (behind ++ rest) h (name_or_none v w) c) apart
+    ∙ term_back front x v (behind ++ rest) (name_or_none v w) c) apart
 
 terms_pass : (front : Bool) (name : Text) (names : List Text) (cs : List ℤ) (k : ℤ) (rest : Text) → IsVariableName name
-    → IsFresh name names → AreNames names → AllFit cs → fits k ≡ true → EndsForm rest
+    → IsFresh name names → AreNames names → EndsForm rest
     → Passes front name (terms_text front names cs k ++ rest)
-terms_pass front name [] cs k rest w apart n hs h c = constant_passes (is_zero k) front name k rest w h c
-terms_pass front name (v ∷ names) [] k rest w apart n hs h c = constant_passes (is_zero k) front name k rest w h c
-terms_pass front name (v ∷ names) (x ∷ cs) k rest w apart n hs h c =
-    term_passes (is_zero x) front name v x names cs k rest (λ same. apart.0 (sym same)) n.0 hs.0
+terms_pass front name [] cs k rest w apart n c = constant_passes (is_zero k) front name k rest w c
+terms_pass front name (v ∷ names) [] k rest w apart n c = constant_passes (is_zero k) front name k rest w c
+terms_pass front name (v ∷ names) (x ∷ cs) k rest w apart n c =
+    term_passes (is_zero x) front name v x names cs k rest (λ same. apart.0 (sym same)) n.0
     (clean_terms names cs k rest (clean_of rest c.factor))
-    (terms_pass front name names cs k rest w apart.1 n.2 hs.1 h c)
+    (terms_pass front name names cs k rest w apart.1 n.2 c)
 
-constant_back : (none front : Bool) (k : ℤ) (rest : Text) → is_zero k ≡ none → fits k ≡ true → EndsForm rest
+constant_back : (none front : Bool) (k : ℤ) (rest : Text) → is_zero k ≡ none → EndsForm rest
     → read_terms front [] ((if none && front then codes "0" else (if none then [] else signed_text front k [])) ++ rest)
     ≡ Some (form_of [] k, rest)
-constant_back true true k rest e h c =
+constant_back true true k rest e c =
     ap ended (taken true [] (codes "0" ++ rest) (pos 0) rest (term_in_front true (codes "0" ++ rest))
     (zero_back rest (clean_of rest c.factor)))
     ∙ ap (λ z. Some (form_of [] z, rest)) (sym (zero_is k e))
-constant_back true false k rest e h c =
+constant_back true false k rest e c =
     ap (λ o. ended (next_in false [] rest o)) c.term ∙ ap (λ z. Some (form_of [] z, rest)) (sym (zero_is k e))
-constant_back false front k rest e h c =
+constant_back false front k rest e c =
     ap ended (taken front [] (signed_text front k [] ++ rest) k rest
-    (term_in_front front (signed_text front k [] ++ rest)) (term_back front k [] rest h tt (clean_of rest c.factor)))
+    (term_in_front front (signed_text front k [] ++ rest)) (term_back front k [] rest tt (clean_of rest c.factor)))
 
 -- what is read for a name, and then for the others
 abbrev read_behind : List Text → Next → Option (Affine × Text)
@@ -129,41 +126,40 @@ read_behind names n = with_coefficient n.coefficient (read_terms n.front names n
 
 -- one term more
 step_back : (none front : Bool) (name : Text) (x : ℤ) (names : List Text) (cs : List ℤ) (k : ℤ) (rest : Text)
-    → is_zero x ≡ none → AreNames (name ∷ names) → AllFit (x ∷ cs) → fits k ≡ true → EndsForm rest
+    → is_zero x ≡ none → AreNames (name ∷ names) → EndsForm rest
     → read_terms front names (terms_text front names cs k ++ rest) ≡ Some (form_of cs k, rest)
     → read_terms false names (terms_text false names cs k ++ rest) ≡ Some (form_of cs k, rest)
     → read_terms front (name ∷ names)
     (((if none then [] else signed_text front x name) ++ terms_text (none && front) names cs k) ++ rest)
     ≡ Some (form_of (x ∷ cs) k, rest)
-step_back true front name x names cs k rest e n hs h c same behind =
-    ap (read_behind names) (terms_pass front name names cs k rest n.0 n.1 n.2 hs.1 h c)
+step_back true front name x names cs k rest e n c same behind =
+    ap (read_behind names) (terms_pass front name names cs k rest n.0 n.1 n.2 c)
     ∙ (ap (with_coefficient (pos 0)) same ∙ ap (λ z. Some (form_of (z ∷ cs) k, rest)) (sym (zero_is x e)))
-step_back false front name x names cs k rest e n hs h c same behind =
+step_back false front name x names cs k rest e n c same behind =
     let others = terms_text false names cs k in
     let text = (signed_text front x name ++ others) ++ rest in
     ap (read_behind names) (taken front name text x (others ++ rest) (term_in_front front text)
     (ap (term_in_front front) (append_assoc (signed_text front x name) others rest)
-    ∙ term_back front x name (others ++ rest) hs.0 (name_or_none name n.0)
+    ∙ term_back front x name (others ++ rest) (name_or_none name n.0)
     (clean_terms names cs k rest (clean_of rest c.factor))))
     ∙ ap (with_coefficient x) behind
 
 -- the terms of a form are read back in front of what ends them
 pub terms_back : (front : Bool) (names : List Text) (cs : List ℤ) (k : ℤ) (rest : Text) → AreNames names
-    → length cs ≡ length names → AllFit cs → fits k ≡ true → EndsForm rest
+    → length cs ≡ length names → EndsForm rest
     → read_terms front names (terms_text front names cs k ++ rest) ≡ Some (form_of cs k, rest)
-terms_back front [] [] k rest n e hs h c = constant_back (is_zero k) front k rest refl h c
-terms_back front [] (x ∷ cs) k rest n e hs h c = absurd (omega (arith, e))
-terms_back front (name ∷ names) [] k rest n e hs h c = absurd (omega (arith, e))
-terms_back front (name ∷ names) (x ∷ cs) k rest n e hs h c =
-    step_back (is_zero x) front name x names cs k rest refl n hs h c
-    (terms_back front names cs k rest n.2 (omega (arith, e)) hs.1 h c)
-    (terms_back false names cs k rest n.2 (omega (arith, e)) hs.1 h c)
+terms_back front [] [] k rest n e c = constant_back (is_zero k) front k rest refl c
+terms_back front [] (x ∷ cs) k rest n e c = absurd (omega (arith, e))
+terms_back front (name ∷ names) [] k rest n e c = absurd (omega (arith, e))
+terms_back front (name ∷ names) (x ∷ cs) k rest n e c =
+    step_back (is_zero x) front name x names cs k rest refl n c
+    (terms_back front names cs k rest n.2 (omega (arith, e)) c)
+    (terms_back false names cs k rest n.2 (omega (arith, e)) c)
 
 pub form_back : (names : List Text) (form : Affine) (rest : Text) → AreNames names → IsFormOver (length names) form
     → EndsForm rest → read_form names (form_text names form ++ rest) ≡ Some (form, rest)
 unfolding form_text read_form
-form_back names form rest n f c = terms_back true names form.coefficients form.constant rest n f.entries f.coefficients
-    f.constant c
+form_back names form rest n f c = terms_back true names form.coefficients form.constant rest n f c
 
 -- what an option holds, or another value
 abbrev held : {A : Type 0} → A → Option A → A

@@ -1,3 +1,4 @@
+pub mod Numerals
 pub mod Digits
 pub mod Terms
 pub mod Forms

@@ -1,35 +1,37 @@
 -- Terms put behind one another.
 use Rattle.whole_numbers.proofs.Common.{◌≡◌, ◌∙◌, ap, sym, refl, ℕ, zero, suc, ◌<◌, ◌≤◌, Bool, true, false, List, []}
 use Rattle.whole_numbers.proofs.Common.{◌∷◌, ◌++◌, length, drop, decimal, arith, add-one, ap₂, drop-cons, get_or, map}
-use Rattle.whole_numbers.proofs.Common.{◌+◌, ◌==◌, ◌≢◌, ◌&&◌, ℤ, if◌then◌else◌, eqb-true, eq-eqb}
+use Rattle.whole_numbers.proofs.Common.{◌+◌, ◌^◌, ◌==◌, ◌≢◌, ◌&&◌, ℤ, if◌then◌else◌, eqb-true, eq-eqb}
 use Rattle.std.proofs.lemmas.List.{append_assoc}
 use Rattle.scop_lexer.specs.Bytes.{Text}
 use Rattle.form_text.specs.Forms.{factor_text, constant_text, is_zero, term_text, terms_text}
+use Rattle.form_text.specs.Numerals.{numeral}
+use Rattle.form_text.proofs.Numerals.{decimal_is_numeral}
 
-pub alone : (m : ℕ) (name : Text) → length name ≡ 0 → factor_text m name ≡ decimal m
-alone m [] e = refl
-alone m (b ∷ bs) e = absurd (omega (arith, e))
+pub alone : (m : ℕ) (name : Text) → m < 2 ^ 128 → length name ≡ 0 → factor_text m name ≡ decimal m
+alone m [] h e = sym (decimal_is_numeral m (omega (arith, h)))
+alone m (b ∷ bs) h e = absurd (omega (arith, e))
 
 many : (same : Bool) (m : ℕ) (name : Text) → (m == 1) ≡ same → m ≢ 1
-    → (if same then name else decimal m ++ (42 ∷ name)) ≡ decimal m ++ (42 ∷ name)
+    → (if same then name else numeral m ++ (42 ∷ name)) ≡ numeral m ++ (42 ∷ name)
 many true m name e h = absurd (h (eqb-true m 1 e))
 many false m name e h = refl
 
-product : (m : ℕ) (name : Text) → 0 < length name → m ≢ 1 → factor_text m name ≡ decimal m ++ (42 ∷ name)
+product : (m : ℕ) (name : Text) → 0 < length name → m ≢ 1 → factor_text m name ≡ numeral m ++ (42 ∷ name)
 product m [] some h = absurd (omega (arith, some))
 product m (b ∷ bs) some h = many (m == 1) m (b ∷ bs) refl h
 
 -- a number, `*` and a name are put one behind the other
-pub put_product : (out first second name : Text) (m : ℕ) → first ≡ out ++ decimal m → second ≡ first ++ (42 ∷ [])
+pub put_product : (out first second name : Text) (m : ℕ) → first ≡ out ++ numeral m → second ≡ first ++ (42 ∷ [])
     → 0 < length name → m ≢ 1 → second ++ name ≡ out ++ factor_text m name
 put_product out first second name m e f some h =
     ap (λ (x : Text). x ++ name) (f ∙ ap (λ (x : Text). x ++ (42 ∷ [])) e)
-    ∙ (append_assoc (out ++ decimal m) (42 ∷ []) name ∙ (append_assoc out (decimal m) (42 ∷ name)
+    ∙ (append_assoc (out ++ numeral m) (42 ∷ []) name ∙ (append_assoc out (numeral m) (42 ∷ name)
     ∙ ap (λ (x : Text). out ++ x) (sym (product m name some h))))
 
 pub single : (m : ℕ) (name : Text) → 0 < length name → m ≡ 1 → factor_text m name ≡ name
 single m [] some h = absurd (omega (arith, some))
-single m (b ∷ bs) some h = ap (λ (t : Bool). if t then b ∷ bs else decimal m ++ (42 ∷ b ∷ bs)) (eq-eqb m 1 h)
+single m (b ∷ bs) some h = ap (λ (t : Bool). if t then b ∷ bs else numeral m ++ (42 ∷ b ∷ bs)) (eq-eqb m 1 h)
 
 no_terms : (front : Bool) (names : List Text) (k : ℤ) → terms_text front names [] k ≡ constant_text front k
 no_terms front [] k = refl

@@ -1,19 +1,20 @@
 -- What the code's own words for fronts of slices say, and numbers that are read up to 2^128 - 1.
-use Rattle.whole_numbers.proofs.Common.{◌≡◌, ◌∙◌, ap, sym, refl, ℕ, suc, Bool, true, false, [], ◌∷◌, ◌++◌, take, drop}
-use Rattle.whole_numbers.proofs.Common.{arith, ◌+◌, List, ◌-◌, ◌*◌, ◌^◌, ◌<◌, length, get_or, ◌≤◌, map, append-nil}
-use Rattle.whole_numbers.proofs.Common.{drop-cons, add-one, ℤ, Option, Some, None, MatchOption, ◌≢◌, ◌==◌, nat_lt}
-use Rattle.whole_numbers.proofs.Common.{nat_le, if◌then◌else◌, prefix_len, eqb-true, eq-eqb, ltb-true, ltb-false}
-use Rattle.whole_numbers.proofs.Common.{leb-true, le-ltb, lt-leb, drop_all, none-some, same_Some, Affine, form_of}
+use Rattle.whole_numbers.proofs.Common.{◌≡◌, ◌∙◌, ap, sym, refl, ℕ, zero, suc, Bool, true, false, [], ◌∷◌, ◌++◌}
+use Rattle.whole_numbers.proofs.Common.{take, drop, arith, ◌+◌, List, ◌-◌, ◌*◌, ◌^◌, ◌<◌, length, get_or, ◌≤◌, map}
+use Rattle.whole_numbers.proofs.Common.{append-nil, min, drop-cons, add-one, ℤ, pos, negsuc, Option, Some, None}
+use Rattle.whole_numbers.proofs.Common.{MatchOption, ◌≢◌, ◌==◌, if◌then◌else◌, bytes_eq, prefix_len, eqb-true, eq-eqb}
+use Rattle.whole_numbers.proofs.Common.{drop_all, none-some, same_Some, Affine, form_of}
 use Rattle.std.proofs.Common.{ne_eqb}
 use Rattle.std.specs.Borrow.{Bor}
-use Rattle.std.proofs.lemmas.Bool.{leb-false}
+use Rattle.std.specs.Prelude.{option_map}
 use Rattle.std.proofs.lemmas.List.{append_assoc}
 use Rattle.scop_lexer.specs.Bytes.{Text, is_digit}
 use Rattle.form_text.specs.Names.{is_name_byte}
 use Rattle.form_text.specs.Reading.{strip, when, name_in_front, behind_name, Factor, factor_of, named_as, named}
-use Rattle.form_text.specs.Reading.{number_in_front, numbered, plus, minus, with_coefficient, Next, next_in}
-use Rattle.form_text.specs.Reading.{ended as ended_by, term_in_front, read_terms}
-use Rattle.form_text.specs.View.{text_in, saturated, saturated_factor}
+use Rattle.form_text.specs.Reading.{number_in_front, numbered, negative, plus, minus, with_coefficient, Term, term_of}
+use Rattle.form_text.specs.Reading.{Next, next_of, next_in, ended as ended_by, term_in_front, read_terms}
+use Rattle.form_text.specs.View.{text_in, saturated, saturated_factor, nearest, nearest_term, nearest_next}
+use Rattle.form_text.specs.View.{nearest_form}
 use Rattle.form_text.proofs.Calls.{strip_front}
 
 name_of_length : (one : Bool) (b : ℕ) (bs : Text) → is_name_byte b ≡ one
@@ -124,36 +125,46 @@ numbered_saturated m (b ∷ bs) = either (b == 42)
 pub named_once : (text : Text) → saturated_factor (named 1 text) ≡ named 1 text
 named_once text = named_saturated 1 (name_in_front text) (behind_name text)
 
--- what has no sign of its own is no term where its number is too wide
-plus_is : (t : Bool) (f : Factor) → nat_lt f.number (2 ^ 127) ≡ t
-    → plus (factor_of (saturated f.number) f.name f.rest) ≡ plus f
-plus_is true f e =
-    let l = ltb-true f.number (2 ^ 127) e in
-    let same : saturated f.number ≡ f.number = omega (arith, l) in
-    ap (λ n. plus (factor_of n f.name f.rest)) same
-plus_is false f e =
-    let l = ltb-false f.number (2 ^ 127) e in
-    rw (e, le-ltb (saturated f.number) (2 ^ 127) (omega (arith, l))) refl
-
-minus_is : (t : Bool) (f : Factor) → nat_le f.number (2 ^ 127) ≡ t
-    → minus (factor_of (saturated f.number) f.name f.rest) ≡ minus f
-minus_is true f e =
-    let l = leb-true f.number (2 ^ 127) e in
-    let same : saturated f.number ≡ f.number = omega (arith, l) in
-    ap (λ n. minus (factor_of n f.name f.rest)) same
-minus_is false f e =
-    let l = leb-false f.number (2 ^ 127) e in
-    rw (e, lt-leb (saturated f.number) (2 ^ 127) (omega (arith, l))) refl
-
-pub plus_saturated : (o : Option Factor) → when (saturated_factor o) plus ≡ when o plus
+-- a number that is read up to the greatest is one of 128 bits
+pub plus_saturated : (o : Option Factor)
+    → option_map nearest_term (option_map plus (saturated_factor o)) ≡ option_map nearest_term (option_map plus o)
 plus_saturated None = refl
-plus_saturated (Some f) = plus_is (nat_lt f.number (2 ^ 127)) f refl
+plus_saturated (Some f) =
+    ap (λ n. Some (term_of (pos n) f.name f.rest)) (let e : min (saturated f.number) (2 ^ 127 - 1)
+    ≡ min f.number (2 ^ 127 - 1) = omega arith in e)
 
-pub minus_saturated : (o : Option Factor) → when (saturated_factor o) minus ≡ when o minus
+negative_saturated : (n : ℕ) → nearest (negative (saturated n)) ≡ nearest (negative n)
+negative_saturated zero = refl
+negative_saturated (suc n) =
+    let less : saturated (suc n) ≡ suc (min n (2 ^ 128 - 2)) = omega arith in
+    ap (λ k. nearest (negative k)) less
+    ∙ ap negsuc (let e : min (min n (2 ^ 128 - 2)) (2 ^ 127 - 1) ≡ min n (2 ^ 127 - 1) = omega arith in e)
+
+pub minus_saturated : (o : Option Factor)
+    → option_map nearest_term (option_map minus (saturated_factor o)) ≡ option_map nearest_term (option_map minus o)
 minus_saturated None = refl
-minus_saturated (Some f) = minus_is (nat_le f.number (2 ^ 127)) f refl
+minus_saturated (Some f) = ap (λ z. Some (term_of z f.name f.rest)) (negative_saturated f.number)
 
 pub ruleset saturating = (numbered_saturated, named_once, plus_saturated, minus_saturated)
+
+-- what is read for a name, of a term that is read with the nearest coefficient
+pub next_nearest : (front : Bool) (name text : Text) (o : Option Term)
+    → next_in front name text (option_map nearest_term o) ≡ nearest_next (next_in front name text o)
+next_nearest front name text None = refl
+next_nearest front name text (Some t) = by_name (bytes_eq t.name name)
+  where
+    by_name : (same : Bool)
+        → (if same then next_of (nearest t.coefficient) false t.rest else next_of (pos 0) front text)
+        ≡ nearest_next (if same then next_of t.coefficient false t.rest else next_of (pos 0) front text)
+    by_name true = refl
+    by_name false = refl
+
+pub ruleset nearing = (next_nearest)
+
+coefficient_nearest : (c : ℤ) (r : Option (Affine × Text))
+    → option_map nearest_form (with_coefficient c r) ≡ with_coefficient (nearest c) (option_map nearest_form r)
+coefficient_nearest c None = refl
+coefficient_nearest c (Some f) = refl
 
 -- coefficients that were read, in front of those of what is still read
 abbrev pub joined : List ℤ → Option (Affine × Text) → Option (Affine × Text)
@@ -168,36 +179,50 @@ joined_more cs c (Some f) =
 -- a name more, with its coefficient in front of what is still read
 pub terms_more : {A : Type 0} (name_of : A → Text) (xs : List A) (i : ℕ) (x : A) (name text : Text) (front : Bool)
     (next : Next) (cs more : List ℤ) (whole : Option (Affine × Text)) → x ≡ get_or xs i x → i < length xs
-    → name ≡ name_of x → next ≡ next_in front name text (term_in_front front text) → more ≡ cs ++ next.coefficient ∷ []
-    → joined cs (read_terms front (map name_of (drop i xs)) text) ≡ whole
-    → joined more (read_terms next.front (map name_of (drop (i + 1) xs)) next.rest) ≡ whole
+    → name ≡ name_of x → next ≡ nearest_next (next_in front name text (term_in_front front text))
+    → more ≡ cs ++ next.coefficient ∷ []
+    → joined cs (option_map nearest_form (read_terms front (map name_of (drop i xs)) text)) ≡ whole
+    → joined more (option_map nearest_form (read_terms next.front (map name_of (drop (i + 1) xs)) next.rest)) ≡ whole
 terms_more name_of xs i x name text front next cs more whole found within named read pushed so_far =
     let behind = map name_of (drop (i + 1) xs) in
     let here : map name_of (drop i xs) ≡ name ∷ behind =
     ap (map name_of) (drop-cons xs i x within)
     ∙ (ap (λ k. name_of (get_or xs i x) ∷ map name_of (drop k xs)) (sym (add-one i))
     ∙ (ap (λ y. name_of y ∷ behind) (sym found) ∙ ap (λ (t : Text). t ∷ behind) (sym named))) in
-    ap (λ (ds : List ℤ). joined ds (read_terms next.front behind next.rest)) pushed
-    ∙ (joined_more cs next.coefficient (read_terms next.front behind next.rest)
-    ∙ (ap (λ (n : Next). joined cs (with_coefficient n.coefficient (read_terms n.front behind n.rest))) read
-    ∙ (ap (λ (ts : List Text). joined cs (read_terms front ts text)) (sym here) ∙ so_far)))
+    let of_next = λ (n : Next). option_map nearest_form (read_terms n.front behind n.rest) in
+    let exact = next_in front name text (term_in_front front text) in
+    ap (λ (ds : List ℤ). joined ds (of_next next)) pushed
+    ∙ (joined_more cs next.coefficient (of_next next)
+    ∙ (ap (λ (n : Next). joined cs (with_coefficient n.coefficient (of_next n))) read
+    ∙ (ap (joined cs) (sym (coefficient_nearest exact.coefficient (read_terms exact.front behind exact.rest)))
+    ∙ (ap (λ (ts : List Text). joined cs (option_map nearest_form (read_terms front ts text))) (sym here) ∙ so_far))))
 
 -- behind the last name, what is read for none tells the constant
 pub terms_last : {A : Type 0} (name_of : A → Text) (xs : List A) (i : ℕ) (text : Text) (front : Bool) (next : Next)
     (cs : List ℤ) (whole : Option (Affine × Text)) (none : Bool) → length xs ≤ i
-    → next ≡ next_in front [] text (term_in_front front text) → next.front ≡ none
-    → joined cs (read_terms front (map name_of (drop i xs)) text) ≡ whole
+    → next ≡ nearest_next (next_in front [] text (term_in_front front text)) → next.front ≡ none
+    → joined cs (option_map nearest_form (read_terms front (map name_of (drop i xs)) text)) ≡ whole
     → (if none then None else Some (form_of cs next.coefficient, next.rest)) ≡ whole
 terms_last {A} name_of xs i text front next cs whole none past read is so_far =
     ap (λ (b : Bool). if b then None else Some (form_of cs next.coefficient, next.rest)) (sym is)
     ∙ (joined_last cs next.coefficient next.rest next.front
     ∙ (ap (λ (n : Next). joined cs (ended_by n)) read
-    ∙ (ap (λ (ys : List A). joined cs (read_terms front (map name_of ys) text)) (sym (drop_all i xs past)) ∙ so_far)))
+    ∙ (ap (joined cs) (ended_nearest (next_in front [] text (term_in_front front text)))
+    ∙ (ap (λ (ys : List A). joined cs (option_map nearest_form (read_terms front (map name_of ys) text)))
+    (sym (drop_all i xs past)) ∙ so_far))))
   where
     joined_last : (cs : List ℤ) (c : ℤ) (rest : Text) (b : Bool)
         → (if b then None else Some (form_of cs c, rest)) ≡ joined cs (if b then None else Some (form_of [] c, rest))
     joined_last cs c rest true = refl
     joined_last cs c rest false = ap (λ (ds : List ℤ). Some (form_of ds c, rest)) (sym (append-nil cs))
+
+    ended_nearest : (n : Next) → ended_by (nearest_next n) ≡ option_map nearest_form (ended_by n)
+    ended_nearest n = by_front n.front
+      where
+        by_front : (b : Bool) → (if b then None else Some (form_of [] (nearest n.coefficient), n.rest))
+            ≡ option_map nearest_form (if b then None else Some (form_of [] n.coefficient, n.rest))
+        by_front true = refl
+        by_front false = refl
 
 -- no digit stands in front of nothing
 pub stops_at_end : (v : ℕ) (text : Text) → length text ≡ 0 → number_in_front v text ≡ v

@@ -1,17 +1,19 @@
 -- A term in front of a text is read back.
-use Rattle.whole_numbers.proofs.Common.{◌≡◌, ◌∙◌, ap, sym, subst, refl, ℕ, suc, ◌^◌, ◌<◌, ◌≤◌, Bool, true, false, []}
-use Rattle.whole_numbers.proofs.Common.{◌∷◌, ◌++◌, decimal, arith, ◌==◌, ◌||◌, ◌&&◌, nat_le, nat_lt, ⊤, ℤ, pos, negsuc}
-use Rattle.whole_numbers.proofs.Common.{Some, None, codes, if◌then◌else◌, false≢true, false_from_ne_true, eqb-true}
-use Rattle.whole_numbers.proofs.Common.{leb-true, ltb-true, lt-leb, fits}
-use Rattle.std.proofs.Common.{le-leb, ne_eqb}
+use Rattle.whole_numbers.proofs.Common.{◌≡◌, ◌∙◌, ap, sym, subst, refl, ℕ, suc, ◌≤◌, Bool, true, false, [], ◌∷◌, ◌++◌}
+use Rattle.whole_numbers.proofs.Common.{arith, ◌==◌, ◌||◌, ◌&&◌, nat_le, ⊤, ℤ, pos, negsuc, Some, None, codes}
+use Rattle.whole_numbers.proofs.Common.{if◌then◌else◌, false≢true, false_from_ne_true, eqb-true, leb-true, lt-leb}
+use Rattle.std.specs.Prelude.{option_map}
+use Rattle.std.proofs.Common.{ne_eqb}
 use Rattle.std.proofs.lemmas.List.{append_assoc}
 use Rattle.scop_lexer.specs.Bytes.{Text, is_letter, is_digit}
 use Rattle.form_text.specs.Forms.{factor_text, signed_text}
 use Rattle.form_text.specs.Names.{is_mark, begins_name, is_name_byte, AreNameBytes, IsVariableName}
+use Rattle.form_text.specs.Numerals.{numeral}
 use Rattle.form_text.specs.Reading.{number_in_front, behind_digits, behind_name, factor_of, term_of}
 use Rattle.form_text.specs.Reading.{named_as, named, numbered, factor_in_front, plus, minus, first_term}
-use Rattle.form_text.specs.Reading.{strip, when, term_in_front}
-use Rattle.form_text.proofs.Digits.{no_digit, decimal_digits, Clean, name_front, name_behind}
+use Rattle.form_text.specs.Reading.{strip, term_in_front}
+use Rattle.form_text.proofs.Digits.{numeral_digits, numeral_number, numeral_behind, Clean, EndsDigits, clean_ends}
+use Rattle.form_text.proofs.Digits.{name_front, name_behind}
 
 -- a name, or none
 abbrev pub IsNameOrNone : Text → Type 0
@@ -79,35 +81,25 @@ at_digits ds rest f = subst (λ (x : Text). factor_in_front (x ++ rest)
     ≡ numbered (number_in_front 0 (x ++ rest)) (behind_digits (x ++ rest))) (sym f.2) (rw f.3 refl)
 
 -- digits, with what is no digit behind them
-pub numeral : (m : ℕ) (rest : Text) → m < 2 ^ 128 → number_in_front m rest ≡ m → behind_digits rest ≡ rest
-    → factor_in_front (decimal m ++ rest) ≡ numbered m rest
-numeral m rest h e f =
-    let d = decimal_digits m h in
-    at_digits (decimal m) rest d.first
-    ∙ (ap (λ v. numbered v (behind_digits (decimal m ++ rest))) (d.number rest ∙ e)
-    ∙ ap (numbered m) (d.behind rest ∙ f))
+pub number_back : (m : ℕ) (rest : Text) → EndsDigits rest → factor_in_front (numeral m ++ rest) ≡ numbered m rest
+number_back m rest e =
+    at_digits (numeral m) rest (numeral_digits m).first
+    ∙ (ap (λ v. numbered v (behind_digits (numeral m ++ rest))) (numeral_number m rest e)
+    ∙ ap (numbered m) (numeral_behind m rest e))
 
-factor_is : (same : Bool) (m b : ℕ) (bs rest : Text) → (m == 1) ≡ same → m < 2 ^ 128 → IsVariableName (b ∷ bs)
+factor_is : (same : Bool) (m b : ℕ) (bs rest : Text) → (m == 1) ≡ same → IsVariableName (b ∷ bs)
     → Clean rest
-    → factor_in_front ((if same then b ∷ bs else decimal m ++ (42 ∷ b ∷ bs)) ++ rest) ≡ Some (factor_of m (b ∷ bs) rest)
-factor_is true m b bs rest e h w c = at_name b (bs ++ rest) (begins_no_digit b w.0)
+    → factor_in_front ((if same then b ∷ bs else numeral m ++ (42 ∷ b ∷ bs)) ++ rest) ≡ Some (factor_of m (b ∷ bs) rest)
+factor_is true m b bs rest e w c = at_name b (bs ++ rest) (begins_no_digit b w.0)
     ∙ (named_back 1 b bs rest w c ∙ ap (λ x. Some (factor_of x (b ∷ bs) rest)) (sym (eqb-true m 1 e)))
-factor_is false m b bs rest e h w c = ap factor_in_front (append_assoc (decimal m) (42 ∷ b ∷ bs) rest)
-    ∙ (numeral m (42 ∷ ((b ∷ bs) ++ rest)) h refl refl ∙ named_back m b bs rest w c)
-
-number_clean : (m : ℕ) (rest : Text) → Clean rest → number_in_front m rest ≡ m
-number_clean m [] c = refl
-number_clean m (b ∷ bs) c = rw (no_digit b c.0) refl
-
-behind_clean : (rest : Text) → Clean rest → behind_digits rest ≡ rest
-behind_clean [] c = refl
-behind_clean (b ∷ bs) c = rw (no_digit b c.0) refl
+factor_is false m b bs rest e w c = ap factor_in_front (append_assoc (numeral m) (42 ∷ b ∷ bs) rest)
+    ∙ (number_back m (42 ∷ ((b ∷ bs) ++ rest)) refl ∙ named_back m b bs rest w c)
 
 -- a factor is read back in front of what does not go on with it
-pub factor_back : (m : ℕ) (name rest : Text) → m < 2 ^ 128 → IsNameOrNone name → Clean rest
+pub factor_back : (m : ℕ) (name rest : Text) → IsNameOrNone name → Clean rest
     → factor_in_front (factor_text m name ++ rest) ≡ Some (factor_of m name rest)
-factor_back m [] rest h w c = numeral m rest h (number_clean m rest c) (behind_clean rest c) ∙ numbered_clean m rest c
-factor_back m (b ∷ bs) rest h w c = factor_is (m == 1) m b bs rest refl h w c
+factor_back m [] rest w c = number_back m rest (clean_ends rest c) ∙ numbered_clean m rest c
+factor_back m (b ∷ bs) rest w c = factor_is (m == 1) m b bs rest refl w c
 
 -- no sign stands in front of a factor
 no_sign : (b : ℕ) (bs : Text) → is_name_byte b ≡ true → strip (codes "-") (b ∷ bs) ≡ None
@@ -127,41 +119,23 @@ no_sign_of_digits : (ds rest : Text) → (b : ℕ) × (bs : Text) × (ds ≡ b �
 no_sign_of_digits ds rest f = subst (λ (x : Text). strip (codes "-") (x ++ rest) ≡ None) (sym f.2)
     (no_sign f.0 (f.1 ++ rest) (digit_is_byte f.0 f.3))
 
-unsigned_is : (same : Bool) (m b : ℕ) (bs rest : Text) → m < 2 ^ 128 → IsVariableName (b ∷ bs)
-    → strip (codes "-") ((if same then b ∷ bs else decimal m ++ (42 ∷ b ∷ bs)) ++ rest) ≡ None
-unsigned_is true m b bs rest h w = no_sign b (bs ++ rest) (begins_is_byte b w.0)
-unsigned_is false m b bs rest h w = ap (strip (codes "-")) (append_assoc (decimal m) (42 ∷ b ∷ bs) rest)
-    ∙ no_sign_of_digits (decimal m) ((42 ∷ b ∷ bs) ++ rest) (decimal_digits m h).first
+unsigned_is : (same : Bool) (m b : ℕ) (bs rest : Text) → IsVariableName (b ∷ bs)
+    → strip (codes "-") ((if same then b ∷ bs else numeral m ++ (42 ∷ b ∷ bs)) ++ rest) ≡ None
+unsigned_is true m b bs rest w = no_sign b (bs ++ rest) (begins_is_byte b w.0)
+unsigned_is false m b bs rest w = ap (strip (codes "-")) (append_assoc (numeral m) (42 ∷ b ∷ bs) rest)
+    ∙ no_sign_of_digits (numeral m) ((42 ∷ b ∷ bs) ++ rest) (numeral_digits m).first
 
-unsigned : (m : ℕ) (name rest : Text) → m < 2 ^ 128 → IsNameOrNone name
-    → strip (codes "-") (factor_text m name ++ rest) ≡ None
-unsigned m [] rest h w = no_sign_of_digits (decimal m) rest (decimal_digits m h).first
-unsigned m (b ∷ bs) rest h w = unsigned_is (m == 1) m b bs rest h w
-
-plus_is : (m : ℕ) (name rest : Text) → nat_lt m (2 ^ 127) ≡ true
-    → plus (factor_of m name rest) ≡ Some (term_of (pos m) name rest)
-plus_is m name rest h = rw h refl
-
-minus_is : (m : ℕ) (name rest : Text) → nat_lt m (2 ^ 127) ≡ true
-    → minus (factor_of (suc m) name rest) ≡ Some (term_of (negsuc m) name rest)
-minus_is m name rest h = rw (le-leb (suc m) (2 ^ 127) (let l = ltb-true m (2 ^ 127) h in omega (arith, l))) refl
-
-pub small : (m : ℕ) → nat_lt m (2 ^ 127) ≡ true → m < 2 ^ 128
-small m h = let l = ltb-true m (2 ^ 127) h in omega (arith, l)
-
-small_more : (m : ℕ) → nat_lt m (2 ^ 127) ≡ true → suc m < 2 ^ 128
-small_more m h = let l = ltb-true m (2 ^ 127) h in omega (arith, l)
+unsigned : (m : ℕ) (name rest : Text) → IsNameOrNone name → strip (codes "-") (factor_text m name ++ rest) ≡ None
+unsigned m [] rest w = no_sign_of_digits (numeral m) rest (numeral_digits m).first
+unsigned m (b ∷ bs) rest w = unsigned_is (m == 1) m b bs rest w
 
 -- a term is read back in front of what does not go on with it
-pub term_back : (front : Bool) (c : ℤ) (name rest : Text) → fits c ≡ true → IsNameOrNone name → Clean rest
+pub term_back : (front : Bool) (c : ℤ) (name rest : Text) → IsNameOrNone name → Clean rest
     → term_in_front front (signed_text front c name ++ rest) ≡ Some (term_of c name rest)
 unfolding term_in_front
-term_back true (pos m) name rest h w c =
-    ap (λ x. first_term x (factor_text m name ++ rest)) (unsigned m name rest (small m h) w)
-    ∙ (ap (λ x. when x plus) (factor_back m name rest (small m h) w c) ∙ plus_is m name rest h)
-term_back true (negsuc m) name rest h w c =
-    ap (λ x. when x minus) (factor_back (suc m) name rest (small_more m h) w c) ∙ minus_is m name rest h
-term_back false (pos m) name rest h w c =
-    ap (λ x. when x plus) (factor_back m name rest (small m h) w c) ∙ plus_is m name rest h
-term_back false (negsuc m) name rest h w c =
-    ap (λ x. when x minus) (factor_back (suc m) name rest (small_more m h) w c) ∙ minus_is m name rest h
+term_back true (pos m) name rest w c =
+    ap (λ x. first_term x (factor_text m name ++ rest)) (unsigned m name rest w)
+    ∙ ap (option_map plus) (factor_back m name rest w c)
+term_back true (negsuc m) name rest w c = ap (option_map minus) (factor_back (suc m) name rest w c)
+term_back false (pos m) name rest w c = ap (option_map plus) (factor_back m name rest w c)
+term_back false (negsuc m) name rest w c = ap (option_map minus) (factor_back (suc m) name rest w c)

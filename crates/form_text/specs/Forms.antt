@@ -1,13 +1,14 @@
 -- The text of an affine form over names: the terms that are not zero, then the constant; `0` if there is none.
 use Rattle.std.specs.Prelude.{ℕ, zero, suc, ◌==◌, ◌&&◌, Bool, true, false, if◌then◌else◌, ℤ, pos, negsuc}
-use Rattle.std.specs.Prelude.{List, [], ◌∷◌, ◌++◌, codes, decimal, unsigned_abs}
+use Rattle.std.specs.Prelude.{List, [], ◌∷◌, ◌++◌, codes, unsigned_abs}
 use Rattle.whole_numbers.specs.Affine.{Affine}
 use Rattle.scop_lexer.specs.Bytes.{Text}
+use Rattle.form_text.specs.Numerals.{numeral}
 
 -- m times a name, or m alone where there is no name
 abbrev pub factor_text : ℕ → Text → Text
-factor_text m [] = decimal m
-factor_text m (b ∷ bs) = if m == 1 then b ∷ bs else decimal m ++ (42 ∷ b ∷ bs)
+factor_text m [] = numeral m
+factor_text m (b ∷ bs) = if m == 1 then b ∷ bs else numeral m ++ (42 ∷ b ∷ bs)
 
 -- the sign of a term in front of all terms, or behind some
 abbrev pub sign_text : Bool → ℤ → Text

@@ -1,3 +1,4 @@
+pub mod Numerals
 pub mod Forms
 pub mod Names
 pub mod Reading

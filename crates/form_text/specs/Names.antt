@@ -1,7 +1,6 @@
 -- Names that a text tells apart, and forms that have a text over them.
-use Rattle.std.specs.Prelude.{◌≡◌, ◌≢◌, ℕ, ◌==◌, ◌||◌, Bool, true, ℤ, List, [], ◌∷◌, length, ⊤}
+use Rattle.std.specs.Prelude.{◌≡◌, ◌≢◌, ℕ, ◌==◌, ◌||◌, Bool, true, List, [], ◌∷◌, length, ⊤}
 use Rattle.whole_numbers.specs.Affine.{Affine}
-use Rattle.whole_numbers.specs.Fits.{fits}
 use Rattle.scop_lexer.specs.Bytes.{Text, is_letter, is_word_byte}
 
 -- `#` or `$`, which no name of a program has
@@ -36,13 +35,6 @@ abbrev pub AreNames : List Text → Type 0
 AreNames [] = ⊤
 AreNames (name ∷ names) = IsVariableName name × IsFresh name names × AreNames names
 
--- numbers of 128 bits
-abbrev pub AllFit : List ℤ → Type 0
-AllFit [] = ⊤
-AllFit (c ∷ cs) = (fits c ≡ true) × AllFit cs
-
--- a form over n variables, of numbers of 128 bits
-pub record IsFormOver (n : ℕ) (form : Affine) : Type 0 where
-  pub entries : length form.coefficients ≡ n
-  pub coefficients : AllFit form.coefficients
-  pub constant : fits form.constant ≡ true
+-- a form over n variables
+abbrev pub IsFormOver : ℕ → Affine → Type 0
+IsFormOver n form = length form.coefficients ≡ n

@@ -1,6 +1,6 @@
 -- Reading what stands in front of a text: given bytes, digits, names, terms and forms.
-use Rattle.std.specs.Prelude.{◌≡◌, ℕ, zero, suc, ◌+◌, ◌-◌, ◌*◌, ◌^◌, ◌==◌, ◌||◌, not, nat_lt, nat_le, Bool, true, false}
-use Rattle.std.specs.Prelude.{if◌then◌else◌, ℤ, pos, negsuc, List, [], ◌∷◌, codes, Option, Some, None}
+use Rattle.std.specs.Prelude.{◌≡◌, ℕ, zero, suc, ◌+◌, ◌-◌, ◌*◌, ◌==◌, ◌||◌, not, Bool, true, false}
+use Rattle.std.specs.Prelude.{if◌then◌else◌, ℤ, pos, negsuc, List, [], ◌∷◌, codes, Option, Some, None, option_map}
 use Rattle.std.specs.Str.{bytes_eq}
 use Rattle.whole_numbers.specs.Affine.{Affine, form_of}
 use Rattle.scop_lexer.specs.Bytes.{Text, is_digit}
@@ -81,23 +81,23 @@ abbrev pub negative : ℕ → ℤ
 negative zero = pos zero
 negative (suc m) = negsuc m
 
--- a factor as a term, if 128 bits hold its number
-abbrev pub plus : Factor → Option Term
-plus f = if nat_lt f.number (2 ^ 127) then Some (term_of (pos f.number) f.name f.rest) else None
+-- a factor as a term
+abbrev pub plus : Factor → Term
+plus f = term_of (pos f.number) f.name f.rest
 
--- the negative of a factor as a term, if 128 bits hold it
-abbrev pub minus : Factor → Option Term
-minus f = if nat_le f.number (2 ^ 127) then Some (term_of (negative f.number) f.name f.rest) else None
+-- the negative of a factor as a term
+abbrev pub minus : Factor → Term
+minus f = term_of (negative f.number) f.name f.rest
 
 -- a term in front of all terms, by what stands behind `-`
 abbrev pub first_term : Option Text → Text → Option Term
-first_term (Some behind) text = when (factor_in_front behind) minus
-first_term None text = when (factor_in_front text) plus
+first_term (Some behind) text = option_map minus (factor_in_front behind)
+first_term None text = option_map plus (factor_in_front text)
 
 -- a term behind others, by what stands behind ` + ` and ` - `
 abbrev pub later_term : Option Text → Option Text → Option Term
-later_term (Some behind) other = when (factor_in_front behind) plus
-later_term None (Some behind) = when (factor_in_front behind) minus
+later_term (Some behind) other = option_map plus (factor_in_front behind)
+later_term None (Some behind) = option_map minus (factor_in_front behind)
 later_term None None = None
 
 -- the term that stands in front of all terms, or behind others

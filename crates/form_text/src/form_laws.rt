@@ -1,10 +1,11 @@
 //! Laws of the texts of forms, as contracts of functions that do nothing.
 
-ghost use Rattle.std.specs.Prelude.{◌≡◌, ℕ, ◌^◌, ◌<◌, ◌++◌, List, length, codes, decimal, Some};
+ghost use Rattle.std.specs.Prelude.{◌≡◌, ℕ, ◌++◌, List, length, codes, Some};
 ghost use Rattle.whole_numbers.specs.Affine.{Affine};
 ghost use Rattle.scop_lexer.specs.Bytes.{Text};
 ghost use Rattle.form_text.specs.Forms.{form_text};
 ghost use Rattle.form_text.specs.Names.{AreNames, IsFormOver};
+ghost use Rattle.form_text.specs.Numerals.{numeral};
 ghost use Rattle.form_text.specs.Reading.{EndsForm, read_form};
 
 /// The text of a form is read as that form, in front of all that may stand behind one.
@@ -31,6 +32,5 @@ pub fn forms_end_before()
     ensures bracket { (rest : Text) → EndsForm (codes "]" ++ rest) }
     ensures semicolon { (rest : Text) → EndsForm (codes ";" ++ rest) }
     ensures divisor { (rest : Text) → EndsForm (codes " / " ++ rest) }
-    ensures multiple { (d : ℕ) (rest : Text) → d < 2 ^ 128
-        → EndsForm (codes " - " ++ decimal d ++ codes "*pp_floord(" ++ rest) }
+    ensures multiple { (d : ℕ) (rest : Text) → EndsForm (codes " - " ++ numeral d ++ codes "*pp_floord(" ++ rest) }
 {}

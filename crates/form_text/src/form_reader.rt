@@ -1,13 +1,13 @@
 //! Reads what stands in front of a text: given bytes, digits, names, terms and forms.
 
-ghost use Rattle.std.specs.Prelude.{◌≡◌, ◌≤◌, IfOk, length, map};
+ghost use Rattle.std.specs.Prelude.{◌≡◌, ◌≤◌, IfOk, length, map, option_map, pos};
 ghost use Rattle.std.specs.List.{prefix_len};
 ghost use Rattle.form_text.specs.Names.{is_mark, is_name_byte};
 ghost use Rattle.form_text.specs.Reading.{behind_digits, behind_name, factor_in_front, minus, name_in_front, named};
-ghost use Rattle.form_text.specs.Reading.{next_in, number_in_front, numbered, plus, read_form, strip, term_in_front};
-ghost use Rattle.form_text.specs.Reading.{when};
-ghost use Rattle.form_text.specs.View.{factor_in, factor_read, form_in, next_read, saturated, saturated_factor};
-ghost use Rattle.form_text.specs.View.{term_in, text_in};
+ghost use Rattle.form_text.specs.Reading.{negative, next_in, number_in_front, numbered, plus, read_form, strip};
+ghost use Rattle.form_text.specs.Reading.{term_in_front};
+ghost use Rattle.form_text.specs.View.{factor_in, form_in, nearest, nearest_form, nearest_next, nearest_term};
+ghost use Rattle.form_text.specs.View.{next_read, saturated, saturated_factor, term_in, text_in};
 
 use scop_lexer::is_word_byte;
 use std::alloc::{AllocError, Global};
@@ -133,41 +133,37 @@ fn read_factor<'a>(text: &'a [u8]) -> Option<Factor<'a>>
     named(1, text)
 }
 
-/// A factor as a term, if it is a number of 128 bits.
-fn plus<'a>(factor: Factor<'a>) -> Option<Term<'a>>
-    ensures { term_in result ≡ plus (factor_read factor.entry) }
+/// A number, the greatest of 128 bits where it is more.
+fn positive(number: u128) -> i128
+    ensures { result ≡ nearest (pos number) }
 {
-    match i128::try_from(factor.number) {
-        Ok(coefficient) => Some(Term {
-            coefficient,
-            name: factor.name,
-            rest: factor.rest,
-        }),
-        Err(_) => None,
+    match i128::try_from(number) {
+        Ok(same) => same,
+        Err(_) => i128::MAX,
     }
 }
 
-/// The negative of a factor as a term, if it is a number of 128 bits.
-fn minus<'a>(factor: Factor<'a>) -> Option<Term<'a>>
-    ensures { term_in result ≡ minus (factor_read factor.entry) }
+/// The negative of a number, the least of 128 bits where it is less.
+fn negative(number: u128) -> i128
+    ensures { result ≡ nearest (negative number) }
 {
-    match 0i128.checked_sub_unsigned(factor.number) {
-        Some(coefficient) => Some(Term {
-            coefficient,
-            name: factor.name,
-            rest: factor.rest,
-        }),
-        None => None,
+    match 0i128.checked_sub_unsigned(number) {
+        Some(same) => same,
+        None => i128::MIN,
     }
 }
 
 /// The positive term in front.
 #[tactic(auto, using(crate::proofs::StrippedFronts::saturating))]
 fn read_plus<'a>(text: &'a [u8]) -> Option<Term<'a>>
-    ensures { term_in result ≡ when (factor_in_front text.now) plus }
+    ensures { term_in result ≡ option_map nearest_term (option_map plus (factor_in_front text.now)) }
 {
     match read_factor(text) {
-        Some(factor) => plus(factor),
+        Some(factor) => Some(Term {
+            coefficient: positive(factor.number),
+            name: factor.name,
+            rest: factor.rest,
+        }),
         None => None,
     }
 }
@@ -175,10 +171,14 @@ fn read_plus<'a>(text: &'a [u8]) -> Option<Term<'a>>
 /// The negative term in front, behind its sign.
 #[tactic(auto, using(crate::proofs::StrippedFronts::saturating))]
 fn read_minus<'a>(text: &'a [u8]) -> Option<Term<'a>>
-    ensures { term_in result ≡ when (factor_in_front text.now) minus }
+    ensures { term_in result ≡ option_map nearest_term (option_map minus (factor_in_front text.now)) }
 {
     match read_factor(text) {
-        Some(factor) => minus(factor),
+        Some(factor) => Some(Term {
+            coefficient: negative(factor.number),
+            name: factor.name,
+            rest: factor.rest,
+        }),
         None => None,
     }
 }
@@ -186,7 +186,7 @@ fn read_minus<'a>(text: &'a [u8]) -> Option<Term<'a>>
 /// The term that stands in front, or behind other terms.
 #[tactic(auto, unfolding(crate::specs::Reading::term_in_front))]
 fn read_term<'a>(front: bool, text: &'a [u8]) -> Option<Term<'a>>
-    ensures { term_in result ≡ term_in_front front text.now }
+    ensures { term_in result ≡ option_map nearest_term (term_in_front front text.now) }
 {
     if front {
         return match strip(text, b"-") {
@@ -212,8 +212,9 @@ struct Next<'a> {
 }
 
 /// The coefficient of the term in front, if it has this name, or 0.
+#[tactic(auto, using(crate::proofs::StrippedFronts::nearing))]
 fn read_next<'a>(front: bool, name: &[u8], text: &'a [u8]) -> Next<'a>
-    ensures { next_read result ≡ next_in front name.now text.now (term_in_front front text.now) }
+    ensures { next_read result ≡ nearest_next (next_in front name.now text.now (term_in_front front text.now)) }
 {
     match read_term(front, text) {
         Some(term) => {
@@ -246,7 +247,8 @@ pub struct FormRead<'a> {
     pub rest: &'a [u8],
 }
 
-/// The form over these names that stands in front of a text, and what stands behind it.
+/// The form over these names that stands in front of a text, and what stands behind it; each of its numbers is read as
+/// the nearest one of 128 bits.
 ///
 /// # Errors
 /// Memory ran out.
@@ -256,7 +258,8 @@ pub fn read_form<'a>(
     names: &[Vec<u8>],
     text: &'a [u8],
 ) -> Result<Option<FormRead<'a>>, AllocError>
-    ensures { IfOk result (λ r. form_in r ≡ read_form (map (λ n. n.items) names.now) text.now) }
+    ensures { IfOk result (λ r. form_in r
+        ≡ option_map nearest_form (read_form (map (λ n. n.items) names.now) text.now)) }
 {
     let mut coefficients = Vec::new(alloc);
     let mut front = true;
