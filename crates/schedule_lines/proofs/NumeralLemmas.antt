@@ -1,6 +1,6 @@
 -- A number's decimals are read back, and what is read as a number is its decimals.
 use Rattle.std.proofs.Common.{◌≡◌, ◌∙◌, ap, sym, subst, refl, ℕ, zero, suc, ◌+◌, ◌-◌, ◌*◌, ◌/◌, ◌%◌, ◌^◌, ◌<◌, ◌≤◌}
-use Rattle.std.proofs.Common.{Bool, true, false, List, [], ◌∷◌, ◌++◌, map, get_or, ne_eqb, append-nil, arith, ◌==◌}
+use Rattle.std.proofs.Common.{Bool, true, false, List, [], ◌∷◌, ◌++◌, get_or, ne_eqb, append-nil, arith, ◌==◌}
 use Rattle.std.proofs.Common.{nat_le, if◌then◌else◌, Option, Some, None}
 use Rattle.std.specs.Int.Digits.{digits_of, number_from_digits, number_from_digits_after, AllBelowBase}
 use Rattle.std.proofs.lemmas.Int.Digits.{all_below_base_digits_of, digits_of_step, first_digits_of, number_digits_of}
@@ -8,37 +8,12 @@ use Rattle.std.proofs.lemmas.Bool.{and_parts, eq-eqb, eqb-true, leb-true, true�
 use Rattle.std.proofs.lemmas.List.{append_assoc}
 use Rattle.std.proofs.lemmas.Option.{none-some, same_Some}
 use Rattle.scop_lexer.specs.Bytes.{Text, is_digit}
+use Rattle.form_text.specs.Numerals.{numeral}
 use Rattle.form_text.specs.Reading.{number_in_front, behind_digits, when}
 use Rattle.form_text.specs.View.{saturated}
-use Rattle.form_text.proofs.Digits.{EndsDigits, is_digit_of}
-use Rattle.schedule_lines.specs.Lines.{numeral}
+use Rattle.form_text.proofs.Digits.{EndsDigits, is_digit_of, digits_front, digits_behind, stops, stays}
+use Rattle.form_text.proofs.Numerals.{bytes_of}
 use Rattle.schedule_lines.specs.Reading.{behind_number, numeral_in, whole_numeral_in}
-
--- the bytes of digits
-abbrev pub bytes_of : List ℕ → Text
-bytes_of ds = map (λ d. 48 + d) ds
-
--- digits in front write on a number
-digits_front : (v : ℕ) (ds : List ℕ) (rest : Text) → AllBelowBase 10 ds
-    → number_in_front v (bytes_of ds ++ rest) ≡ number_in_front (number_from_digits_after 10 v ds) rest
-digits_front v [] rest below = refl
-digits_front v (d ∷ ds) rest below =
-    let same : 48 + d - 48 ≡ d = omega arith in
-    rw (is_digit_of d below.0) (ap (λ k. number_in_front (v * 10 + k) (bytes_of ds ++ rest)) same
-    ∙ digits_front (v * 10 + d) ds rest below.1)
-
-digits_behind : (ds : List ℕ) (rest : Text) → AllBelowBase 10 ds
-    → behind_digits (bytes_of ds ++ rest) ≡ behind_digits rest
-digits_behind [] rest below = refl
-digits_behind (d ∷ ds) rest below = rw (is_digit_of d below.0) (digits_behind ds rest below.1)
-
-stops : (v : ℕ) (rest : Text) → EndsDigits rest → number_in_front v rest ≡ v
-stops v [] e = refl
-stops v (b ∷ bs) e = rw e refl
-
-stays : (rest : Text) → EndsDigits rest → behind_digits rest ≡ rest
-stays [] e = refl
-stays (b ∷ bs) e = rw e refl
 
 digits_back : (n : ℕ) (ds : List ℕ) (rest : Text) → AllBelowBase 10 ds → 0 < get_or ds 0 0
     → number_from_digits 10 ds ≡ n → EndsDigits rest

@@ -8,17 +8,19 @@ use Rattle.std.proofs.lemmas.Bool.{eq-eqb}
 use Rattle.std.proofs.lemmas.List.{append_assoc, length-map}
 use Rattle.std.proofs.lemmas.Option.{none-some}
 use Rattle.scop_lexer.specs.Bytes.{Text}
+use Rattle.form_text.specs.Numerals.{numeral}
 use Rattle.form_text.specs.Reading.{strip, when}
 use Rattle.form_text.specs.View.{saturated}
 use Rattle.form_text.proofs.Digits.{EndsDigits}
 use Rattle.form_text.proofs.Calls.{strip_front}
+use Rattle.form_text.proofs.Numerals.{bytes_of}
 use Rattle.schedule_lines.specs.Lines.{Part, Row, Scalar, before, label_text, list_text, mark_text, numbers_from}
-use Rattle.schedule_lines.specs.Lines.{numeral, part_text, parts_text, row_text, scalar_text, values_text}
+use Rattle.schedule_lines.specs.Lines.{part_text, parts_text, row_text, scalar_text, values_text}
 use Rattle.schedule_lines.specs.Reading.{behind_label, behind_number, bound_in, bounded, entry_in, list_in, mark_in}
 use Rattle.schedule_lines.specs.Reading.{numbers_by, numbers_in, numeral_in, part_in, part_of, parts_in, place_in, row_in, row_of}
 use Rattle.schedule_lines.specs.Reading.{scalar_in, scalar_of, shifted, value_in, values_in, whole, with_first}
 use Rattle.schedule_lines.specs.Saturated.{saturated_part, saturated_row, saturated_scalar}
-use Rattle.schedule_lines.proofs.NumeralLemmas.{bytes_of, numeral_back, whole_numeral_back}
+use Rattle.schedule_lines.proofs.NumeralLemmas.{numeral_back, whole_numeral_back}
 
 -- an entry is no closing parenthesis
 no_end : (text : Text) (r : ℕ × Text) → numeral_in text ≡ Some r → strip (codes ")") text ≡ None

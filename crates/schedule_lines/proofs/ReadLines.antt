@@ -5,10 +5,11 @@ use Rattle.std.proofs.lemmas.Bool.{eqb-true}
 use Rattle.std.proofs.lemmas.List.{append_assoc, length-map}
 use Rattle.std.proofs.lemmas.Option.{none-some, same_Some}
 use Rattle.scop_lexer.specs.Bytes.{Text}
+use Rattle.form_text.specs.Numerals.{numeral}
 use Rattle.form_text.specs.Reading.{strip, when}
 use Rattle.form_text.specs.View.{saturated}
 use Rattle.schedule_lines.specs.Lines.{Part, Row, Scalar, before, label_text, list_text, mark_text, numbers_from}
-use Rattle.schedule_lines.specs.Lines.{numeral, part_text, parts_text, row_text, scalar_text, values_text}
+use Rattle.schedule_lines.specs.Lines.{part_text, parts_text, row_text, scalar_text, values_text}
 use Rattle.schedule_lines.specs.Reading.{behind_label, behind_number, bound_in, bounded, entry_in, list_in, mark_by, mark_in}
 use Rattle.schedule_lines.specs.Reading.{numbers_by, numbers_in, numeral_in, part_in, part_of, parts_in, place_in, row_in}
 use Rattle.schedule_lines.specs.Reading.{row_of, scalar_in, scalar_of, shifted, value_in, values_in, whole, whole_numeral_in}

@@ -1,9 +1,9 @@
 -- The lines of a schedule's items over plain numbers, none of them below 0, without their line feeds. Items and bands are
 -- numbered from 1, and so are statements.
-use Rattle.std.specs.Prelude.{ℕ, zero, suc, ◌+◌, Bool, if◌then◌else◌, List, [], ◌∷◌, ◌++◌, map, codes}
+use Rattle.std.specs.Prelude.{ℕ, zero, suc, Bool, if◌then◌else◌, List, [], ◌∷◌, ◌++◌, codes}
 use Rattle.std.specs.List.{concat}
-use Rattle.std.specs.Int.Digits.{digits_of}
 use Rattle.scop_lexer.specs.Bytes.{Text}
+use Rattle.form_text.specs.Numerals.{numeral}
 
 -- a statement's part of a row: a coefficient for each loop, the outermost first, and a shift
 pub record Part : Type 0 where
@@ -23,11 +23,6 @@ pub record Row : Type 0 where
 pub record Scalar : Type 0 where
   pub number : ℕ
   pub values : List ℕ
-
--- a number in decimals, without a zero in front
-abbrev pub numeral : ℕ → Text
-numeral zero = codes "0"
-numeral (suc n) = map (λ d. 48 + d) (digits_of 10 (suc n))
 
 -- what stands in front of the entry at a place: nothing in front of the first, else the text between two
 abbrev pub before : ℕ → Text → Text
