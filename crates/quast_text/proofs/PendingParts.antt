@@ -1,12 +1,12 @@
 -- What waits behind what is written of a quast: each step writes its front and leaves the rest.
 use Rattle.whole_numbers.proofs.Common.{◌≡◌, ◌∙◌, ap, sym, subst, refl, ℕ, zero, suc, ◌+◌, ◌-◌, ◌<◌, List, [], ◌∷◌}
 use Rattle.whole_numbers.proofs.Common.{◌++◌, length, reverse, arith, append_assoc, append-nil, ℤ, Vec, Global, Result}
-use Rattle.whole_numbers.proofs.Common.{Ok, Err, OnOk, codes, signed_decimal, length-map, reverse-append, Affine}
+use Rattle.whole_numbers.proofs.Common.{true, Ok, Err, OnOk, codes, length-map, reverse-append, Affine}
 use Rattle.std.proofs.lemmas.List.{length-append}
 use Rattle.scop_lexer.specs.Bytes.{Text}
 use Rattle.quast_trees.specs.Tree.{Tree, branch, bind, count}
 use Rattle.quast_trees.specs.Place.{Spot, subtree}
-use Rattle.form_text.specs.Forms.{form_text}
+use Rattle.form_text.specs.Forms.{form_text, signed_text}
 use Rattle.quast_text.specs.Text.{bound_name, names_within, let_text, quast_text, texts_of}
 use Rattle.quast_text.specs.steps.Waiting.{lets_in, waiting_text, weight, weights, GoesOn}
 use Rattle.quast_text.specs.declared.writer.Rest.TheVariants as rest
@@ -112,7 +112,7 @@ goes_let count place body rs names names' out out' f d is made named = λ outer 
           (made ∙ (ap (λ (i : ℕ). out ++ let_text (texts_of names) (suc i) f d) counted
           ∙ ap (λ (ns : List Text). out ++ let_text ns (suc k) f d) there))
           ∙ (let_front out (codes "let ") (bound_name (suc k)) (codes " = floor(") (form_text within f) (codes " / ")
-          (signed_decimal d) (codes ") { ") inner (codes " }") tail
+          (signed_text true d []) (codes ") { ") inner (codes " }") tail
           ∙ sym (ap (λ (t : Tree). out ++ (quast_text outer k t ++ tail)) is)),
     )
 

@@ -1,21 +1,20 @@
 -- The text of a quast is read in one way.
-use Rattle.whole_numbers.proofs.Common.{◌≡◌, ◌∙◌, ap, ap₂, sym, subst, refl, ℕ, zero, suc, ◌+◌, ◌^◌, ◌<◌, ◌≤◌, true}
+use Rattle.whole_numbers.proofs.Common.{◌≡◌, ◌∙◌, ap, ap₂, sym, subst, refl, ℕ, zero, suc, ◌+◌, true}
 use Rattle.whole_numbers.proofs.Common.{List, [], ◌∷◌, ◌++◌, drop, get_or, length, arith, append_assoc, append-nil, ℤ}
-use Rattle.whole_numbers.proofs.Common.{pos, negsuc, ◌≤ℤ◌, decimal, Option, Some, None, All, codes, slice_get}
-use Rattle.whole_numbers.proofs.Common.{signed_decimal, ints, append_cancel_left, All-head, All-tail, same_Some, Affine}
-use Rattle.whole_numbers.proofs.Common.{fits}
-use Rattle.std.proofs.Common.{ltb-true}
+use Rattle.whole_numbers.proofs.Common.{pos, negsuc, ◌≤ℤ◌, Option, Some, None, All, codes, slice_get}
+use Rattle.whole_numbers.proofs.Common.{ints, append_cancel_left, All-head, All-tail, same_Some, Affine}
 use Rattle.std.proofs.lemmas.List.{length-append}
 use Rattle.scop_lexer.specs.Bytes.{Text}
 use Rattle.quast_trees.specs.Source.{Source, source_of, Forms}
 use Rattle.quast_trees.specs.Tree.{Tree, initial, leaf, branch, bind}
-use Rattle.form_text.specs.Forms.{form_text}
+use Rattle.form_text.specs.Forms.{form_text, signed_text}
 use Rattle.form_text.specs.Names.{AreNames, IsFormOver}
+use Rattle.form_text.specs.Numerals.{numeral}
 use Rattle.form_text.specs.Reading.{read_terms, read_form, term_in_front, with_coefficient, EndsForm}
 use Rattle.quast_text.specs.Text.{names_within, bound_name, comma, forms_from, statement_name, leaf_text, quast_text}
 use Rattle.quast_text.specs.Reading.{AreOuter, IsOneOf, IsTellable}
+use Rattle.form_text.proofs.Digits.{EndsDigits, one_number}
 use Rattle.quast_text.proofs.Names.{names_told}
-use Rattle.quast_text.proofs.Numbers.{EndsDigits, one_number}
 
 -- the laws of forms' texts
 pub record FormLaws : Type 0 where
@@ -36,14 +35,11 @@ first t = get_or t 0 0
 -- ---- numbers
 
 -- two divisors with one text in front of what no digit begins are one
-pub one_divisor : (y z : ℤ) (r s : Text) → pos 1 ≤ℤ y → pos 1 ≤ℤ z → fits y ≡ true → fits z ≡ true → EndsDigits r
-    → EndsDigits s → signed_decimal y ++ r ≡ signed_decimal z ++ s → (y ≡ z) × (r ≡ s)
-one_divisor (pos m) (pos n) r s a b f g c d e =
-    let low : m < 2 ^ 128 = omega (arith, ltb-true m (2 ^ 127) f) in
-    let small : n < 2 ^ 128 = omega (arith, ltb-true n (2 ^ 127) g) in
-    let t = one_number m n r s low small c d e in (ap pos t.0, t.1)
-one_divisor (pos m) (negsuc n) r s a b f g c d e = absurd (omega (arith, ints, b))
-one_divisor (negsuc m) z r s a b f g c d e = absurd (omega (arith, ints, a))
+pub one_divisor : (y z : ℤ) (r s : Text) → pos 1 ≤ℤ y → pos 1 ≤ℤ z → EndsDigits r → EndsDigits s
+    → signed_text true y [] ++ r ≡ signed_text true z [] ++ s → (y ≡ z) × (r ≡ s)
+one_divisor (pos m) (pos n) r s a b c d e = let t = one_number m n r s c d e in (ap pos t.0, t.1)
+one_divisor (pos m) (negsuc n) r s a b c d e = absurd (omega (arith, ints, b))
+one_divisor (negsuc m) z r s a b c d e = absurd (omega (arith, ints, a))
 
 -- ---- lists of forms
 
@@ -122,27 +118,20 @@ leaf_parts : (d fs x : Text)
     → ((83 ∷ (d ++ (32 ∷ []))) ++ (40 ∷ (fs ++ (41 ∷ [])))) ++ x ≡ 83 ∷ (d ++ (32 ∷ 40 ∷ (fs ++ 41 ∷ x)))
 leaf_parts d fs x = simp append_assoc refl
 
-inside : {A : Type 0} (xs : List A) (k : ℕ) (x : A) → slice_get xs k ≡ Some x → k < length xs
-inside [] k x e = absurd cc
-inside (y ∷ xs) zero x e = omega arith
-inside (y ∷ xs) (suc k) x e = let h = inside xs k x e in omega (arith, h)
-
 -- the parts of two leaves' texts
 leaf_told : (laws : FormLaws) (loops : List (List ℕ)) (names : List Text) (s t : Option Source)
-    (fs gs : List Affine) (x y : Text) → length loops ≤ 2 ^ 64 → AreNames names → IsOneOf loops s
+    (fs gs : List Affine) (x y : Text) → AreNames names → IsOneOf loops s
     → IsOneOf loops t → All (IsFormOver (length names)) fs → All (IsFormOver (length names)) gs
     → (statement_name s ++ (codes "(" ++ (forms_from names 0 fs ++ (codes ")" ++ [])))) ++ x
     ≡ (statement_name t ++ (codes "(" ++ (forms_from names 0 gs ++ (codes ")" ++ [])))) ++ y
     → (s ≡ t) × (fs ≡ gs) × (x ≡ y)
-leaf_told laws loops names None t fs gs x y few n a b over other e = absurd a
-leaf_told laws loops names (Some s) None fs gs x y few n a b over other e = absurd b
-leaf_told laws loops names (Some s) (Some t) fs gs x y few n a b over other e =
-    let low = inside loops s.statement s.loops a in
-    let small = inside loops t.statement t.loops b in
+leaf_told laws loops names None t fs gs x y n a b over other e = absurd a
+leaf_told laws loops names (Some s) None fs gs x y n a b over other e = absurd b
+leaf_told laws loops names (Some s) (Some t) fs gs x y n a b over other e =
     let number = one_number (suc s.statement) (suc t.statement) (32 ∷ 40 ∷ (forms_from names 0 fs ++ 41 ∷ x))
-    (32 ∷ 40 ∷ (forms_from names 0 gs ++ 41 ∷ y)) (omega (arith, low, few)) (omega (arith, small, few)) refl refl
-    (ap (drop 1) (sym (leaf_parts (decimal (suc s.statement)) (forms_from names 0 fs) x) ∙ (e
-    ∙ leaf_parts (decimal (suc t.statement)) (forms_from names 0 gs) y))) in
+    (32 ∷ 40 ∷ (forms_from names 0 gs ++ 41 ∷ y)) refl refl
+    (ap (drop 1) (sym (leaf_parts (numeral (suc s.statement)) (forms_from names 0 fs) x) ∙ (e
+    ∙ leaf_parts (numeral (suc t.statement)) (forms_from names 0 gs) y))) in
     let forms = one_list laws names 0 fs gs x y n over other (ap (drop 2) number.1) in (
       ap Some (one_source loops s t a b (let same = number.0 in omega (arith, same))),
       forms.0,
@@ -154,12 +143,12 @@ leaf_of : Option Source → ℕ → List Affine → Forms
 leaf_of source variables forms = record { source = source; variables = variables; forms = forms }
 
 one_leaf : (laws : FormLaws) (loops : List (List ℕ)) (names : List Text) (l m : Forms) (x y : Text)
-    → length loops ≤ 2 ^ 64 → AreNames names → IsOneOf loops l.source → IsOneOf loops m.source
+    → AreNames names → IsOneOf loops l.source → IsOneOf loops m.source
     → l.variables ≡ m.variables → All (IsFormOver (length names)) l.forms → All (IsFormOver (length names)) m.forms
     → leaf_text names l ++ x ≡ leaf_text names m ++ y → (l ≡ m) × (x ≡ y)
 unfolding leaf_of
-one_leaf laws loops names l m x y few n a b v over other e =
-    let t = leaf_told laws loops names l.source m.source l.forms m.forms x y few n a b over other e in (
+one_leaf laws loops names l m x y n a b v over other e =
+    let t = leaf_told laws loops names l.source m.source l.forms m.forms x y n a b over other e in (
       ap (λ s. leaf_of s l.variables l.forms) t.0
           ∙ (ap (λ k. leaf_of m.source k l.forms) v ∙ ap (λ fs. leaf_of m.source m.variables fs) t.1),
       t.2,
@@ -186,42 +175,41 @@ all_over_names n m fs e over = subst (λ i. All (IsFormOver i) fs) e over
 
 -- two quasts with one text in front of others are one, and so are the others
 pub one_quast : (laws : FormLaws) (loops : List (List ℕ)) (outer : List Text) (k n : ℕ) (t u : Tree) (x y : Text)
-    → length loops ≤ 2 ^ 64 → AreOuter outer → k < 2 ^ 64 → n ≡ length (names_within outer k)
-    → IsTellable loops n k t → IsTellable loops n k u
+    → AreOuter outer → n ≡ length (names_within outer k) → IsTellable loops n t → IsTellable loops n u
     → quast_text outer k t ++ x ≡ quast_text outer k u ++ y → (t ≡ u) × (x ≡ y)
-one_quast laws loops outer k n initial initial x y few o low count a b e = (refl, ap (drop 7) e)
-one_quast laws loops outer k n initial (leaf m) x y few o low count a b e =
+one_quast laws loops outer k n initial initial x y o count a b e = (refl, ap (drop 7) e)
+one_quast laws loops outer k n initial (leaf m) x y o count a b e =
     let same : 105 ≡ 83 = ap first e ∙ leaf_first loops (names_within outer k) m y b.0 in
     absurd (omega (arith, same))
-one_quast laws loops outer k n initial (branch g c d) x y few o low count a b e =
+one_quast laws loops outer k n initial (branch g c d) x y o count a b e =
     let same : 110 ≡ 102 = ap (λ (s : Text). get_or s 1 0) e in absurd (omega (arith, same))
-one_quast laws loops outer k n initial (bind g d c) x y few o low count a b e =
+one_quast laws loops outer k n initial (bind g d c) x y o count a b e =
     let same : 105 ≡ 108 = ap first e in absurd (omega (arith, same))
-one_quast laws loops outer k n (leaf l) initial x y few o low count a b e =
+one_quast laws loops outer k n (leaf l) initial x y o count a b e =
     let same : 83 ≡ 105 = sym (leaf_first loops (names_within outer k) l x a.0) ∙ ap first e in
     absurd (omega (arith, same))
-one_quast laws loops outer k n (leaf l) (leaf m) x y few o low count a b e =
+one_quast laws loops outer k n (leaf l) (leaf m) x y o count a b e =
     let names = names_within outer k in
-    let t = one_leaf laws loops names l m x y few (names_told outer k o low) a.0 b.0 (a.1 ∙ sym b.1)
+    let t = one_leaf laws loops names l m x y (names_told outer k o) a.0 b.0 (a.1 ∙ sym b.1)
     (all_over_names n (length names) l.forms count a.2) (all_over_names n (length names) m.forms count b.2) e in
     (ap leaf t.0, t.1)
-one_quast laws loops outer k n (leaf l) (branch g c d) x y few o low count a b e =
+one_quast laws loops outer k n (leaf l) (branch g c d) x y o count a b e =
     let same : 83 ≡ 105 = sym (leaf_first loops (names_within outer k) l x a.0) ∙ ap first e in
     absurd (omega (arith, same))
-one_quast laws loops outer k n (leaf l) (bind g d c) x y few o low count a b e =
+one_quast laws loops outer k n (leaf l) (bind g d c) x y o count a b e =
     let same : 83 ≡ 108 = sym (leaf_first loops (names_within outer k) l x a.0) ∙ ap first e in
     absurd (omega (arith, same))
-one_quast laws loops outer k n (branch f c d) initial x y few o low count a b e =
+one_quast laws loops outer k n (branch f c d) initial x y o count a b e =
     let same : 102 ≡ 110 = ap (λ (s : Text). get_or s 1 0) e in absurd (omega (arith, same))
-one_quast laws loops outer k n (branch f c d) (leaf m) x y few o low count a b e =
+one_quast laws loops outer k n (branch f c d) (leaf m) x y o count a b e =
     let same : 105 ≡ 83 = ap first e ∙ leaf_first loops (names_within outer k) m y b.0 in
     absurd (omega (arith, same))
-one_quast laws loops outer k n (branch f c d) (branch g v w) x y few o low count a b e =
+one_quast laws loops outer k n (branch f c d) (branch g v w) x y o count a b e =
     let names = names_within outer k in
     let q = λ (s : Tree). quast_text outer k s in
     let behind = λ (s r : Tree) (z : Text). q s ++ (codes " } else { " ++ (q r ++ (codes " }" ++ z))) in
     let test = laws.one names f g (codes " >= 0 { " ++ behind c d x) (codes " >= 0 { " ++ behind v w y)
-    (names_told outer k o low) (over_names n (length names) f count a.0) (over_names n (length names) g count b.0)
+    (names_told outer k o) (over_names n (length names) f count a.0) (over_names n (length names) g count b.0)
     (laws.at_least (codes " { " ++ behind c d x)) (laws.at_least (codes " { " ++ behind v w y))
     (ap (drop 3) (sym (branch_parts (codes "if ") (form_text names f) (codes " >= 0 { ") (q c)
     (codes " } else { ") (q d)
@@ -229,46 +217,47 @@ one_quast laws loops outer k n (branch f c d) (branch g v w) x y few o low count
     ∙ branch_parts (codes "if ") (form_text names g) (codes " >= 0 { ") (q v) (codes " } else { ") (q w) (codes " }")
     y))) in
     let one = one_quast laws loops outer k n c v (codes " } else { " ++ (q d ++ (codes " }" ++ x)))
-    (codes " } else { " ++ (q w ++ (codes " }" ++ y))) few o low count a.1 b.1 (ap (drop 8) test.1) in
-    let two = one_quast laws loops outer k n d w (codes " }" ++ x) (codes " }" ++ y) few o low count a.2 b.2
+    (codes " } else { " ++ (q w ++ (codes " }" ++ y))) o count a.1 b.1 (ap (drop 8) test.1) in
+    let two = one_quast laws loops outer k n d w (codes " }" ++ x) (codes " }" ++ y) o count a.2 b.2
     (ap (drop 10) one.1) in (
       ap (λ h. branch h c d) test.0 ∙ (ap (λ s. branch g s d) one.0 ∙ ap (λ s. branch g v s) two.0),
       ap (drop 2) two.1,
     )
-one_quast laws loops outer k n (branch f c d) (bind g z v) x y few o low count a b e =
+one_quast laws loops outer k n (branch f c d) (bind g z v) x y o count a b e =
     let same : 105 ≡ 108 = ap first e in absurd (omega (arith, same))
-one_quast laws loops outer k n (bind f d c) initial x y few o low count a b e =
+one_quast laws loops outer k n (bind f d c) initial x y o count a b e =
     let same : 108 ≡ 105 = ap first e in absurd (omega (arith, same))
-one_quast laws loops outer k n (bind f d c) (leaf m) x y few o low count a b e =
+one_quast laws loops outer k n (bind f d c) (leaf m) x y o count a b e =
     let same : 108 ≡ 83 = ap first e ∙ leaf_first loops (names_within outer k) m y b.0 in
     absurd (omega (arith, same))
-one_quast laws loops outer k n (bind f d c) (branch g v w) x y few o low count a b e =
+one_quast laws loops outer k n (bind f d c) (branch g v w) x y o count a b e =
     let same : 108 ≡ 105 = ap first e in absurd (omega (arith, same))
-one_quast laws loops outer k n (bind f d c) (bind g z v) x y few o low count a b e =
+one_quast laws loops outer k n (bind f d c) (bind g z v) x y o count a b e =
     let names = names_within outer k in
     let q = λ (s : Tree). quast_text outer (suc k) s in
     let head = codes "let " ++ (bound_name (suc k) ++ codes " = floor(") in
-    let behind = λ (i : ℤ) (s : Tree) (r : Text). signed_decimal i ++ (codes ") { " ++ (q s ++ (codes " }" ++ r))) in
+    let behind = λ (i : ℤ) (s : Tree) (r : Text).
+    signed_text true i [] ++ (codes ") { " ++ (q s ++ (codes " }" ++ r))) in
     let parts = λ (h : Affine) (i : ℤ) (s : Tree) (r : Text). bind_parts (codes "let ") (bound_name (suc k))
-    (codes " = floor(") (form_text names h) (codes " / ") (signed_decimal i) (codes ") { ") (q s) (codes " }") r in
+    (codes " = floor(") (form_text names h) (codes " / ") (signed_text true i []) (codes ") { ") (q s) (codes " }") r in
     let form = laws.one names f g (codes " / " ++ behind d c x) (codes " / " ++ behind z v y)
-    (names_told outer k o low) (over_names n (length names) f count a.1) (over_names n (length names) g count b.1)
+    (names_told outer k o) (over_names n (length names) f count a.0) (over_names n (length names) g count b.0)
     (laws.divisor (behind d c x)) (laws.divisor (behind z v y))
     (append_cancel_left head (form_text names f ++ (codes " / " ++ behind d c x))
     (form_text names g ++ (codes " / " ++ behind z v y)) (sym (parts f d c x) ∙ (e ∙ parts g z v y))) in
     let divisor = one_divisor d z (codes ") { " ++ (q c ++ (codes " }" ++ x))) (codes ") { " ++ (q v ++
     (codes " }" ++ y)))
-    a.2 b.2 a.3 b.3 refl refl (ap (drop 3) form.1) in
+    a.1 b.1 refl refl (ap (drop 3) form.1) in
     let more = length-append names (bound_name (suc k) ∷ []) in
-    let body = one_quast laws loops outer (suc k) (n + 1) c v (codes " }" ++ x) (codes " }" ++ y) few o a.0
-    (omega (arith, count, more)) a.4 b.4 (ap (drop 4) divisor.1) in (
+    let body = one_quast laws loops outer (suc k) (n + 1) c v (codes " }" ++ x) (codes " }" ++ y) o
+    (omega (arith, count, more)) a.2 b.2 (ap (drop 4) divisor.1) in (
       ap (λ h. bind h d c) form.0 ∙ (ap (λ i. bind g i c) divisor.0 ∙ ap (λ s. bind g z s) body.0),
       ap (drop 2) body.1,
     )
 
 -- no quast's text begins with `u`
 pub quast_first : (loops : List (List ℕ)) (outer : List Text) (k n : ℕ) (t : Tree) (x : Text)
-    → IsTellable loops n k t → first (quast_text outer k t ++ x) ≡ 117 → ⊥
+    → IsTellable loops n t → first (quast_text outer k t ++ x) ≡ 117 → ⊥
 quast_first loops outer k n initial x a e = let same : 105 ≡ 117 = e in omega (arith, same)
 quast_first loops outer k n (leaf l) x a e =
     let same : 83 ≡ 117 = sym (leaf_first loops (names_within outer k) l x a.0) ∙ e in omega (arith, same)

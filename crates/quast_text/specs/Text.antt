@@ -1,17 +1,17 @@
 -- The text of a quast over names (quasts: Feautrier, Parametric integer programming, 1988).
-use Rattle.std.specs.Prelude.{ℕ, zero, suc, ℤ, List, [], ◌∷◌, ◌++◌, codes, decimal, Option, Some, None, map, Vec}
-use Rattle.std.specs.Fmt.{signed_decimal}
+use Rattle.std.specs.Prelude.{ℕ, zero, suc, true, ℤ, List, [], ◌∷◌, ◌++◌, codes, Option, Some, None, map, Vec}
 use Rattle.std.specs.List.{concat}
 use Rattle.whole_numbers.specs.Affine.{Affine}
 use Rattle.scop_lexer.specs.Bytes.{Text}
-use Rattle.form_text.specs.Forms.{form_text}
+use Rattle.form_text.specs.Forms.{form_text, signed_text}
+use Rattle.form_text.specs.Numerals.{numeral}
 use Rattle.quast_trees.specs.Source.{Source, Forms}
 use Rattle.quast_trees.specs.Tree.{Tree, initial, leaf, branch, bind}
 use Rattle.std.specs.declared.alloc.Global.{Global}
 
 -- what the k-th `let` from the outside binds
 abbrev pub bound_name : ℕ → Text
-bound_name k = codes "#" ++ decimal k
+bound_name k = codes "#" ++ numeral k
 
 -- what forms speak of within k `let`s: the outer names, then what the `let`s bind, the outermost first
 abbrev pub names_within : List Text → ℕ → List Text
@@ -31,7 +31,7 @@ forms_from names at (f ∷ fs) = (comma at ++ form_text names f) ++ forms_from n
 -- `SN ` in front of a leaf's forms, where its statement is known; statements are numbered from 1
 abbrev pub statement_name : Option Source → Text
 statement_name None = []
-statement_name (Some s) = concat (codes "S" ∷ decimal (suc s.statement) ∷ codes " " ∷ [])
+statement_name (Some s) = concat (codes "S" ∷ numeral (suc s.statement) ∷ codes " " ∷ [])
 
 -- `SN (FORM, ..)`: a statement at its turns
 abbrev pub leaf_text : List Text → Forms → Text
@@ -45,7 +45,7 @@ test_text names test = concat (codes "if " ∷ form_text names test ∷ codes " 
 abbrev pub let_text : List Text → ℕ → Affine → ℤ → Text
 let_text names k form divisor =
     concat (codes "let " ∷ bound_name k ∷ codes " = floor(" ∷ form_text names form ∷ codes " / "
-    ∷ signed_decimal divisor ∷ codes ") { " ∷ [])
+    ∷ signed_text true divisor [] ∷ codes ") { " ∷ [])
 
 -- a quast within k `let`s: `initial`, `SN (FORM, ..)`, `if FORM >= 0 { Q } else { Q }` or
 -- `let #K = floor(FORM / D) { Q }`

@@ -1,10 +1,10 @@
 //! Puts the text of a quast, from its front to its end and without recursion: what waits behind what is written lies on
 //! a stack.
 
-ghost use Rattle.std.specs.Prelude.{◌≡◌, ◌<◌, ◌+◌, ◌-◌, ◌++◌, [], ◌∷◌, suc, IfOk, OnOk, codes, decimal, length};
+ghost use Rattle.std.specs.Prelude.{◌≡◌, ◌<◌, ◌+◌, ◌-◌, ◌++◌, [], ◌∷◌, suc, IfOk, OnOk, codes, length, true};
 ghost use Rattle.std.specs.Prelude.{reverse};
-ghost use Rattle.std.specs.Fmt.{signed_decimal};
-ghost use Rattle.form_text.specs.Forms.{form_text};
+ghost use Rattle.form_text.specs.Forms.{form_text, signed_text};
+ghost use Rattle.form_text.specs.Numerals.{numeral};
 ghost use Rattle.quast_trees.specs.Postfix.{tree_of};
 ghost use Rattle.quast_trees.specs.Source.{source_held};
 ghost use Rattle.quast_text.specs.Text.{bound_name, comma, forms_from, leaf_text, let_text, quast_text};
@@ -42,14 +42,14 @@ fn lay<'a>(stack: &mut Vec<Rest<'a>>, part: Rest<'a>) -> Result<(), AllocError>
 
 /// Puts a number.
 fn put_number(out: &mut Vec<u8>, number: u128) -> Result<(), AllocError>
-    ensures { OnOk result (out.new.items ≡ out.old.items ++ decimal number) }
+    ensures { OnOk result (out.new.items ≡ out.old.items ++ numeral number) }
 {
     put_bytes(out, Buffer::new().format(number).as_bytes())
 }
 
 /// Puts a signed number.
 fn put_signed(out: &mut Vec<u8>, number: i128) -> Result<(), AllocError>
-    ensures { OnOk result (out.new.items ≡ out.old.items ++ signed_decimal number) }
+    ensures { OnOk result (out.new.items ≡ out.old.items ++ signed_text true number []) }
 {
     put_bytes(out, Buffer::new().format(number).as_bytes())
 }
