@@ -24,8 +24,8 @@ pub use Rattle.dataflow.specs.ReadSources.{AreSources, IsSourceOf, reads_from, r
 pub use Rattle.dataflow.specs.Runs.{Halt, or_initial, sources_run, then_join}
 pub use Rattle.dataflow.specs.Sources.{IsCandidate, IsSolved, IsWritePoint, reader_end, reader_side, wanted_writer}
 pub use Rattle.dataflow.specs.Sources.{writer_end, writer_side}
-pub use Rattle.dataflow.specs.steps.Steps.{HeldOver, IsHeldNode, nodes_fit}
-pub use Rattle.dataflow.specs.Told.{IsHeldSource, HoldsNumbers, IsInstance, IsQuastOver, IsToldOver, NamesInstances}
+pub use Rattle.dataflow.specs.steps.Steps.{HeldOver, nodes_fit}
+pub use Rattle.dataflow.specs.Told.{IsInstance, IsQuastOver, IsToldOver, NamesInstances}
 pub use Rattle.dataflow.specs.WriterRuns.{Stopped, candidates_of, chosen_deps, fitting, forms_fit, is_candidate}
 pub use Rattle.dataflow.specs.WriterRuns.{leaves_fit, numbers_fit, read_variables, solve_between, sourced, turned_back}
 pub use Rattle.dataflow.specs.WriterRuns.{turned_tree, turns_in, writers_run}
@@ -72,7 +72,7 @@ pub use Rattle.quast_trees.specs.Paths.{up}
 pub use Rattle.quast_trees.specs.Postfix.{Postfix, tree_of}
 pub use Rattle.quast_trees.specs.Source.{Source, source_of}
 pub use Rattle.quast_trees.specs.Tree.{LeavesHave, Speaks, Tree, bind, branch, count, leaf}
-pub use Rattle.quast_trees.specs.Turns.{BindsUp, CanTell, IsHeld}
+pub use Rattle.quast_trees.specs.Turns.{BindsUp, CanTell}
 pub use Rattle.quast_trees.specs.Value.{by_sign, value}
 pub use Rattle.quast_trees.specs.PathView.{turn_held, turns_held}
 pub use Rattle.scop_syntax.proofs.Common.{AreInRange, most_parameter, params_not_negative}
@@ -80,7 +80,7 @@ pub use Rattle.scop_syntax.proofs.Common.{Access, Affine, All, All-append, All-c
 pub use Rattle.scop_syntax.proofs.Common.{All-nil, All-tail, All-take, Before, Bool, Cell, Contains, Err, FitsSigned}
 pub use Rattle.scop_syntax.proofs.Common.{HasParameters, IfOk, IfOk-weaker, In, Instance, IsKernel, IsPlaced, LexLe}
 pub use Rattle.scop_syntax.proofs.Common.{LexLess, List, None, NotNegative, Ok, Option, Placed, Program, Result, Runs}
-pub use Rattle.scop_syntax.proofs.Common.{Some, Visit, [], accesses, add-one, all_next, all_taken, all_unmapped, ap}
+pub use Rattle.scop_syntax.proofs.Common.{Some, Visit, [], accesses, add-one, all_unmapped, ap}
 pub use Rattle.scop_syntax.proofs.Common.{ap₂, arith, both, cell_at, cell_of, complement, composed, drop, drop-cons}
 pub use Rattle.scop_syntax.proofs.Common.{eq-eqb, eqb-true, false, fits, fits_iff, flat_map, form_of, get_map, get_or}
 pub use Rattle.scop_syntax.proofs.Common.{get_or-append-add, get_or-zeros, get_or_append_left, if◌then◌else◌, in_append}

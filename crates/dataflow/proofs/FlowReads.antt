@@ -4,7 +4,7 @@ use Rattle.dataflow.proofs.Common.{get_or, Ok, refl, sym, ap, ap₂, subst, ◌�
 use Rattle.dataflow.proofs.Common.{Access, In, Tree, Modelled, KernelModel, IsKernelModel, Dependence, Side, side}
 use Rattle.dataflow.proofs.Common.{sides_from, AreLastSourcesOf, behind_first, flow_from, read_sides, tree_in}
 use Rattle.dataflow.proofs.Common.{CanTellAll, leaf_deps, AreSources, IsSourceOf, reads_from, reads_in}
-use Rattle.dataflow.proofs.Common.{reads_of_statement, HoldsNumbers, IsQuastOver, writers_run}
+use Rattle.dataflow.proofs.Common.{reads_of_statement, IsQuastOver, writers_run}
 use Rattle.scop_syntax.proofs.Common.{append_assoc, append-nil}
 use Rattle.quast_joins.specs.declared.way.Way.{Way}
 use Rattle.quast_joins.specs.declared.way.Way.TheVariants.{Later}
@@ -193,15 +193,14 @@ flow_step model statements i s n ss own others out next whole is h size few fron
 -- they can be told
 pub source_tells : (model : KernelModel) (budget : ℕ) (reader : Side) (tree : Tree) → IsKernelModel model
     → HaveLoops model → In reader.statement model.statements
-    → writers_run Later model budget reader.statement.number reader.number ≡ Ok tree → HoldsNumbers tree
+    → writers_run Later model budget reader.statement.number reader.number ≡ Ok tree
     → CanTellAll model reader tree
-source_tells model budget reader tree one loops among run numbers =
+source_tells model budget reader tree one loops among run =
     let tells = resolved_tells Later model budget reader.statement.number reader.number tree run in
     let r = quast_over Later model budget reader.statement.number reader.number tree loops run in
     all_told model reader tree one among
     (subst (λ (n : ℕ). IsQuastOver model n tree) (variables_are model reader.statement one.places among) (record {
       speaks = r.0.0;
-      numbers = numbers;
       leaves = r.0.1;
       forms = r.0.2;
       few = r.1;

@@ -13,7 +13,6 @@ pub mod Fits
 pub mod CandidateQuasts
 pub mod CandidateRuns
 pub mod UnmarkedConflicts
-pub mod NodeNumbers
 pub mod TellableSources
 pub mod LeafForms
 pub mod LeafShapes

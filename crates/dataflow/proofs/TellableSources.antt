@@ -1,14 +1,14 @@
 -- Sources are what a text can tell: their quasts speak of the variables at their places, and name instances.
-use Rattle.dataflow.proofs.Common.{◌≡◌, ℕ, zero, suc, ◌+◌, ◌^◌, ◌<◌, ◌≤◌, List, [], ◌∷◌, ◌++◌, length, All, ◌-◌, Option}
+use Rattle.dataflow.proofs.Common.{◌≡◌, ℕ, zero, suc, ◌+◌, ◌^◌, ◌<◌, ◌≤◌, List, [], ◌∷◌, ◌++◌, length, ◌-◌, Option}
 use Rattle.dataflow.proofs.Common.{Some, None, Result, Ok, Err, refl, sym, ap, subst, ◌∙◌, arith, inl, inr, ⊤, IfOk}
-use Rattle.dataflow.proofs.Common.{slice_get, All-head, All-tail, length-map, Affine, In, Placed, statements_of}
+use Rattle.dataflow.proofs.Common.{slice_get, length-map, Affine, In, Placed, statements_of}
 use Rattle.dataflow.proofs.Common.{Program, in_from_place, in_map_from, place_of, lexmin-speaks, lexmin-forms, Source}
 use Rattle.dataflow.proofs.Common.{source_of, Tree, leaf, branch, bind, count, Speaks, LeavesHave, tree_of}
 use Rattle.dataflow.proofs.Common.{named-speaks, HasForms, node_limit, join-speaks, Dependence, Modelled, KernelModel}
 use Rattle.dataflow.proofs.Common.{model_of, modelled, conflicts_of, AreSources, IsSourceOf, reads_from}
 use Rattle.dataflow.proofs.Common.{reads_of_statement, reads_in, reads_of, Stopped, writers_run, solve_between}
 use Rattle.dataflow.proofs.Common.{turned_back, is_candidate, candidates_of, turns_in, read_variables, top, all_below}
-use Rattle.dataflow.proofs.Common.{posed_rows, posed_context, writer_end, reader_end, IsHeldSource, IsInstance}
+use Rattle.dataflow.proofs.Common.{posed_rows, posed_context, writer_end, reader_end, IsInstance}
 use Rattle.dataflow.proofs.Common.{NamesInstances, IsToldOver}
 use Rattle.scop_syntax.proofs.Common.{loops_in}
 use Rattle.wide_math.specs.Checked.{◌>>=◌}
@@ -169,27 +169,27 @@ stop_told way model budget solver.NoMemory (writer.wide_leaf dep) small h = absu
 
 -- a source
 source_told : (way : Way) (model : KernelModel) (budget statement access : ℕ) (from : ReadSource) → HaveLoops model
-    → budget < 2 ^ 64 → IsSourceOf way model budget statement access from → IsHeldSource from
+    → budget < 2 ^ 64 → IsSourceOf way model budget statement access from
     → IsToldOver model (read_variables model statement) from
-source_told way model budget statement access (source.Resolved quast) loops small is held =
+source_told way model budget statement access (source.Resolved quast) loops small is =
     let r = quast_over way model budget statement access (tree_of quast) loops is in
-    record { speaks = r.0.0; numbers = held; leaves = r.0.1; forms = r.0.2; few = r.1 }
-source_told way model budget statement access (source.Unresolved (stop.Solver told)) loops small is held =
+    record { speaks = r.0.0; leaves = r.0.1; forms = r.0.2; few = r.1 }
+source_told way model budget statement access (source.Unresolved (stop.Solver told)) loops small is =
     stop_told way model budget told is.0 small is.2
-source_told way model budget statement access (source.Unresolved (stop.Join count)) loops small is held =
+source_told way model budget statement access (source.Unresolved (stop.Join count)) loops small is =
     let same = is.2 in omega (arith, same)
 
 -- that of a statement's access, where there is one
 pub told_if_ok : {E : Type 0} (way : Way) (model : KernelModel) (budget access : ℕ) (s : Modelled)
     (r : Result ReadSource E) → HaveLoops model
     → ((k : ℕ) (t : Modelled) → slice_get model.statements k ≡ Some t → t.number ≡ k) → budget < 2 ^ 64
-    → In s model.statements → IfOk r (IsSourceOf way model budget s.number access) → IfOk r IsHeldSource
+    → In s model.statements → IfOk r (IsSourceOf way model budget s.number access)
     → IfOk r (IsToldOver model (model.parameters + length s.loops))
-told_if_ok way model budget access s (Err e) loops places small among is held = tt
-told_if_ok way model budget access s (Ok from) loops places small among is held =
+told_if_ok way model budget access s (Err e) loops places small among is = tt
+told_if_ok way model budget access s (Ok from) loops places small among is =
     subst (λ (n : ℕ). IsToldOver model n from)
     (variables_are model s places among ∙ ap (λ (d : ℕ). model.parameters + d) (sym (loops s among)))
-    (source_told way model budget s.number access from loops small is held)
+    (source_told way model budget s.number access from loops small is)
 
 -- ---- reads
 
@@ -243,14 +243,14 @@ source_at_read model number from there told =
 -- sources of a model's reads are told
 pub sources_told : (way : Way) (model : KernelModel) (budget : ℕ) (reads : List (ℕ × ℕ)) (sources : List ReadSource)
     → HaveLoops model → budget < 2 ^ 64 → AreReads model reads → AreSources way model budget reads sources
-    → All IsHeldSource sources → AreTold model reads sources
-sources_told way model budget [] [] loops small there are held = tt
-sources_told way model budget [] (s ∷ ss) loops small there are held = absurd are
-sources_told way model budget (r ∷ rs) [] loops small there are held = absurd are
-sources_told way model budget (r ∷ rs) (s ∷ ss) loops small there are held = (
+    → AreTold model reads sources
+sources_told way model budget [] [] loops small there are = tt
+sources_told way model budget [] (s ∷ ss) loops small there are = absurd are
+sources_told way model budget (r ∷ rs) [] loops small there are = absurd are
+sources_told way model budget (r ∷ rs) (s ∷ ss) loops small there are = (
   source_at_read model r.0 s there.0
-      (source_told way model budget r.0 r.1 s loops small are.0 (All-head IsHeldSource s ss held)),
-  sources_told way model budget rs ss loops small there.1 are.1 (All-tail IsHeldSource s ss held),
+      (source_told way model budget r.0 r.1 s loops small are.0),
+  sources_told way model budget rs ss loops small there.1 are.1,
 )
 
 -- a statement of a kernel has a dimension for each loop

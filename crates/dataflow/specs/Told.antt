@@ -1,11 +1,9 @@
 -- What the sources of a kernel's reads are made of, whatever they say: forms over the variables that stand at their
--- places, numbers that their types hold, leaves that are instances of the kernel's statements.
-use Rattle.std.specs.Prelude.{◌≡◌, ℕ, ◌+◌, ◌^◌, ◌<◌, ◌≤◌, true, List, [], ◌∷◌, length, All, ⊤, Option, Some, None, slice_get}
-use Rattle.whole_numbers.specs.Fits.{fits}
+-- places, leaves that are instances of the kernel's statements.
+use Rattle.std.specs.Prelude.{◌≡◌, ℕ, ◌+◌, ◌^◌, ◌<◌, ◌≤◌, List, [], ◌∷◌, length, ⊤, Option, Some, None, slice_get}
 use Rattle.pip_solver.specs.declared.stop.Stop.TheVariants as solver
 use Rattle.quast_trees.specs.Source.{Source}
-use Rattle.quast_trees.specs.Tree.{Tree, initial, leaf, branch, bind, count, Speaks}
-use Rattle.quast_trees.specs.Turns.{IsHeld}
+use Rattle.quast_trees.specs.Tree.{Tree, count, Speaks}
 use Rattle.quast_trees.specs.Postfix.{tree_of}
 use Rattle.quast_joins.specs.Counts.{HasForms}
 use Rattle.quast_joins.specs.Leaves.{LeavesAre}
@@ -14,13 +12,6 @@ use Rattle.iteration_domains.specs.Model.{Modelled, KernelModel}
 use Rattle.dataflow.specs.declared.source.ReadSource.{ReadSource}
 use Rattle.dataflow.specs.declared.source.ReadSource.TheVariants as source
 use Rattle.dataflow.specs.declared.source.SourceStop.TheVariants as stop
-
--- 128 bits hold each number of a tree
-abbrev pub HoldsNumbers : Tree → Type 0
-HoldsNumbers initial = ⊤
-HoldsNumbers (leaf l) = All IsHeld l.forms
-HoldsNumbers (branch test first second) = IsHeld test × HoldsNumbers first × HoldsNumbers second
-HoldsNumbers (bind form divisor body) = IsHeld form × (fits divisor ≡ true) × HoldsNumbers body
 
 -- a leaf's source is a statement of the model, with the loops round it
 abbrev pub IsInstance : KernelModel → Option Source → Type 0
@@ -31,11 +22,9 @@ IsInstance model (Some s) = (t : Modelled) × (slice_get model.statements s.stat
 abbrev pub NamesInstances : KernelModel → Tree → Type 0
 NamesInstances model tree = LeavesAre (λ l. IsInstance model l.source) tree
 
--- a quast over n variables, of few nodes, whose leaves are instances, with a form for each loop, and whose numbers 128
--- bits hold
+-- a quast over n variables, of few nodes, whose leaves are instances, with a form for each loop
 pub record IsQuastOver (model : KernelModel) (n : ℕ) (tree : Tree) : Type 0 where
   pub speaks : Speaks n tree
-  pub numbers : HoldsNumbers tree
   pub leaves : NamesInstances model tree
   pub forms : HasForms tree
   pub few : count tree ≤ node_limit
@@ -63,8 +52,3 @@ AreTold model [] [] = ⊤
 AreTold model [] (s ∷ ss) = ⊥
 AreTold model (r ∷ rs) [] = ⊥
 AreTold model (r ∷ rs) (s ∷ ss) = IsToldAt model (slice_get model.statements r.0) s × AreTold model rs ss
-
--- 128 bits hold each number of a source's quast, where it has one
-abbrev pub IsHeldSource : ReadSource → Type 0
-IsHeldSource (source.Resolved quast) = HoldsNumbers (tree_of quast)
-IsHeldSource (source.Unresolved told) = ⊤

@@ -11,7 +11,6 @@ ghost use Rattle.dataflow.specs.Posed.{IsOfKernel};
 ghost use Rattle.dataflow.specs.ReadSources.{reads_of_statement};
 
 use crate::covers::push_leaves;
-use crate::numbers::look_at_numbers;
 use crate::source::ReadSource;
 use conflict_deps::AccessOf;
 use iteration_domains::{Dep, Model, StatementModel};
@@ -36,10 +35,7 @@ fn push_source(
 {
     statements_are_numbered();
     match source {
-        ReadSource::Resolved(quast) => {
-            look_at_numbers(quast);
-            push_leaves(alloc, out, Way::Later, model, reader, quast)
-        }
+        ReadSource::Resolved(quast) => push_leaves(alloc, out, Way::Later, model, reader, quast),
         ReadSource::Unresolved(_) => unreachable!(),
     }
 }

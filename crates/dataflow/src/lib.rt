@@ -14,7 +14,6 @@ mod flow_deps;
 mod forms;
 mod leaf_deps;
 mod leaf_rows;
-mod numbers;
 mod problem;
 mod reads;
 mod source;

@@ -1,6 +1,6 @@
 //! The sources of accesses: the candidates of an access are solved and joined one after the other, up to the first that
 //! stops; and those of all reads of a model, by their last writers or their next.
-ghost use Rattle.std.specs.Prelude.{◌≡◌, ◌+◌, ◌≤◌, All, IfErr, IfOk, OnOk, length};
+ghost use Rattle.std.specs.Prelude.{◌≡◌, ◌+◌, ◌≤◌, IfErr, IfOk, OnOk, length};
 ghost use Rattle.scop_syntax.specs.Members.{In};
 ghost use Rattle.quast_trees.specs.Postfix.{tree_of};
 ghost use Rattle.quast_trees.specs.Tree.{count};
@@ -16,12 +16,11 @@ ghost use Rattle.dataflow.specs.ReadSources.{IsSourceOf, AreSources, reads_of, r
 ghost use Rattle.dataflow.specs.ReadSources.{NameLastWriters, NameNextWriters};
 ghost use Rattle.dataflow.specs.Sources.{reader_end};
 ghost use Rattle.dataflow.specs.steps.Steps.{GainsSources, GoesOn, IsJoinable};
-ghost use Rattle.dataflow.specs.Told.{IsHeldSource, AreTold, IsToldOver};
+ghost use Rattle.dataflow.specs.Told.{AreTold, IsToldOver};
 ghost use Rattle.dataflow.specs.WriterRuns.{is_candidate, read_variables};
 
 use crate::candidate::solved;
 use crate::ends::{reader_end, writer_end};
-use crate::numbers::look_at_numbers;
 use crate::source::{ReadSource, SourceStop};
 use crate::source_laws::{resolved_reads_have_their_writers, sources_are_told};
 use affine_forms::push;
@@ -106,8 +105,7 @@ fn candidates_joined(
     requires kernel { IsOfKernel model.now }
     requires deps { HoldConflicts way model.now statement.now.number access deps.now }
     requires statement { In statement.now model.now.statements }
-    ensures run { IfOk result (IsSourceOf way model.now budget statement.now.number access) }
-    ensures numbers { IfOk result IsHeldSource }
+    ensures { IfOk result (IsSourceOf way model.now budget statement.now.number access) }
 {
     statements_are_numbered();
     let variables = model.parameters() + statement.loops().len();
@@ -124,7 +122,6 @@ fn candidates_joined(
             }
         }
     }
-    look_at_numbers(&found);
     Ok(ReadSource::Resolved(found))
 }
 
@@ -145,7 +142,6 @@ pub fn source_of(
     requires deps { HoldConflicts way model.now statement.now.number access deps.now }
     requires statement { In statement.now model.now.statements }
     ensures run { IfOk result (IsSourceOf way model.now budget statement.now.number access) }
-    ensures numbers { IfOk result IsHeldSource }
     ensures told { IfOk result
         (IsToldOver model.now (model.now.parameters + length statement.now.loops)) }
 {
@@ -166,9 +162,8 @@ fn push_reads(
     requires kernel { IsOfKernel model.now }
     requires deps { deps.now ≡ conflicts_of model.now }
     requires statement { In statement.now model.now.statements }
-    ensures run { OnOk result
+    ensures { OnOk result
         (GainsSources way model.now budget sources.old.items sources.new.items (reads_of_statement statement.now)) }
-    ensures numbers { OnOk result (All IsHeldSource sources.old.items → All IsHeldSource sources.new.items) }
 {
     for access in 1..statement.accesses().len() {
         let source = source_of(alloc, way, model, deps, statement, access, budget)?;

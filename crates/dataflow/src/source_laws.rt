@@ -1,5 +1,5 @@
 //! What the joins over all candidates answer, as contracts of functions that do nothing.
-ghost use Rattle.std.specs.Prelude.{◌≡◌, ℕ, ℤ, ◌+◌, ◌++◌, ◌<◌, ◌^◌, All, List, length, Ok};
+ghost use Rattle.std.specs.Prelude.{◌≡◌, ℕ, ℤ, ◌+◌, ◌++◌, ◌<◌, ◌^◌, List, length, Ok};
 ghost use Rattle.whole_numbers.specs.Lists.{NotNegative};
 ghost use Rattle.whole_numbers.specs.Affine.{values_of};
 ghost use Rattle.whole_numbers.specs.Lexicographic.{LexLe};
@@ -26,7 +26,7 @@ ghost use Rattle.dataflow.specs.Places.{Names};
 ghost use Rattle.dataflow.specs.Problems.{all_below, posed_rows, posed_context, turned_leaf};
 ghost use Rattle.dataflow.specs.Posed.{IsOfKernel};
 ghost use Rattle.dataflow.specs.Sources.{IsCandidate, IsSolved, IsWritePoint, reader_side, wanted_writer, writer_side};
-ghost use Rattle.dataflow.specs.Told.{IsHeldSource, AreTold};
+ghost use Rattle.dataflow.specs.Told.{AreTold};
 ghost use Rattle.dataflow.specs.WriterRuns.{writers_run};
 ghost use Rattle.dataflow.specs.declared.source.ReadSource.{ReadSource};
 
@@ -104,7 +104,7 @@ pub fn resolved_reads_have_their_writers()
 /// unresolved for want of memory.
 pub fn sources_are_told()
     ensures { (way : Way) (model : KernelModel) (budget : ℕ) (sources : List ReadSource) → IsOfKernel model
-        → budget < 2 ^ 64 → AreSources way model budget (reads_of model) sources → All IsHeldSource sources
+        → budget < 2 ^ 64 → AreSources way model budget (reads_of model) sources
         → AreTold model (reads_of model) sources }
 {
     statements_are_numbered();

@@ -1,7 +1,6 @@
 -- What the parts of the work promise.
 use Rattle.std.specs.Prelude.{◌≡◌, ℕ, Bool, true, false, ℤ, List, [], ◌∷◌, ◌++◌, Option, Some, None, Result, Ok, Err, ⊤}
-use Rattle.std.specs.Prelude.{if◌then◌else◌, All}
-use Rattle.whole_numbers.specs.Fits.{fits}
+use Rattle.std.specs.Prelude.{if◌then◌else◌}
 use Rattle.pip_solver.specs.declared.stop.Stop.TheVariants as solver
 use Rattle.quast_trees.specs.Tree.{Tree}
 use Rattle.quast_trees.specs.Postfix.{Postfix, tree_of}
@@ -18,7 +17,6 @@ use Rattle.dataflow.specs.Sources.{reader_end}
 use Rattle.dataflow.specs.WriterRuns.{Stopped, forms_fit, solve_run, read_variables}
 use Rattle.dataflow.specs.declared.reads.Halted.TheVariants as halt
 use Rattle.dataflow.specs.declared.source.ReadSource.{ReadSource}
-use Rattle.quast_trees.specs.Turns.{IsHeld}
 
 -- whether each number of a node's forms, if it is a leaf's, fits
 abbrev pub node_fits : ℤ → Node → Bool
@@ -74,10 +72,3 @@ GoesOn way model budget n first dep (Err halt.NoMemory) = ⊤
 abbrev pub GainsSources : Way → KernelModel → ℕ → List ReadSource → List ReadSource → List (ℕ × ℕ) → Type 0
 GainsSources way model budget old new gains =
     (reads : List (ℕ × ℕ)) → AreSources way model budget reads old → AreSources way model budget (reads ++ gains) new
-
--- 128 bits hold each number of a node
-abbrev pub IsHeldNode : Node → Type 0
-IsHeldNode node.Initial = ⊤
-IsHeldNode (node.Forms l) = All IsHeld l.forms
-IsHeldNode (node.Branch test second) = IsHeld test
-IsHeldNode (node.Bind form divisor) = IsHeld form × (fits divisor ≡ true)

@@ -13,4 +13,4 @@ push_leaves-requires-clause-leaves c =
     let from = subst (IsLastSource model reader) c.in-Resolved.is c.requires.source in
     source_tells model from.0 reader (tree_of c.in-Resolved.quast)
     (subst IsKernelModel (sym k.2) (one_model k.0 k.1 (numbered.same k.0) (numbered.number k.0)))
-    (loops_are k.0 model k.2 (numbered.loops k.0)) c.requires.reader.statement from.1 c.look_at_numbers.ensures
+    (loops_are k.0 model k.2 (numbered.loops k.0)) c.requires.reader.statement from.1

@@ -1,6 +1,4 @@
-use Rattle.dataflow.proofs.Common.{◌++◌, ◌<◌, ℕ, All, List, ap, length, subst, sym, reads_of_statement, IsHeldSource}
-use Rattle.scop_syntax.proofs.Common.{All-push}
-use Rattle.dataflow.specs.declared.source.ReadSource.{ReadSource}
+use Rattle.dataflow.proofs.Common.{◌++◌, ◌<◌, ℕ, ap, length, subst, reads_of_statement}
 use Rattle.dataflow.proofs.CandidateRuns.{read_gathered}
 use Rattle.dataflow.proofs.UnmarkedConflicts.{all_held}
 use Rattle.dataflow.proofs.reads.push_reads.Goals as goal
@@ -16,12 +14,7 @@ loop-access-preserved c =
     let new = c.in_ok-source.source in
     let old = c.loop-access.sources.items in
     let less = subst (λ (n : ℕ). c.loop-access.access < n) (ap length c.accesses-access-end.ensures.accesses)
-    c.loop-access-test.true in (
-      λ reads are.
-          read_gathered c.args.way c.args.model.now c.args.budget s.number c.loop-access.access (length s.accesses)
-          (reads ++ reads_of_statement s) old c.push.new.list.items new less
-          (c.loop-access.invariant.0 reads are) c.in_ok-source.ensures.run c.in_ok-push.ensures.pushed,
-      λ held.
-          subst (λ (ss : List ReadSource). All IsHeldSource ss) (sym c.in_ok-push.ensures.pushed)
-          (All-push IsHeldSource old new (c.loop-access.invariant.1 held) c.in_ok-source.ensures.numbers),
-    )
+    c.loop-access-test.true in
+    λ reads are. read_gathered c.args.way c.args.model.now c.args.budget s.number c.loop-access.access
+    (length s.accesses) (reads ++ reads_of_statement s) old c.push.new.list.items new less
+    (c.loop-access.invariant reads are) c.in_ok-source.ensures.run c.in_ok-push.ensures.pushed

@@ -11,5 +11,4 @@ returns-clause-told c =
     told_if_ok c.args.way model c.args.budget c.args.access c.args.statement.now c.candidates_joined.result
     (loops_are k.0 model k.2 (c.statements_are_numbered.ensures.loops k.0))
     (numbers_are k.0 model k.1 k.2 (c.statements_are_numbered.ensures.same k.0)
-    (c.statements_are_numbered.ensures.number k.0)) small c.requires.statement c.candidates_joined.ensures.run
-    c.candidates_joined.ensures.numbers
+    (c.statements_are_numbered.ensures.number k.0)) small c.requires.statement c.candidates_joined.ensures

@@ -11,13 +11,11 @@ push_reads-requires-clause-statement c =
     c.statement-item.is c.loop-statement-test.true)
 
 pub loop-statement-preserved : goal.loop-statement-preserved
-loop-statement-preserved c = (
-  statement_gathered c.args.way c.args.model.now c.args.budget c.statements-statement-items.result.now
-      c.loop-statement.statement-index c.statement-item.result c.loop-statement.sources.items
-      c.push_reads.new.sources.items c.statement-item.is c.loop-statement-test.true c.loop-statement.invariant.0
-      c.in_ok-push_reads.ensures.run,
-  c.in_ok-push_reads.ensures.numbers c.loop-statement.invariant.1,
-)
+loop-statement-preserved c =
+    statement_gathered c.args.way c.args.model.now c.args.budget c.statements-statement-items.result.now
+    c.loop-statement.statement-index c.statement-item.result c.loop-statement.sources.items
+    c.push_reads.new.sources.items c.statement-item.is c.loop-statement-test.true c.loop-statement.invariant
+    c.in_ok-push_reads.ensures
 
 -- all reads have their sources
 sources : (c : After-loop-statement) → AreSources c.args.way c.args.model.now c.args.budget (reads_of c.args.model.now)
@@ -31,7 +29,7 @@ sources c =
     c.statements-statement-items.ensures.statements
     (all_gathered c.args.way model c.args.budget (reads_in items) sources
     (subst (λ (ss : List Modelled). Gathered c.args.way model c.args.budget (reads_in items) (reads_in ss) sources) none
-    c.loop-statement.invariant.0))
+    c.loop-statement.invariant))
 
 pub returns-clause-sources : goal.returns-clause-sources
 returns-clause-sources c = sources (goal.at.returns-clause-sources c).After-loop-statement
@@ -40,4 +38,4 @@ pub returns-clause-told : goal.returns-clause-told
 returns-clause-told c =
     let small : c.args.budget < 2 ^ 64 = search rules in
     c.sources_are_told.ensures c.args.way c.args.model.now c.args.budget c.loop-statement.sources.items c.requires small
-    (sources (goal.at.returns-clause-told c).After-loop-statement) c.loop-statement.invariant.1
+    (sources (goal.at.returns-clause-told c).After-loop-statement)
