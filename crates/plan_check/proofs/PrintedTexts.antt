@@ -7,14 +7,16 @@ use Rattle.std.specs.Int.Digits.{digits_of}
 use Rattle.std.specs.List.{onto_first}
 use Rattle.std.proofs.lemmas.List.{append_assoc}
 use Rattle.scop_lexer.specs.Bytes.{Text}
+use Rattle.form_text.specs.Numerals.{numeral}
 use Rattle.form_text.specs.Reading.{strip, when}
 use Rattle.form_text.specs.View.{saturated}
 use Rattle.form_text.proofs.Digits.{EndsDigits}
+use Rattle.form_text.proofs.Numerals.{bytes_of}
 use Rattle.data_lines.proofs.PartLemmas.{first_part}
 use Rattle.schedule_lines.specs.Lines.{Part, Row, Scalar, before, label_text, list_text, mark_text, numbers_from}
-use Rattle.schedule_lines.specs.Lines.{numeral, part_text, parts_text, row_text, scalar_text, values_text}
+use Rattle.schedule_lines.specs.Lines.{part_text, parts_text, row_text, scalar_text, values_text}
 use Rattle.schedule_lines.specs.Reading.{numeral_in, whole, with_first}
-use Rattle.schedule_lines.proofs.NumeralLemmas.{bytes_of, numeral_back}
+use Rattle.schedule_lines.proofs.NumeralLemmas.{numeral_back}
 use Rattle.plan_check.specs.Printed.{goal_text, said_text, saturated_term, step_text, terms_text}
 use Rattle.plan_check.specs.Text.{IsStep, Said, StepLine, TermLine, goal, goal_in, is_line_feed, lines_of, positive_in}
 use Rattle.plan_check.specs.Text.{row, scalar, some_terms_in, step, step_in, step_line, term_in, term_line, terms_in}

@@ -6,9 +6,10 @@ use Rattle.scop_syntax.proofs.Common.{none-some, same_Some}
 use Rattle.std.proofs.lemmas.Bool.{true≢false}
 use Rattle.std.proofs.lemmas.List.{append_assoc}
 use Rattle.scop_lexer.specs.Bytes.{Text}
+use Rattle.form_text.specs.Numerals.{numeral}
 use Rattle.form_text.specs.Reading.{strip, when}
 use Rattle.form_text.specs.View.{saturated}
-use Rattle.schedule_lines.specs.Lines.{Row, Scalar, numeral, row_text, scalar_text}
+use Rattle.schedule_lines.specs.Lines.{Row, Scalar, row_text, scalar_text}
 use Rattle.schedule_lines.specs.Reading.{numeral_in, row_in, scalar_in, whole, with_first}
 use Rattle.schedule_lines.specs.Saturated.{saturated_row, saturated_scalar}
 use Rattle.schedule_lines.proofs.NumeralLemmas.{numeral_read}

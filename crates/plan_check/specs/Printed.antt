@@ -2,8 +2,9 @@
 -- 128 bits are read as 2^128 - 1.
 use Rattle.std.specs.Prelude.{◌≡◌, ◌≢◌, ℕ, List, [], ◌∷◌, ◌++◌, map, length, codes, ⊤}
 use Rattle.scop_lexer.specs.Bytes.{Text}
+use Rattle.form_text.specs.Numerals.{numeral}
 use Rattle.form_text.specs.View.{saturated}
-use Rattle.schedule_lines.specs.Lines.{numeral, row_text, scalar_text}
+use Rattle.schedule_lines.specs.Lines.{row_text, scalar_text}
 use Rattle.schedule_lines.specs.Saturated.{saturated_row, saturated_scalar}
 use Rattle.plan_check.specs.Text.{IsStep, Said, StepLine, TermLine, goal, row, scalar, step, step_line, term_line}
 
