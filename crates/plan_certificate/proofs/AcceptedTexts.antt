@@ -8,10 +8,10 @@ use Rattle.scop_lexer.specs.Bytes.{Text}
 use Rattle.schedule_rows.specs.Unknowns.{Part}
 use Rattle.schedule_rows.specs.Items.{Row}
 use Rattle.schedule_lines.specs.Lines as lines
-use Rattle.schedule_lines.specs.Lines.{numeral}
+use Rattle.form_text.specs.Numerals.{numeral}
 use Rattle.schedule_lines.specs.Reading as reading
 use Rattle.report_text.specs.ScheduleText as report
-use Rattle.plan_certificate.proofs.NumeralTexts.{decimal_is_numeral}
+use Rattle.form_text.proofs.Numerals.{decimal_is_numeral}
 
 -- not negative, and within 128 bits
 abbrev pub IsPrinted : ℤ → Type 0

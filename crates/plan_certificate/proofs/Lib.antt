@@ -17,7 +17,6 @@ pub mod ItemLemmas
 pub mod MarkedLines
 pub mod Moves
 pub mod Narrow
-pub mod NumeralTexts
 pub mod SizedPlans
 pub mod StepTexts
 pub mod TightestPlaces

@@ -1,6 +1,6 @@
 //! The lines of goals and of their derivations, whose rows' numbers are those that their types hold.
 ghost use Rattle.std.specs.Prelude.{◌≡◌, ◌++◌, All, OnOk, codes, map};
-ghost use Rattle.schedule_lines.specs.Lines.{numeral};
+ghost use Rattle.form_text.specs.Numerals.{numeral};
 ghost use Rattle.plan_check.specs.Derivations.{step_of};
 ghost use Rattle.plan_check.specs.Printed.{goal_text, step_text, terms_text};
 ghost use Rattle.plan_certificate.specs.Certificates.{proof_text, step_line_of, steps_text, term_line_of};

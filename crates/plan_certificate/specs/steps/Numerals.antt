@@ -1,7 +1,7 @@
 -- Texts with a number behind them.
 use Rattle.std.specs.Prelude.{ℕ, ◌++◌, codes}
 use Rattle.scop_lexer.specs.Bytes.{Text}
-use Rattle.schedule_lines.specs.Lines.{numeral}
+use Rattle.form_text.specs.Numerals.{numeral}
 use Rattle.plan_check.specs.Text.{TermLine}
 
 -- a number behind a text

@@ -1,7 +1,7 @@
 -- What is formatted is the numeral.
 use Rattle.scop_syntax.proofs.Common.{rules, ◌≡◌, ◌++◌, sym, subst, arith, ℕ, List, OnOk}
-use Rattle.schedule_lines.specs.Lines.{numeral}
-use Rattle.plan_certificate.proofs.NumeralTexts.{decimal_is_numeral}
+use Rattle.form_text.specs.Numerals.{numeral}
+use Rattle.form_text.proofs.Numerals.{decimal_is_numeral}
 use Rattle.plan_certificate.proofs.certificate_lines.push_numeral.Goals as goal
 
 pub returns : goal.returns
