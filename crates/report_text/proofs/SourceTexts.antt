@@ -1,9 +1,9 @@
 -- The text of the sources of a kernel's reads is read in one way.
-use Rattle.scop_syntax.proofs.Common.{◌≡◌, ◌∙◌, ap, sym, subst, refl, ℕ, zero, suc, ◌+◌, ◌^◌, ◌<◌, ◌≤◌, List, [], ◌∷◌}
+use Rattle.scop_syntax.proofs.Common.{◌≡◌, ◌∙◌, ap, sym, subst, refl, ℕ, zero, suc, ◌+◌, ◌^◌, ◌<◌, List, [], ◌∷◌}
 use Rattle.scop_syntax.proofs.Common.{◌++◌, drop, get_or, length, arith, append_assoc, append-nil, decimal, Option}
-use Rattle.scop_syntax.proofs.Common.{Some, None, ◌≢◌, All, codes, slice_get, append_cancel_left, length-map, IsKernel}
-use Rattle.scop_syntax.proofs.Common.{IsPlaced, ranks_of, In, Placed, placed_all, in_guard_of, loops_in, statements_of}
-use Rattle.scop_syntax.proofs.Common.{Program, guard, in_from_place, in_map_from, length-placed}
+use Rattle.scop_syntax.proofs.Common.{Some, None, ◌≢◌, All, codes, slice_get, append_cancel_left, IsKernel}
+use Rattle.scop_syntax.proofs.Common.{IsPlaced, ranks_of, In, Placed, loops_in, statements_of}
+use Rattle.scop_syntax.proofs.Common.{Program, in_from_place, in_map_from}
 use Rattle.std.proofs.lemmas.List.{length-append}
 use Rattle.scop_lexer.specs.Bytes.{Text}
 use Rattle.scop_lexer.specs.Words.{IsName}
@@ -25,21 +25,30 @@ use Rattle.quast_trees.specs.Tree.{Tree}
 use Rattle.quast_text.specs.Reading.{AreOuter, IsTellable}
 use Rattle.quast_text.specs.Text.{quast_text}
 use Rattle.report_text.proofs.VariableNames.{outer_names}
-use Rattle.quast_text.proofs.Numbers.{one_number}
+use Rattle.form_text.proofs.Digits.{EndsDigits, one_number}
+use Rattle.form_text.proofs.Numerals.{decimal_is_numeral}
 
 -- the laws of quasts' texts
 pub record QuastLaws : Type 0 where
-  pub one : (loops : List (List ℕ)) (outer : List Text) (t u : Tree) (x y : Text) → length loops ≤ 2 ^ 64
-      → AreOuter outer → IsTellable loops (length outer) 0 t → IsTellable loops (length outer) 0 u
+  pub one : (loops : List (List ℕ)) (outer : List Text) (t u : Tree) (x y : Text)
+      → AreOuter outer → IsTellable loops (length outer) t → IsTellable loops (length outer) u
       → quast_text outer 0 t ++ x ≡ quast_text outer 0 u ++ y → (t ≡ u) × (x ≡ y)
   pub first : (loops : List (List ℕ)) (outer : List Text) (t : Tree) (x : Text)
-      → IsTellable loops (length outer) 0 t → get_or (quast_text outer 0 t ++ x) 0 0 ≢ 117
+      → IsTellable loops (length outer) t → get_or (quast_text outer 0 t ++ x) 0 0 ≢ 117
 
 -- the byte at a place
 abbrev byte : ℕ → Text → ℕ
 byte k t = get_or t k 0
 
 -- ---- unresolved reads
+
+-- two decimals of 128 bits with one text in front of what no digit begins are one
+one_decimal : (m n : ℕ) (r s : Text) → m < 2 ^ 128 → n < 2 ^ 128 → EndsDigits r → EndsDigits s
+    → decimal m ++ r ≡ decimal n ++ s → (m ≡ n) × (r ≡ s)
+one_decimal m n r s a b c d e =
+    one_number m n r s c d
+    (ap (λ (t : Text). t ++ r) (sym (decimal_is_numeral m (omega (arith, a))))
+    ∙ (e ∙ ap (λ (t : Text). t ++ s) (decimal_is_numeral n (omega (arith, b)))))
 
 one_solver : (a b : solver.the_data) (x y : Text) → IsToldStop a → IsToldStop b
     → solver_text a ++ 10 ∷ x ≡ solver_text b ++ 10 ∷ y → StopAlike a b × (x ≡ y)
@@ -52,7 +61,7 @@ one_solver (solver.Wide p i) (solver.Spent q j) x y h g e =
 one_solver (solver.Spent p i) (solver.Wide q j) x y h g e =
     let same : 115 ≡ 119 = ap (byte 11) e in absurd (omega (arith, same))
 one_solver (solver.Spent p i) (solver.Spent q j) x y h g e =
-    let t = one_number i j (10 ∷ x) (10 ∷ y) (omega (arith, h)) (omega (arith, g)) refl refl (ap (drop 17) e) in
+    let t = one_decimal i j (10 ∷ x) (10 ∷ y) (omega (arith, h)) (omega (arith, g)) refl refl (ap (drop 17) e) in
     (t.0, ap (drop 1) t.1)
 
 -- a problem's stop is told otherwise than a join's
@@ -69,7 +78,7 @@ one_stop model n (stop.Solver a) (stop.Solver b) x y h g e = one_solver a b x y 
 one_stop model n (stop.Solver a) (stop.Join j) x y h g e = absurd (no_join a j (10 ∷ x) (10 ∷ y) h e)
 one_stop model n (stop.Join i) (stop.Solver b) x y h g e = absurd (no_join b i (10 ∷ y) (10 ∷ x) g (sym e))
 one_stop model n (stop.Join i) (stop.Join j) x y h g e =
-    let t = one_number i j (10 ∷ x) (10 ∷ y) h g refl refl (ap (drop 17) e) in
+    let t = one_decimal i j (10 ∷ x) (10 ∷ y) h g refl refl (ap (drop 17) e) in
     (t.0, ap (drop 1) t.1)
 
 stop_first : (model : KernelModel) (n : ℕ) (a : SourceStop) (x : Text) → IsToldOver model n (source.Unresolved a)
@@ -82,23 +91,23 @@ stop_first model n (stop.Join i) x h = refl
 -- ---- sources
 
 -- a quast over as many variables as there are names
-over : (model : KernelModel) (n m : ℕ) (t : Tree) → n ≡ m → IsQuastOver model n t → IsTellable (loops_of model) m 0 t
-over model n m t e h = subst (λ i. IsTellable (loops_of model) i 0 t) e (tellable model n t h)
+over : (model : KernelModel) (n m : ℕ) (t : Tree) → n ≡ m → IsQuastOver model n t → IsTellable (loops_of model) m t
+over model n m t e h = subst (λ i. IsTellable (loops_of model) i t) e (tellable model n t h.speaks h.leaves)
 
 one_source_text : (laws : QuastLaws) (model : KernelModel) (outer : List Text) (n : ℕ) (a b : ReadSource)
-    (x y : Text) → length (loops_of model) ≤ 2 ^ 64 → AreOuter outer → n ≡ length outer → IsToldOver model n a
+    (x y : Text) → AreOuter outer → n ≡ length outer → IsToldOver model n a
     → IsToldOver model n b → source_text outer a ++ 10 ∷ x ≡ source_text outer b ++ 10 ∷ y → SaySame a b × (x ≡ y)
-one_source_text laws model outer n (source.Resolved q) (source.Resolved r) x y few o count h g e =
-    let t = laws.one (loops_of model) outer (tree_of q) (tree_of r) (10 ∷ x) (10 ∷ y) few o
+one_source_text laws model outer n (source.Resolved q) (source.Resolved r) x y o count h g e =
+    let t = laws.one (loops_of model) outer (tree_of q) (tree_of r) (10 ∷ x) (10 ∷ y) o
     (over model n (length outer) (tree_of q) count h) (over model n (length outer) (tree_of r) count g) e in
     (t.0, ap (drop 1) t.1)
-one_source_text laws model outer n (source.Resolved q) (source.Unresolved b) x y few o count h g e =
+one_source_text laws model outer n (source.Resolved q) (source.Unresolved b) x y o count h g e =
     absurd (laws.first (loops_of model) outer (tree_of q) (10 ∷ x) (over model n (length outer) (tree_of q) count h)
     (ap (byte 0) e ∙ stop_first model n b (10 ∷ y) g))
-one_source_text laws model outer n (source.Unresolved a) (source.Resolved r) x y few o count h g e =
+one_source_text laws model outer n (source.Unresolved a) (source.Resolved r) x y o count h g e =
     absurd (laws.first (loops_of model) outer (tree_of r) (10 ∷ y) (over model n (length outer) (tree_of r) count g)
     (sym (ap (byte 0) e) ∙ stop_first model n a (10 ∷ x) h))
-one_source_text laws model outer n (source.Unresolved a) (source.Unresolved b) x y few o count h g e =
+one_source_text laws model outer n (source.Unresolved a) (source.Unresolved b) x y o count h g e =
     one_stop model n a b x y h g e
 
 -- ---- lines
@@ -121,15 +130,6 @@ few_loops program k s laws e =
     let count = laws.loops from.0 from.1 in
     let few = (laws.placed from.0 from.1).few_loops in
     omega (arith, same, count, few)
-
-few_statements : (program : Program) → StatementLaws program → length (loops_of (model_of program)) ≤ 2 ^ 64
-few_statements program laws =
-    let d = length-map (model_of program).statements (λ s. s.loops) in
-    let a = length-map (statements_of program) (modelled (length program.parameters)) in
-    let b = length-placed (guard [] program.body) 0 in
-    let c = length-map (placed_all program.body 0) (in_guard_of []) in
-    let few = laws.kernel.few_statements in
-    omega (arith, a, b, c, d, few)
 
 length_turns : (d : ℕ) → length (turn_names d) ≡ d
 length_turns zero = refl
@@ -159,7 +159,7 @@ one_line quasts program i k (Some s) a b x y laws here h g e =
     let parts = λ (c : ReadSource) (z : Text). line_parts (codes "S") number (codes " read ") (decimal k) (codes " ")
     array (codes ": ") (source_text names c) (codes "\n") z in
     one_source_text quasts (model_of program) names (length program.parameters + length s.loops) a b x y
-    (few_statements program laws) outer (omega (arith, both, turns)) h g
+    outer (omega (arith, both, turns)) h g
     (append_cancel_left head (source_text names a ++ 10 ∷ x) (source_text names b ++ 10 ∷ y)
     (sym (parts a x) ∙ (e ∙ parts b y)))
 

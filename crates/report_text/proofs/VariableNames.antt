@@ -6,11 +6,12 @@ use Rattle.scop_syntax.proofs.Common.{Declaration, Program, in_front}
 use Rattle.scop_lexer.specs.Bytes.{Text, is_letter}
 use Rattle.scop_lexer.specs.Words.{IsName}
 use Rattle.scop_parser.specs.DistinctNames.{HasDistinctNames, header_names}
-use Rattle.form_text.specs.Names.{IsFresh, AreNames}
-use Rattle.form_text.proofs.Names.{fresh_append, variable_name}
+use Rattle.form_text.specs.Names.{AreNameBytes, IsFresh, AreNames}
+use Rattle.form_text.proofs.Names.{fresh_append, numeral_bytes, variable_name}
+use Rattle.form_text.proofs.Numerals.{decimal_is_numeral}
 use Rattle.quast_text.specs.Text.{bound_name}
 use Rattle.quast_text.specs.Reading.{AreOuter}
-use Rattle.quast_text.proofs.Names.{fresh_behind, names_behind, decimal_bytes}
+use Rattle.quast_text.proofs.Names.{fresh_behind, names_behind}
 use Rattle.report_text.specs.DepsText.{turn_name, turn_names}
 
 -- ---- words
@@ -63,7 +64,7 @@ turns_told names zero told w a = subst AreNames (sym (append-nil names)) told
 turns_told names (suc d) told w a =
     subst AreNames (append_assoc names (turn_names d) (turn_name (suc d) ∷ []))
     (names_behind (names ++ turn_names d) (turn_name (suc d)) (turns_told names d told w (omega (arith, a)))
-    (refl, decimal_bytes (suc d) a)
+    (refl, subst AreNameBytes (sym (decimal_is_numeral (suc d) (omega (arith, a)))) (numeral_bytes (suc d)))
     (fresh_append (turn_name (suc d)) names (turn_names d)
     (marked_is_fresh 36 (decimal (suc d)) names refl w) (turn_fresh (suc d) d a (omega arith))))
 
