@@ -1,11 +1,12 @@
 //! Callers of the texts of forms: terms at numbers, readings, and the laws over no names.
-ghost use Rattle.std.specs.Prelude.{◌≡◌, ◌++◌, ◌<◌, ◌^◌, [], ℕ, IfOk, OnOk, Some, codes, decimal, false, map};
+ghost use Rattle.std.specs.Prelude.{◌≡◌, ◌++◌, [], ℕ, IfOk, OnOk, Some, codes, false, map, option_map};
 ghost use Rattle.whole_numbers.specs.Affine.{Affine, form_of};
 ghost use Rattle.scop_lexer.specs.Bytes.{Text};
 ghost use Rattle.form_text.specs.Forms.{form_text};
 ghost use Rattle.form_text.specs.Names.{IsFormOver};
+ghost use Rattle.form_text.specs.Numerals.{numeral};
 ghost use Rattle.form_text.specs.Reading.{EndsForm, read_form, strip};
-ghost use Rattle.form_text.specs.View.{form_in, text_in};
+ghost use Rattle.form_text.specs.View.{form_in, nearest_form, text_in};
 
 use form_text::{
     FormRead, forms_are_read_back, forms_end_before, put_constant, put_form, put_term, read_form,
@@ -53,7 +54,7 @@ pub fn number_in_front<'a>(text: &'a [u8]) -> (u128, &'a [u8])
 
 /// The form over no names in front of a text, by the clause of `read_form`.
 pub fn number_read<'a>(alloc: Global, text: &'a [u8]) -> Result<Option<FormRead<'a>>, AllocError>
-    ensures { IfOk result (λ r. form_in r ≡ read_form [] text.now) }
+    ensures { IfOk result (λ r. form_in r ≡ option_map nearest_form (read_form [] text.now)) }
 {
     read_form(alloc, &[], text)
 }
@@ -84,7 +85,7 @@ pub fn numbers_end_before()
     ensures bracket { EndsForm (codes "]") }
     ensures semicolon { EndsForm (codes ";") }
     ensures divisor { EndsForm (codes " / ") }
-    ensures multiple { (d : ℕ) → d < 2 ^ 128 → EndsForm (codes " - " ++ decimal d ++ codes "*pp_floord(" ++ codes "i") }
+    ensures multiple { (d : ℕ) → EndsForm (codes " - " ++ numeral d ++ codes "*pp_floord(" ++ codes "i") }
 {
     forms_end_before();
 }

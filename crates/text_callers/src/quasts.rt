@@ -25,9 +25,9 @@ use report_text::{
 /// Two quasts over no names with one text are one, by `one` of `texts_are_of_one_quast`; none begins as `unresolved`, by
 /// `first`.
 pub fn texts_over_no_names()
-    ensures one { (t u : Tree) (x y : Text) → IsTellable [] 0 0 t → IsTellable [] 0 0 u
+    ensures one { (t u : Tree) (x y : Text) → IsTellable [] 0 t → IsTellable [] 0 u
         → quast_text [] 0 t ++ x ≡ quast_text [] 0 u ++ y → t ≡ u }
-    ensures first { (t : Tree) (x : Text) → IsTellable [] 0 0 t → get_or (quast_text [] 0 t ++ x) 0 0 ≢ 117 }
+    ensures first { (t : Tree) (x : Text) → IsTellable [] 0 t → get_or (quast_text [] 0 t ++ x) 0 0 ≢ 117 }
 {
     texts_are_of_one_quast();
 }
