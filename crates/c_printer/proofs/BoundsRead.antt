@@ -8,16 +8,17 @@ use Rattle.scop_lexer.specs.Bytes.{Text}
 use Rattle.loop_tree.specs.Tree.{Bound, Bounds, only, besides}
 use Rattle.form_text.specs.Names.{AreNames}
 use Rattle.form_text.specs.Reading.{strip, when, term_in_front, EndsForm}
-use Rattle.form_text.proofs.Digits.{Clean, clean_of, EndsDigits, decimal_number, decimal_behind}
+use Rattle.form_text.proofs.Digits.{Clean, clean_of, EndsDigits, numeral_number, numeral_behind}
 use Rattle.form_text.proofs.Calls.{IsCall, strip_front, form_no_call, name_bytes_by}
 use Rattle.form_text.proofs.Ends.{ends_parenthesis}
+use Rattle.form_text.proofs.Numerals.{decimal_is_numeral}
 use Rattle.c_printer.specs.Forms.{turned, tree_form_text}
 use Rattle.c_printer.specs.Statements.{between}
 use Rattle.c_printer.specs.Nodes.{is_one, bound_text, bounds_text, divisor_text, lower_text, upper_text}
 use Rattle.c_printer.specs.Reading.{bound, read_divisor, divided_bound, bound_at, read_bound}
 use Rattle.c_printer.specs.Reading.{chosen_bounds, bounds_at, read_bounds, read_lower, read_upper}
 use Rattle.c_printer.specs.Printable.{IsTreeForm, IsDivisor, IsBound, AreBounds}
-use Rattle.c_printer.proofs.FormsRead.{tree_form_back, turned_is_over}
+use Rattle.c_printer.proofs.FormsRead.{tree_form_back}
 
 -- a text between two others, and what stands behind all
 pub between_front : (a b c rest : Text) → between a b c ++ rest ≡ a ++ (b ++ (c ++ rest))
@@ -29,7 +30,7 @@ pub comma_ends : (rest : Text) → EndsForm (codes ", " ++ rest)
 unfolding term_in_front
 comma_ends rest = record { factor = refl; term = refl }
 
-pub small_divisor : (m : ℕ) → m < 2 ^ 63 → m < 2 ^ 128
+pub small_divisor : (m : ℕ) → m < 2 ^ 63 → m < 10 ^ 64
 small_divisor m h = omega (arith, h)
 
 pub divisor_back : (d : ℤ) (rest : Text) → IsDivisor d → EndsDigits rest
@@ -37,20 +38,19 @@ pub divisor_back : (d : ℤ) (rest : Text) → IsDivisor d → EndsDigits rest
 unfolding read_divisor
 divisor_back (pos m) rest h c =
     rw (
-      decimal_number m rest (small_divisor m h.1) c,
-      decimal_behind m rest (small_divisor m h.1) c,
+      decimal_is_numeral m (small_divisor m h.1),
+      numeral_number m rest c,
+      numeral_behind m rest c,
       le-leb 1 m h.0,
       lt-ltb m (2 ^ 63) h.1,
     ) refl
 divisor_back (negsuc m) rest h c = absurd h
 
 -- a form of the tree is no call
-pub tree_form_no_call : (call : Text) (parameters loops : ℕ) (names : List Text) (form : Affine) (rest : Text)
-    → IsCall call → AreNames names → length names ≡ loops + parameters → IsTreeForm parameters loops form → Clean rest
-    → strip call (tree_form_text names loops form ++ rest) ≡ None
-tree_form_no_call call parameters loops names form rest i n count f c =
-    form_no_call call names (form_of (turned loops form.coefficients) form.constant) rest i n
-    (turned_is_over parameters loops (length names) form count f) c
+tree_form_no_call : (call : Text) (loops : ℕ) (names : List Text) (form : Affine) (rest : Text) → IsCall call
+    → AreNames names → Clean rest → strip call (tree_form_text names loops form ++ rest) ≡ None
+tree_form_no_call call loops names form rest i n c =
+    form_no_call call names (form_of (turned loops form.coefficients) form.constant) rest i n c
 
 -- what a bound's two calls are
 pub record AreCalls (divided chosen : Text) : Type 0 where
@@ -109,7 +109,7 @@ bound_is : (one : Bool) (divided : Text) (parameters loops : ℕ) (names : List 
 unfolding read_bound
 bound_is true divided parameters loops names form d rest e i n count f h c =
     ap (bound_at parameters names (tree_form_text names loops form ++ rest))
-    (tree_form_no_call divided parameters loops names form rest i n count f (clean_of rest c.factor))
+    (tree_form_no_call divided loops names form rest i n (clean_of rest c.factor))
     ∙ (ap (λ o. when o (λ (r : Affine × Text). Some (bound r.0 (pos 1), r.1)))
     (tree_form_back parameters loops names form rest n count f c)
     ∙ ap (λ x. Some (bound form x, rest)) (sym (one_is d e)))
@@ -123,14 +123,13 @@ bound_back : (divided : Text) (parameters loops : ℕ) (names : List Text) (b : 
 bound_back divided parameters loops names b rest i n count h c =
     bound_is (is_one b.divisor) divided parameters loops names b.form b.divisor rest refl i n count h.0 h.1 c
 
-bound_not_chosen : (one : Bool) (divided chosen : Text) (parameters loops : ℕ) (names : List Text) (form : Affine)
-    (d : ℤ) (rest : Text) → AreCalls divided chosen → AreNames names → length names ≡ loops + parameters
-    → IsTreeForm parameters loops form → Clean rest
+bound_not_chosen : (one : Bool) (divided chosen : Text) (loops : ℕ) (names : List Text) (form : Affine) (d : ℤ)
+    (rest : Text) → AreCalls divided chosen → AreNames names → Clean rest
     → strip chosen ((if one then tree_form_text names loops form
     else between divided (tree_form_text names loops form) (divisor_text d)) ++ rest) ≡ None
-bound_not_chosen true divided chosen parameters loops names form d rest i n count f c =
-    tree_form_no_call chosen parameters loops names form rest i.choice n count f c
-bound_not_chosen false divided chosen parameters loops names form d rest i n count f c =
+bound_not_chosen true divided chosen loops names form d rest i n c =
+    tree_form_no_call chosen loops names form rest i.choice n c
+bound_not_chosen false divided chosen loops names form d rest i n c =
     ap (strip chosen) (divided_front divided (tree_form_text names loops form) d rest)
     ∙ i.apart (tree_form_text names loops form ++ (codes ", " ++ (signed_decimal d ++ (codes ")" ++ rest))))
 
@@ -151,7 +150,7 @@ bounds_back zero divided chosen parameters loops names (besides b bs) rest i n c
 bounds_back (suc k) divided chosen parameters loops names (only b) rest i n count h less c =
     ap (bounds_at (read_bounds k divided chosen parameters names) divided parameters names
     (bound_text divided names loops b ++ rest))
-    (bound_not_chosen (is_one b.divisor) divided chosen parameters loops names b.form b.divisor rest i n count h.0
+    (bound_not_chosen (is_one b.divisor) divided chosen loops names b.form b.divisor rest i n
     (clean_of rest c.factor))
     ∙ ap (λ o. when o (λ (r : Bound × Text). Some (only r.0, r.1)))
     (bound_back divided parameters loops names b rest i.division n count h c)

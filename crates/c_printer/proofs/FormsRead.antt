@@ -1,48 +1,20 @@
 -- Forms of a tree, in the order of the text and back, and turns from forms of iterators are read back.
-use Rattle.scop_syntax.proofs.Common.{◌≡◌, ◌∙◌, ap, ap₂, subst, refl, ℕ, zero, suc, ◌+◌, ◌^◌, ◌≤◌, Bool, true, pos}
+use Rattle.scop_syntax.proofs.Common.{◌≡◌, ◌∙◌, ap, ap₂, subst, refl, ℕ, zero, suc, ◌+◌, ◌≤◌, Bool, true, pos}
 use Rattle.scop_syntax.proofs.Common.{List, [], ◌∷◌, ◌++◌, length, take, drop, arith, ℤ, negsuc, neg_ℤ, ◌+ℤ◌, ◌-ℤ◌}
-use Rattle.scop_syntax.proofs.Common.{◌*ℤ◌, ◌<ℤ◌, Some, None, if◌then◌else◌, unsigned_abs, ltb-true, ints, length-drop}
+use Rattle.scop_syntax.proofs.Common.{◌*ℤ◌, ◌<ℤ◌, Some, None, if◌then◌else◌, unsigned_abs, ints, length-drop}
 use Rattle.scop_syntax.proofs.Common.{length-take-le, take-append-drop, take-append_seam, drop-append_seam, Affine}
-use Rattle.scop_syntax.proofs.Common.{form_of, fits, floor, sums, multiples, zeros, length-zeros, floor_is}
+use Rattle.scop_syntax.proofs.Common.{form_of, floor, sums, multiples, zeros, length-zeros, floor_is}
 use Rattle.scop_syntax.proofs.Common.{floor_unique, mul_comm_int, mul_neg_left, Head}
-use Rattle.std.proofs.Common.{lt-ltb}
 use Rattle.std.proofs.lemmas.List.{length-append}
 use Rattle.scop_lexer.specs.Bytes.{Text}
 use Rattle.form_text.specs.Forms.{form_text}
-use Rattle.form_text.specs.Names.{AreNames, AllFit, IsFormOver}
+use Rattle.form_text.specs.Names.{AreNames, IsFormOver}
 use Rattle.form_text.specs.Reading.{EndsForm, when}
 use Rattle.form_text.proofs.Forms.{form_back}
-use Rattle.form_text.proofs.Terms.{left_true, right_true}
 use Rattle.c_printer.specs.Forms.{turned, tree_form_text, spread, iterator_form, loop_names, loop_name}
-use Rattle.c_printer.specs.Reading.{is_narrow, are_narrow, is_narrow_form, narrowed, turned_back, read_tree_form}
+use Rattle.c_printer.specs.Reading.{is_narrow_form, narrowed, turned_back, read_tree_form}
 use Rattle.c_printer.specs.Reading.{quotient, quotients, turn_of, read_turn}
 use Rattle.c_printer.specs.Printable.{IsTreeForm}
-
--- numbers of 64 bits have 128
-narrow_fits : (z : ℤ) → is_narrow z ≡ true → fits z ≡ true
-narrow_fits (pos n) h = lt-ltb n (2 ^ 127) (let l = ltb-true n (2 ^ 63) h in omega (arith, l))
-narrow_fits (negsuc n) h = lt-ltb n (2 ^ 127) (let l = ltb-true n (2 ^ 63) h in omega (arith, l))
-
-pub narrow_all_fit : (cs : List ℤ) → are_narrow cs ≡ true → AllFit cs
-narrow_all_fit [] h = tt
-narrow_all_fit (c ∷ cs) h = (
-  narrow_fits c (left_true (is_narrow c) (are_narrow cs) h),
-  narrow_all_fit cs (right_true (is_narrow c) (are_narrow cs) h),
-)
-
-fit_take : (n : ℕ) (cs : List ℤ) → AllFit cs → AllFit (take n cs)
-fit_take zero cs h = tt
-fit_take (suc n) [] h = tt
-fit_take (suc n) (c ∷ cs) h = (h.0, fit_take n cs h.1)
-
-fit_drop : (n : ℕ) (cs : List ℤ) → AllFit cs → AllFit (drop n cs)
-fit_drop zero cs h = h
-fit_drop (suc n) [] h = tt
-fit_drop (suc n) (c ∷ cs) h = fit_drop n cs h.1
-
-fit_append : (cs ds : List ℤ) → AllFit cs → AllFit ds → AllFit (cs ++ ds)
-fit_append [] ds h g = g
-fit_append (c ∷ cs) ds h g = (h.0, fit_append cs ds h.1 g)
 
 pub length_turned : (n : ℕ) (cs : List ℤ) → length (turned n cs) ≡ length cs
 length_turned n cs =
@@ -65,21 +37,13 @@ turned_turns_back parameters loops cs h =
 narrow_passes : (form : Affine) (rest : Text) → is_narrow_form form ≡ true → narrowed form rest ≡ Some (form, rest)
 narrow_passes form rest h = ap (λ (t : Bool). if t then Some (form, rest) else None) h
 
-pub turned_is_over : (parameters loops n : ℕ) (form : Affine) → n ≡ loops + parameters
+turned_is_over : (parameters loops n : ℕ) (form : Affine) → n ≡ loops + parameters
     → IsTreeForm parameters loops form
     → IsFormOver n (form_of (turned loops form.coefficients) form.constant)
 turned_is_over parameters loops n form count f =
-    let all = narrow_all_fit form.coefficients
-    (right_true (is_narrow form.constant) (are_narrow form.coefficients) f.narrow) in
     let l = length_turned loops form.coefficients in
     let e = f.entries in
-    record {
-      entries = omega (arith, l, e, count);
-      coefficients = fit_append (drop loops form.coefficients) (take loops form.coefficients)
-          (fit_drop loops form.coefficients all) (fit_take loops form.coefficients all);
-      constant = narrow_fits form.constant
-          (left_true (is_narrow form.constant) (are_narrow form.coefficients) f.narrow);
-    }
+    omega (arith, l, e, count)
 
 -- a form of the tree is read back
 pub tree_form_back : (parameters loops : ℕ) (names : List Text) (form : Affine) (rest : Text) → AreNames names

@@ -7,8 +7,10 @@ use Rattle.scop_lexer.specs.Bytes.{Text}
 use Rattle.loop_tree.specs.Tree.{instance}
 use Rattle.form_text.specs.Forms.{form_text}
 use Rattle.form_text.specs.Names.{IsFresh, AreNames, IsFormOver}
+use Rattle.form_text.specs.Numerals.{numeral}
 use Rattle.form_text.specs.Reading.{strip, when, behind_digits, term_in_front, EndsForm}
-use Rattle.form_text.proofs.Digits.{decimal_number, decimal_behind}
+use Rattle.form_text.proofs.Digits.{numeral_number, numeral_behind}
+use Rattle.form_text.proofs.Numerals.{decimal_is_numeral}
 use Rattle.form_text.proofs.Calls.{strip_front}
 use Rattle.c_printer.specs.Forms.{names_in, loop_names, iterator_form}
 use Rattle.c_printer.specs.Naming.{iterators_of}
@@ -108,9 +110,10 @@ instance_back program loops n turns rest i number told a =
     let names = names_in program.parameters loops in
     let said = body_text program names loops (slice_get (standings_of program) n) turns ++ (codes "; }\n" ++ rest) in
     let text = codes " */ " ++ said in
-    let low : suc n < 2 ^ 128 = omega (arith, number) in
-    ap (λ m. instance_at program names loops m (behind_digits (decimal (suc n) ++ text)))
-    (decimal_number (suc n) text low refl)
-    ∙ (ap (instance_at program names loops (suc n)) (decimal_behind (suc n) text low refl)
+    ap (λ (t : Text). read_instance program names loops (t ++ text))
+    (decimal_is_numeral (suc n) (omega (arith, number)))
+    ∙ (ap (λ m. instance_at program names loops m (behind_digits (numeral (suc n) ++ text)))
+    (numeral_number (suc n) text refl)
+    ∙ (ap (instance_at program names loops (suc n)) (numeral_behind (suc n) text refl)
     ∙ body_back program loops n i.standing turns rest (slice_get (standings_of program) n) (sym i.stands) told a
-    i.turned)
+    i.turned))

@@ -1,8 +1,8 @@
 -- Distinct words that do not begin with `pp_` are told apart from the iterators of emitted loops.
-use Rattle.scop_syntax.proofs.Common.{◌≡◌, ◌∙◌, ap, sym, subst, refl, ℕ, zero, suc, ◌+◌, ◌%◌, ◌^◌, ◌<◌, ◌≤◌, List, []}
+use Rattle.scop_syntax.proofs.Common.{◌≡◌, ◌∙◌, ap, sym, subst, refl, ℕ, zero, suc, ◌+◌, ◌^◌, ◌<◌, ◌≤◌, List, []}
 use Rattle.scop_syntax.proofs.Common.{◌∷◌, ◌++◌, pos, decimal, length, inl, inr, append-nil, arith, ℤ, negsuc, ◌≢◌, ◌⊎◌}
 use Rattle.scop_syntax.proofs.Common.{◌≤ℤ◌, ⊤, codes, slice_get, unsigned_abs, Option, Some, None}
-use Rattle.scop_syntax.proofs.Common.{decimal_by_steps_wide, decimal_injective, ints, length-map, none-some, IsKernel}
+use Rattle.scop_syntax.proofs.Common.{decimal_injective, ints, length-map, none-some, IsKernel}
 use Rattle.scop_syntax.proofs.Common.{IsHead, IsTree, AreTrees, own, ranks_of, Placed, placed_all, in_guard_of, Head}
 use Rattle.scop_syntax.proofs.Common.{Tree, loop, guard, statement, Trees, none, more, Program, length-placed, Standing}
 use Rattle.scop_syntax.proofs.Common.{standing, heads_in, standings_of}
@@ -10,9 +10,8 @@ use Rattle.std.proofs.lemmas.List.{append_assoc, length-append}
 use Rattle.scop_lexer.specs.Bytes.{Text}
 use Rattle.form_text.specs.Names.{AreNameBytes, IsVariableName, IsFresh, AreNames}
 use Rattle.form_text.specs.Reading.{strip}
-use Rattle.form_text.proofs.Digits.{is_digit_of}
-use Rattle.form_text.proofs.Names.{bytes_append, fresh_append}
-use Rattle.form_text.proofs.Terms.{digit_is_byte}
+use Rattle.form_text.proofs.Names.{fresh_append, numeral_bytes}
+use Rattle.form_text.proofs.Numerals.{decimal_is_numeral}
 use Rattle.c_printer.specs.Forms.{loop_name, loop_names}
 use Rattle.scop_syntax.specs.steps.Gathered.{gathered, gathered_all}
 use Rattle.c_printer.specs.Naming.{iterators_of, IsFree, AreFree, TakesWords, TakeWords, HasWords}
@@ -23,10 +22,7 @@ use Rattle.c_printer.proofs.InstancesRead.{names_front}
 
 -- names of emitted loops
 decimal_bytes : (n : ℕ) → n < 10 ^ 64 → AreNameBytes (decimal n)
-decimal_bytes n h = decimal_by_steps_wide (λ m ds. AreNameBytes ds)
-    (λ m k. (digit_is_byte (48 + m) (is_digit_of m k), tt))
-    (λ m ds k g. bytes_append ds ((48 + m % 10) ∷ []) g
-    (digit_is_byte (48 + m % 10) (is_digit_of (m % 10) (omega arith)), tt)) n h
+decimal_bytes n h = subst AreNameBytes (sym (decimal_is_numeral n h)) (numeral_bytes n)
 
 loop_is_name : (d : ℕ) → d < 2 ^ 63 → IsVariableName (loop_name d)
 loop_is_name d h = (refl, (refl, (refl, decimal_bytes (suc d) (omega (arith, h)))))

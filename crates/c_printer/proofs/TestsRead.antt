@@ -1,12 +1,14 @@
 -- The tests of a guard are read back.
 use Rattle.scop_syntax.proofs.Common.{◌≡◌, ◌∙◌, ap, refl, ℕ, zero, suc, ◌+◌, ◌<◌, List, [], ◌∷◌, ◌++◌, length, arith, ℤ}
 use Rattle.scop_syntax.proofs.Common.{pos, negsuc, true, false, Some, None, codes, signed_decimal}
+use Rattle.std.specs.Prelude.{option_map}
 use Rattle.std.proofs.lemmas.List.{append_assoc}
 use Rattle.scop_lexer.specs.Bytes.{Text}
 use Rattle.loop_tree.specs.Tree.{Test, at_least, equal, multiple}
 use Rattle.form_text.specs.Names.{AreNames}
-use Rattle.form_text.specs.Reading.{strip, when, minus, term_in_front, EndsForm}
-use Rattle.form_text.proofs.Terms.{numeral}
+use Rattle.form_text.specs.Reading.{strip, when, minus, factor_in_front, term_in_front, EndsForm}
+use Rattle.form_text.proofs.Numerals.{decimal_is_numeral}
+use Rattle.form_text.proofs.Terms.{number_back}
 use Rattle.form_text.proofs.Ends.{ends_at_least, ends_equal}
 use Rattle.c_printer.specs.Forms.{tree_form_text}
 use Rattle.c_printer.specs.Statements.{between}
@@ -23,7 +25,9 @@ multiple_ends : (d : ℤ) (rest : Text) → IsDivisor d
 unfolding term_in_front
 multiple_ends (pos m) rest h = record {
   factor = refl;
-  term = ap (λ o. when o minus) (numeral m (codes "*pp_floord(" ++ rest) (small_divisor m h.1) refl refl);
+  term = ap (λ (t : Text). option_map minus (factor_in_front (t ++ (codes "*pp_floord(" ++ rest))))
+      (decimal_is_numeral m (small_divisor m h.1))
+      ∙ ap (option_map minus) (number_back m (codes "*pp_floord(" ++ rest) refl);
 }
 multiple_ends (negsuc m) rest h = absurd h
 

@@ -1,8 +1,9 @@
 //! Reads the forms of an emitted text.
 
-ghost use Rattle.std.specs.Prelude.{◌≡◌, ◌≤ℤ◌, ◌-ℤ◌, ◌^◌, ℤ, pos, map, option_map, take, IfOk};
-ghost use Rattle.whole_numbers.specs.Affine.{form_of};
+ghost use Rattle.std.specs.Prelude.{◌≡◌, ◌≤ℤ◌, ◌-ℤ◌, ◌^◌, ℤ, List, pos, map, option_map, take, IfOk};
+ghost use Rattle.whole_numbers.specs.Affine.{Affine, form_of};
 ghost use Rattle.whole_numbers.specs.Floor.{floor};
+ghost use Rattle.form_text.specs.View.{nearest};
 ghost use Rattle.c_printer.specs.steps.View.{form_in};
 ghost use Rattle.c_printer.specs.steps.Reading.{form_from, narrow, narrow_list, turn_from};
 ghost use Rattle.c_printer.specs.Reading.{narrowed, quotient, quotients, read_tree_form, read_turn};
@@ -65,9 +66,9 @@ fn difference_over(greater: i128, less: i128, divisor: i128) -> Option<i64>
     }
 }
 
-/// What a number is above another, over a stride, where 64 bits hold it.
+/// What a number is above another, over a stride, where 64 bits hold it; the number is read as the nearest of 128 bits.
 fn quotient(stride: i64, start: i64, number: i128) -> Option<i64>
-    ensures { result ≡ narrow (quotient stride (number -ℤ start)) }
+    ensures { (z : ℤ) → number ≡ nearest z → result ≡ narrow (quotient stride (z -ℤ start)) }
 {
     let by = i128::from(stride);
     let first = i128::from(start);
@@ -80,7 +81,7 @@ fn quotient(stride: i64, start: i64, number: i128) -> Option<i64>
     Some(0)
 }
 
-/// What numbers are above others, over a stride, up to so many, where 64 bits hold each.
+/// What numbers that were read so are above others, over a stride, up to so many, where 64 bits hold each.
 fn quotients(
     alloc: Global,
     count: usize,
@@ -88,8 +89,8 @@ fn quotients(
     starts: &[i64],
     numbers: &[i128],
 ) -> Result<Option<Vec<i64>>, AllocError>
-    ensures { IfOk result (λ r. option_map (λ v. v.items) r
-        ≡ narrow_list (take count (quotients stride starts.now numbers.now))) }
+    ensures { IfOk result (λ r. (zs : List ℤ) → numbers.now ≡ map nearest zs → option_map (λ v. v.items) r
+        ≡ narrow_list (take count (quotients stride starts.now zs))) }
 {
     let mut all = Vec::new(alloc);
     for at in 0..count {
@@ -151,7 +152,6 @@ fn narrowed<'a>(
 }
 
 /// The form of the tree in front of a text.
-#[tactic(auto, unfolding(crate::specs::Reading::read_tree_form))]
 pub fn read_tree_form<'a>(
     alloc: Global,
     parameters: usize,
@@ -176,7 +176,6 @@ pub fn read_tree_form<'a>(
 }
 
 /// The turn at which a loop's iterator has this form, where 64 bits hold its numbers.
-#[tactic(auto, unfolding(crate::specs::steps::Reading::turn_from))]
 fn turn_of<'a>(
     alloc: Global,
     parameters: usize,
@@ -186,8 +185,8 @@ fn turn_of<'a>(
     constant: i128,
     rest: &'a [u8],
 ) -> Result<Option<Read<'a, Aff>>, AllocError>
-    ensures { IfOk result (λ r. form_in r
-        ≡ turn_from parameters loops head.now (form_of coefficients.now constant) rest.now) }
+    ensures { IfOk result (λ r. (form : Affine) → coefficients.now ≡ map nearest form.coefficients
+        → constant ≡ nearest form.constant → form_in r ≡ turn_from parameters loops head.now form rest.now) }
 {
     let starts = spread(alloc, parameters, loops, &head.first.coefficients)?;
     // no memory holds so many names
