@@ -1,4 +1,4 @@
--- Bytes of names in two parts, words and numerals as such bytes, and a name told apart from two lists.
+-- Words and numerals as bytes of names, and a name told apart from two lists.
 use Rattle.whole_numbers.proofs.Common.{◌≡◌, refl, ℕ, zero, suc, ◌+◌, arith, true, List, [], ◌∷◌, ◌++◌, list_all}
 use Rattle.whole_numbers.proofs.Common.{false≢true, and_parts}
 use Rattle.std.specs.Int.Digits.{digits_of, AllBelowBase}
@@ -11,10 +11,6 @@ use Rattle.form_text.specs.Numerals.{numeral}
 use Rattle.form_text.proofs.Digits.{is_digit_of}
 use Rattle.form_text.proofs.Numerals.{bytes_of}
 use Rattle.form_text.proofs.Terms.{digit_is_byte}
-
-pub bytes_append : (v w : Text) → AreNameBytes v → AreNameBytes w → AreNameBytes (v ++ w)
-bytes_append [] w h g = g
-bytes_append (b ∷ v) w h g = (h.0, bytes_append v w h.1 g)
 
 -- none of some, nor of others
 pub fresh_append : (name : Text) (xs ys : List Text) → IsFresh name xs → IsFresh name ys → IsFresh name (xs ++ ys)
