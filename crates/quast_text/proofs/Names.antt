@@ -1,5 +1,5 @@
 -- The names within `let`s are told apart.
-use Rattle.whole_numbers.proofs.Common.{◌≡◌, ap, sym, refl, ℕ, zero, suc, ◌<◌, List, [], ◌∷◌, ◌++◌, drop, arith, ◌≢◌}
+use Rattle.whole_numbers.proofs.Common.{ap, sym, refl, ℕ, zero, suc, ◌<◌, List, [], ◌∷◌, ◌++◌, drop, arith, ◌≢◌}
 use Rattle.scop_lexer.specs.Bytes.{Text}
 use Rattle.form_text.specs.Names.{IsVariableName, IsFresh, AreNames}
 use Rattle.form_text.proofs.Digits.{one_number}

@@ -1,5 +1,5 @@
 -- What the text of a quast tells, and the names over which it does.
-use Rattle.std.specs.Prelude.{◌≡◌, ℕ, suc, ◌+◌, pos, ◌≤ℤ◌, List, All, ⊤, Option, Some, None, slice_get}
+use Rattle.std.specs.Prelude.{◌≡◌, ℕ, ◌+◌, pos, ◌≤ℤ◌, List, All, ⊤, Option, Some, None, slice_get}
 use Rattle.scop_lexer.specs.Bytes.{Text}
 use Rattle.form_text.specs.Names.{AreNames, IsFresh, IsFormOver}
 use Rattle.quast_trees.specs.Source.{Source}
