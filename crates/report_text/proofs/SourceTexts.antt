@@ -1,7 +1,7 @@
 -- The text of the sources of a kernel's reads is read in one way.
 use Rattle.scop_syntax.proofs.Common.{◌≡◌, ◌∙◌, ap, sym, subst, refl, ℕ, zero, suc, ◌+◌, ◌^◌, ◌<◌, List, [], ◌∷◌}
 use Rattle.scop_syntax.proofs.Common.{◌++◌, drop, get_or, length, arith, append_assoc, append-nil, decimal, Option}
-use Rattle.scop_syntax.proofs.Common.{Some, None, ◌≢◌, All, codes, slice_get, append_cancel_left, IsKernel}
+use Rattle.scop_syntax.proofs.Common.{Some, None, ◌≢◌, All, codes, slice_get, append_cancel_left}
 use Rattle.scop_syntax.proofs.Common.{IsPlaced, ranks_of, In, Placed, loops_in, statements_of}
 use Rattle.scop_syntax.proofs.Common.{Program, in_from_place, in_map_from}
 use Rattle.std.proofs.lemmas.List.{length-append}
@@ -114,7 +114,6 @@ one_source_text laws model outer n (source.Unresolved a) (source.Unresolved b) x
 
 -- what is known of the statements of a kernel
 pub record StatementLaws (program : Program) : Type 0 where
-  pub kernel : IsKernel program
   pub distinct : HasDistinctNames program
   pub words : All IsName (header_names program)
   pub loops : (p : Placed) → In p (statements_of program) → length p.loops ≡ loops_in p.scopes

@@ -7,7 +7,6 @@ returns c = λ program a b kernel distinct words told other same.
       one = c.texts_are_of_one_quast.ensures.one;
       first = c.texts_are_of_one_quast.ensures.first;
     }) program a b (record {
-      kernel = kernel;
       distinct = distinct;
       words = words;
       loops = c.statements_are_numbered.ensures.loops program;
