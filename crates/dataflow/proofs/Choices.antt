@@ -1,5 +1,5 @@
 -- Of two answers that name places of the walk the join chooses that of the wanted place.
-use Rattle.dataflow.proofs.Common.{◌≡◌, ℕ, suc, ◌<◌, ◌≤◌, Bool, true, false, ℤ, pos, List, [], ◌∷◌, ◌++◌, length, take}
+use Rattle.dataflow.proofs.Common.{◌≡◌, ℕ, suc, ◌<◌, Bool, true, false, ℤ, pos, List, [], ◌∷◌, ◌++◌, length, take}
 use Rattle.dataflow.proofs.Common.{Option, Some, None, inl, inr, ◌⊎◌, ap, ap₂, subst, sym, ◌∙◌, refl, arith, slice_get}
 use Rattle.dataflow.proofs.Common.{nat_eq, if◌then◌else◌, ints, LexLess, nat_cases, Visit, Before, Leaf, found, by_sign}
 use Rattle.dataflow.proofs.Common.{AtMost, IsBest, better, answer, Names, IsOrdered}

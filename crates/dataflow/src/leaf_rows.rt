@@ -1,6 +1,6 @@
 //! The rows of a leaf: what is passed on the way to it, and that the writer's turns are its forms, over the turns of both
 //! instances, what is bound on the way, and the parameters.
-ghost use Rattle.std.specs.Prelude.{◌≡◌, ◌+◌, ◌<◌, ◌≤◌, ◌++◌, ◌∷◌, [], All, IfOk, OnOk, length, get_or, negsuc, pos, set};
+ghost use Rattle.std.specs.Prelude.{◌≡◌, ◌+◌, ◌<◌, ◌≤◌, ◌++◌, ◌∷◌, [], All, IfOk, OnOk, length, negsuc, pos, set};
 ghost use Rattle.std.specs.Prelude.{◌≤ℤ◌};
 ghost use Rattle.whole_numbers.specs.Affine.{complement, form_of};
 ghost use Rattle.whole_numbers.specs.Lists.{multiples};

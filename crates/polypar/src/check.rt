@@ -1,6 +1,5 @@
 //! The command `check`: whether what stands behind a kernel is the certificate of a plan of it.
 
-ghost use Rattle.std.specs.Prelude.{◌≡◌};
 ghost use Rattle.io_ports.specs.Writes.{SinkShows};
 ghost use Rattle.scop_syntax.specs.Kernel.{IsKernel};
 ghost use Rattle.scop_syntax.specs.View.{program_of};
