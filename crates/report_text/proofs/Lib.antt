@@ -1,5 +1,6 @@
 pub mod AppendedTexts
 pub mod DepsLemmas
+pub mod EvenText
 pub mod Lines
 pub mod ScheduleLemmas
 pub mod SourceTexts
