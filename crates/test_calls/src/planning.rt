@@ -36,6 +36,9 @@ const EVEN: &str = "void even(int64_t N, uint64_t A[2*N], uint64_t B[2*N]) {
 const PREFIX: &str = "void pre(int64_t N, uint64_t A[N]) {
     for (int64_t i = 1; i < N; i++) A[i] += A[i-1]; }";
 
+const BEHIND: &str = "void behind(int64_t N, uint64_t A[N+1], uint64_t B[N]) {
+    for (int64_t i = 0; i < N; i++) { B[i] = A[i]; A[i+1] = 5; } }";
+
 const SHIFT: &str = "void shift(int64_t N, uint64_t A[N]) {
     for (int64_t i = 0; i < N - 1; i++) A[i] = A[i+1]; }";
 
@@ -46,37 +49,70 @@ enum Which {
     Next,
 }
 
-/// A kernel, a read by its number among all, the value of its parameter, and of each turn of the reader the turn that
-/// wrote last, or none where the value is the initial one; or the turn that writes next behind it: `even` and `pre` write
-/// no cell behind a read of it.
-const WRITES: &[(&str, Which, usize, i128, &[Option<i128>])] = &[
-    (EVEN, Which::Last, 0, 2, &[Some(0), None, Some(1), None]),
+/// A statement, counted from 0, and a turn of the loop round it.
+type Write = (usize, i128);
+
+/// A kernel, a read by its number among all, the value of its parameter, and of each turn of the reader the write that
+/// came last, or none where the value is the initial one; or the write that comes next behind it: `even` and `pre`
+/// write no cell behind a read of it.
+const WRITES: &[(&str, Which, usize, i128, &[Option<Write>])] = &[
+    (
+        EVEN,
+        Which::Last,
+        0,
+        2,
+        &[Some((0, 0)), None, Some((0, 1)), None],
+    ),
     (PREFIX, Which::Last, 0, 4, &[None, None, None]),
-    (PREFIX, Which::Last, 1, 4, &[None, Some(0), Some(1)]),
+    (
+        PREFIX,
+        Which::Last,
+        1,
+        4,
+        &[None, Some((0, 0)), Some((0, 1))],
+    ),
+    (
+        BEHIND,
+        Which::Last,
+        0,
+        3,
+        &[None, Some((1, 0)), Some((1, 1))],
+    ),
     (EVEN, Which::Next, 0, 2, &[None, None, None, None]),
     (PREFIX, Which::Next, 0, 4, &[None, None, None]),
     (PREFIX, Which::Next, 1, 4, &[None, None, None]),
-    (SHIFT, Which::Next, 0, 4, &[Some(1), Some(2), None]),
+    (
+        SHIFT,
+        Which::Next,
+        0,
+        4,
+        &[Some((0, 1)), Some((0, 2)), None],
+    ),
 ];
 
-/// The turn of a leaf's instance; none where the value is the initial one.
-fn turn_of(leaf: Leaf) -> Option<i128> {
+/// Whether a leaf is that of a write, or of none.
+fn is_write(leaf: Leaf, want: Option<Write>) -> bool {
     match leaf {
-        Leaf::Initial => None,
-        Leaf::Found { source: _, values } => values.first().copied(),
+        Leaf::Initial => want.is_none(),
+        Leaf::Found { source, values } => match (source, want) {
+            (Some(source), Some((statement, turn))) => {
+                source.statement == statement && values.as_slice() == [turn].as_slice()
+            }
+            _ => false,
+        },
     }
 }
 
 /// Whether at each turn a source is as told.
-fn is_told(quast: &Quast, parameter: i128, turns: &[Option<i128>]) -> bool {
+fn is_told(quast: &Quast, parameter: i128, writes: &[Option<Write>]) -> bool {
     if quast.parameters() != 2 {
         return false;
     }
-    for turn in 0..turns.len() {
+    for turn in 0..writes.len() {
         match quast.value_at(&[parameter, turn as i128]) {
             Err(_) => return false,
             Ok(leaf) => {
-                if turn_of(leaf) != turns[turn] {
+                if !is_write(leaf, writes[turn]) {
                     return false;
                 }
             }
@@ -86,9 +122,14 @@ fn is_told(quast: &Quast, parameter: i128, turns: &[Option<i128>]) -> bool {
 }
 
 /// Whether a read's source among these is as told.
-fn is_among(sources: &[ReadSource], read: usize, parameter: i128, turns: &[Option<i128>]) -> bool {
+fn is_among(
+    sources: &[ReadSource],
+    read: usize,
+    parameter: i128,
+    writes: &[Option<Write>],
+) -> bool {
     match sources.get(read) {
-        Some(ReadSource::Resolved(quast)) => is_told(quast, parameter, turns),
+        Some(ReadSource::Resolved(quast)) => is_told(quast, parameter, writes),
         _ => false,
     }
 }
@@ -110,10 +151,10 @@ fn writes_of(alloc: Global, text: &str, which: Which) -> Result<Vec<ReadSource>,
 #[test]
 fn reads_have_these_last_and_next_writes(rt: HostRuntime) -> Result<(), Fail> {
     for case in WRITES {
-        let (text, which, read, parameter, turns) = *case;
-        let writes = writes_of(rt.alloc(), text, which)?;
+        let (text, which, read, parameter, writes) = *case;
+        let sources = writes_of(rt.alloc(), text, which)?;
         assert!(rt;
-            is_among(&writes, read, parameter, turns),
+            is_among(&sources, read, parameter, writes),
             "{text} read {read}"
         );
     }
