@@ -97,7 +97,7 @@ struct Fault {
     faults: u64,
 }
 
-/// The source, the output, and flushes of both outputs, also behind a line that was told.
+/// The source, the output, flushes of both outputs, also behind a line that was told, and such a line itself.
 const FAULTS: &[Fault] = &[
     Fault {
         words: &["polypar", "run"],
@@ -142,6 +142,15 @@ const FAULTS: &[Fault] = &[
         exit: 1,
         out: "",
         err: USAGE,
+        faults: 1,
+    },
+    Fault {
+        words: &["polypar"],
+        room: 9,
+        fails: [&[], &[], &[1]],
+        exit: 1,
+        out: "",
+        err: "",
         faults: 1,
     },
 ];
