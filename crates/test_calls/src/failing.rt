@@ -97,7 +97,8 @@ fn end_at<R: Threads + Wait + Sync>(
 }
 
 /// Whether a run whose stream fails at this call may end so: with nothing printed where the input fails, with a front
-/// where the output does, and with nothing or all where a line could not be told before or behind it.
+/// where the output does, with nothing where a line could not be told before it, and with all where the error output
+/// could not be flushed behind it.
 fn may_end(row: &Row, failing: Failing, call: u64, end: End) -> bool {
     match failing {
         Failing::Source => end.exit == 5 && end.is_empty,
@@ -107,7 +108,7 @@ fn may_end(row: &Row, failing: Failing, call: u64, end: End) -> bool {
                 && if call <= row.calls_before {
                     end.is_empty
                 } else {
-                    end.is_empty || end.is_whole
+                    end.is_whole
                 }
         }
     }
