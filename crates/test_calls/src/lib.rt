@@ -26,6 +26,8 @@ mod loop_trees;
 #[cfg(test)]
 mod made;
 #[cfg(test)]
+mod outside_systems;
+#[cfg(test)]
 mod planning;
 #[cfg(test)]
 mod ports;
