@@ -7,6 +7,7 @@ use Rattle.scop_lexer.specs.Bytes.{Text, is_letter}
 use Rattle.scop_lexer.specs.Words.{IsName}
 use Rattle.scop_parser.specs.DistinctNames.{HasDistinctNames, header_names}
 use Rattle.form_text.specs.Names.{AreNameBytes, IsFresh, AreNames}
+use Rattle.form_text.specs.Numerals.{numeral}
 use Rattle.form_text.proofs.Names.{fresh_append, numeral_bytes, variable_name}
 use Rattle.form_text.proofs.Numerals.{decimal_is_numeral}
 use Rattle.quast_text.specs.Text.{bound_name}
@@ -79,5 +80,5 @@ outer_names program d distinct words a =
     record {
       names = turns_told program.parameters d told own a;
       fresh = λ j. fresh_append (bound_name j) program.parameters (turn_names d)
-          (marked_is_fresh 35 (decimal j) program.parameters refl own) (no_turn j d);
+          (marked_is_fresh 35 (numeral j) program.parameters refl own) (no_turn j d);
     }
