@@ -5,9 +5,12 @@ ghost use Rattle.quast_trees.specs.Postfix.{tree_of};
 ghost use Rattle.quast_trees.specs.Mapped.{Suits};
 ghost use Rattle.quast_trees.specs.Source.{source_of, unnamed, with_source};
 ghost use Rattle.quast_trees.specs.Tree.{leaf};
+ghost use Rattle.quast_joins.specs.Limits.{leaf_limit};
+ghost use Rattle.quast_joins.specs.Sizes.{LeavesWithin};
 
 use crate::made::forms;
 use affine_forms::{Form, FormStop};
+use quast_joins::{JoinStop, later_of};
 use quast_trees::{Leaf, Quast, Source};
 use std::alloc::{AllocError, Global};
 use std::process::Abort;
@@ -204,5 +207,43 @@ fn deep_branches_need_no_stack(rt: HostRuntime) -> Result<(), Fail> {
         let quast = staircase(rt.alloc(), deep_first)?;
         expect_both(&rt, rt.alloc(), quast, 8193, STAIRCASE, MOVED_STAIRCASE);
     }
+    Ok(())
+}
+
+/// A branch a place from 0 on, with the initial value on each side.
+fn ladder(alloc: Global, places: usize) -> Result<Quast, Fail>
+    ensures parameters { IfOk result (λ q. q.parameters ≡ 1) }
+    ensures within { IfOk result (λ q. LeavesWithin leaf_limit (tree_of q)) }
+{
+    let mut quast = Quast::initial(alloc, 1)?;
+    for place in 0..places {
+        let test = Form::of(alloc, &[1], -(place as i128))?;
+        quast = Quast::branch(test, Quast::initial(alloc, 1)?, quast)?;
+    }
+    Ok(quast)
+}
+
+/// The half of p, rounded down, and then the initial value.
+fn bound_half(alloc: Global) -> Result<Quast, Fail>
+    ensures parameters { IfOk result (λ q. q.parameters ≡ 1) }
+    ensures within { IfOk result (λ q. LeavesWithin leaf_limit (tree_of q)) }
+{
+    Ok(Quast::bind(Form::of(alloc, &[1], 0)?, 2, Quast::initial(alloc, 2)?)?)
+}
+
+/// What a join of initial values answers.
+const JOINED: &[(i128, Want)] = &[(-1, Want::Initial), (0, Want::Initial), (9999, Want::Initial)];
+
+/// A ladder of n places has 2 n + 1 nodes, a bind one more.
+#[test]
+fn joins_have_so_many_nodes(rt: HostRuntime) -> Result<(), Fail> {
+    let last = ladder(rt.alloc(), 2047)?;
+    match later_of(&bound_half(rt.alloc())?, &last) {
+        Err(_) => panic!(rt; "4096 nodes are joined"),
+        Ok(joined) => expect_made(&rt, joined, 4096, JOINED),
+    }
+    let past = ladder(rt.alloc(), 2048)?;
+    let stop = later_of(&Quast::initial(rt.alloc(), 1)?, &past);
+    assert!(rt; matches!(stop, Err(JoinStop::Spent { nodes: 4097 })));
     Ok(())
 }
