@@ -232,7 +232,11 @@ fn bound_half(alloc: Global) -> Result<Quast, Fail>
 }
 
 /// What a join of initial values answers.
-const JOINED: &[(i128, Want)] = &[(-1, Want::Initial), (0, Want::Initial), (9999, Want::Initial)];
+const JOINED: &[(i128, Want)] = &[
+    (-1, Want::Initial),
+    (0, Want::Initial),
+    (9999, Want::Initial),
+];
 
 /// A ladder of n places has 2 n + 1 nodes, a bind one more.
 #[test]
