@@ -8,6 +8,7 @@
 #![tactic(auto)]
 
 mod certificates;
+mod laws;
 mod lines;
 mod planning;
 mod plans;
@@ -15,6 +16,7 @@ mod schedules;
 mod text;
 
 pub use certificates::certificate_text;
+pub use laws::models_have_one_plan_text;
 pub use planning::{planned, planned_by_flow};
 pub use plans::Planned;
 pub use schedules::{covers, schedule_of};
