@@ -1,7 +1,7 @@
 //! Callers that hold the top call and its laws in place: each function here calls one law, and its own contract follows
-//! from one clause of that law alone; in `calls` each clause follows from one field of the call's promise. Where such a
-//! clause is emptied, weakened or given a premise that its callers do not meet, the caller here no longer proves.
-//! Nothing is built on this crate.
+//! from one clause of that law alone, but for `room_for_schedules`, which rests on two laws; in `calls` each clause
+//! follows from one field of the call's promise. Where such a clause is emptied, weakened or given a premise that its
+//! callers do not meet, the caller here no longer proves. Nothing is built on this crate.
 #![tactic(auto)]
 
 pub mod calls;
@@ -9,7 +9,7 @@ pub mod calls;
 ghost use Rattle.std.specs.Prelude.{All, ◌≡◌, ◌⊎◌, ◌<◌, ◌≤◌, ◌^◌, ℕ, ℤ, [], List, Option, Some, false, map};
 ghost use Rattle.clap.specs.Words.{fault_of};
 ghost use Rattle.io_ports.specs.Reads.{SourceShows};
-ghost use Rattle.io_ports.specs.Writes.{SinkShows};
+ghost use Rattle.io_ports.specs.Writes.{HasRoom, SinkShows};
 ghost use Rattle.scop_syntax.specs.Cells.{PlacesConflict};
 ghost use Rattle.scop_syntax.specs.Execution.{IsInside, IsShaped, exec, layout, performed_all};
 ghost use Rattle.scop_syntax.specs.Kernel.{narrow_arrays};
@@ -21,6 +21,7 @@ ghost use Rattle.scop_syntax.specs.Widths.{HoldWidths};
 ghost use Rattle.scop_parser.specs.Spelling.{SpellsProgram};
 ghost use Rattle.data_text.specs.Cases.{Says};
 ghost use Rattle.data_text.specs.Written.{case_text};
+ghost use Rattle.iteration_domains.specs.Model.{model_of};
 ghost use Rattle.loop_tree.specs.Plans.{AreFree, AreMarked, Conflict, walked};
 ghost use Rattle.loop_tree.specs.Runs.{MayRunAll};
 ghost use Rattle.loop_tree.specs.Tiling.{Tiling};
@@ -29,7 +30,8 @@ ghost use Rattle.loop_tree.specs.Walk.{Visit, given, visits, walk_all};
 ghost use Rattle.c_printer.specs.Reading.{read_text};
 ghost use Rattle.report_text.specs.declared.status.Status.TheVariants.{Done};
 ghost use Rattle.report_text.specs.declared.status.Status.{Status};
-ghost use Rattle.polypar.specs.Answered.{Answered, HasLines, PrintsText, PrintsTold};
+ghost use Rattle.polypar.specs.Answered.{Answered, HasLines, HasRoomForText, PrintsText, PrintsTold};
+ghost use Rattle.polypar.specs.Case.{Spelled};
 ghost use Rattle.command_line.specs.Command.{IsCertifyCommand, IsCheckCommand, IsDepsCommand, IsEmitCommand};
 ghost use Rattle.command_line.specs.Command.{IsGenCommand, IsScheduleCommand};
 ghost use Rattle.command_line.specs.Command.{IsTaken, NamesCommand, NamesNoKind, NamesNoSync, command_names};
@@ -41,6 +43,7 @@ ghost use Rattle.polypar.specs.Emitting.{ReadsAsLoops};
 ghost use Rattle.polypar.specs.Executions.{AreVisitsOf};
 ghost use Rattle.polypar.specs.ConflictOrders.{IsOrderOf};
 ghost use Rattle.polypar.specs.Planned.{ArePlanned};
+ghost use Rattle.polypar.specs.Planning.{IsPlanOf};
 ghost use Rattle.polypar.specs.Sources.{TellsLastWrites};
 ghost use Rattle.polypar.specs.Trees.{StandInOrder};
 
@@ -48,10 +51,12 @@ use command_line::{
     numbers_of_taken_words_are_in_range, other_names_alone_are_not_taken,
     taken_words_name_a_command,
 };
+use plan_search::models_have_one_plan_text;
 use polypar::{
     deserved_once, only_plans_have_lines, printed_arrays_are_data, printed_loops_are_read_back,
     printed_loops_run_the_kernel, printed_sources_tell_last_writes,
 };
+use scop_parser::texts_spell_one_program;
 
 /// Any words and any input deserve a status, by `some` of `deserved_once`.
 pub fn statuses_that_are_deserved()
@@ -152,6 +157,17 @@ pub fn lines_of_checks()
         → HasLines words left Done out out lines → IsCheckCommand words → lines ≡ [] }
 {
     only_plans_have_lines();
+}
+
+/// Room on `out` for one text of a kernel's plan, and on `err` for none, is room for all that `schedule` may be asked
+/// for there, by the clauses of `models_have_one_plan_text` and `texts_spell_one_program`.
+pub fn room_for_schedules()
+    ensures { (words : List (List ℕ)) (budget : ℕ) (input : List ℕ) (kernel : Spelled input) (text : List ℕ)
+        (out err : SinkShows) → IsScheduleCommand budget words → IsPlanOf budget (model_of kernel.program) text
+        → HasRoom out text → HasRoom err [] → HasRoomForText words (Some input) out err }
+{
+    models_have_one_plan_text();
+    texts_spell_one_program();
 }
 
 /// Of words that are taken one names a command, by the clause of `taken_words_name_a_command`.
