@@ -1,10 +1,10 @@
 //! The conflicts of small kernels, and their covering dependences: the whole points of their systems, by `holds_at` over
 //! all candidates.
 
+use crate::made::kernel_of;
 use conflict_deps::conflicts;
 use dataflow::covering;
 use iteration_domains::{Dep, Model};
-use scop_parser::read_kernel;
 use std::alloc::{AllocError, Global};
 use std::test::Fail;
 
@@ -48,16 +48,12 @@ enum Which {
 
 /// The dependences of a kernel; an error where the text is none.
 fn dependences(alloc: Global, text: &str, which: Which) -> Result<Vec<Dep>, AllocError> {
-    match read_kernel(alloc, text.as_bytes()) {
-        Err(_) => Err(AllocError),
-        Ok(kernel) => {
-            let model = Model::of(alloc, &kernel)?;
-            let all = conflicts(alloc, &model)?;
-            match which {
-                Which::Conflicts => Ok(all),
-                Which::Covers => covering(alloc, &model, &all, &[], 20000),
-            }
-        }
+    let kernel = kernel_of(alloc, text)?;
+    let model = Model::of(alloc, &kernel)?;
+    let all = conflicts(alloc, &model)?;
+    match which {
+        Which::Conflicts => Ok(all),
+        Which::Covers => covering(alloc, &model, &all, &[], 20000),
     }
 }
 

@@ -10,11 +10,11 @@ ghost use Rattle.loop_tree.specs.Conditions.{CanWalk};
 ghost use Rattle.loop_tree.specs.View.{trees_in};
 ghost use Rattle.polypar.specs.Schedules.{IsScheduleFor};
 
+use crate::made::kernel_of;
 use c_printer::{print, read_back};
 use iteration_domains::Model;
 use loop_tree::{Spot, Tree};
 use polypar::{Schedule, covers, hull_tree, schedule_of, tiled_tree, trees_of_plans_can_be_walked};
-use scop_parser::read_kernel;
 use scop_syntax::{Instance, Kernel};
 use std::alloc::{AllocError, Global};
 use std::test::Fail;
@@ -80,16 +80,6 @@ fn planned(alloc: Global, kernel: &Kernel, size: u64, scan: Scan) -> Result<Tree
     let deps = covers(alloc, &model, &[], BUDGET)?;
     match schedule_of(alloc, &model, &deps, BUDGET) {
         Ok(schedule) => scanned(alloc, &schedule, size, scan),
-        Err(_) => Err(AllocError),
-    }
-}
-
-/// The kernel of a text; an error where it is none.
-fn kernel_of(alloc: Global, text: &str) -> Result<Kernel, AllocError>
-    ensures { IfOk result (λ kernel. IsKernel (program_of kernel)) }
-{
-    match read_kernel(alloc, text.as_bytes()) {
-        Ok(kernel) => Ok(kernel),
         Err(_) => Err(AllocError),
     }
 }

@@ -1,12 +1,17 @@
-//! Forms, systems and problems made from their numbers: a row has a number for each variable, and then its constant.
+//! Forms, systems and problems made from their numbers: a row has a number for each variable, and then its constant; and
+//! kernels from their texts.
 
 ghost use Rattle.std.specs.Prelude.{◌≡◌, All, IfOk};
 ghost use Rattle.affine_forms.specs.Parts.{variables_of};
 ghost use Rattle.pip_solver.specs.Solving.{IsOver};
+ghost use Rattle.scop_syntax.specs.Kernel.{IsKernel};
+ghost use Rattle.scop_syntax.specs.View.{program_of};
 
 use affine_forms::Form;
 use checked_tableau::Problem;
 use integer_sets::System;
+use scop_parser::read_kernel;
+use scop_syntax::Kernel;
 use std::alloc::{AllocError, Global};
 
 /// The form of a row over so many variables; an error where it has other numbers.
@@ -82,5 +87,15 @@ pub fn is_row(form: &Form, row: &[i128]) -> bool {
         Some((constant, coefficients)) => {
             form.constant() == *constant && form.coefficients() == coefficients
         }
+    }
+}
+
+/// The kernel of a text; an error where it is none.
+pub fn kernel_of(alloc: Global, text: &str) -> Result<Kernel, AllocError>
+    ensures { IfOk result (λ kernel. IsKernel (program_of kernel)) }
+{
+    match read_kernel(alloc, text.as_bytes()) {
+        Ok(kernel) => Ok(kernel),
+        Err(_) => Err(AllocError),
     }
 }

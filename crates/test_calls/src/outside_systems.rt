@@ -1,10 +1,10 @@
 //! The systems of the index check: how many a kernel has, and the turns at which a subscript of it lies outside.
 
+use crate::made::kernel_of;
 use data_text::read_data;
 use integer_sets::System;
 use iteration_domains::Model;
 use pip_solver::is_empty;
-use scop_parser::read_kernel;
 use std::alloc::{AllocError, Global};
 use std::test::Fail;
 
@@ -33,15 +33,11 @@ const KERNELS: &[(&str, &[&[usize]])] = &[
 
 /// The systems of a kernel at its data; an error where a text is none.
 fn systems_of(alloc: Global, text: &str) -> Result<Vec<System>, AllocError> {
-    match read_kernel(alloc, text.as_bytes()) {
+    let kernel = kernel_of(alloc, text)?;
+    let model = Model::of(alloc, &kernel)?;
+    match read_data(alloc, &kernel, DATA.as_bytes()) {
         Err(_) => Err(AllocError),
-        Ok(kernel) => match read_data(alloc, &kernel, DATA.as_bytes()) {
-            Err(_) => Err(AllocError),
-            Ok(case) => {
-                let model = Model::of(alloc, &kernel)?;
-                model.outside_systems(alloc, &kernel, &case.params)
-            }
-        },
+        Ok(case) => model.outside_systems(alloc, &kernel, &case.params),
     }
 }
 

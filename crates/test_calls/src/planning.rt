@@ -1,11 +1,11 @@
 //! Calls of the planner with answers that are worked out by hand: components of a graph, kernel vectors of rows, and
 //! the last write and the next write of a read at each of its instances.
 
+use crate::made::kernel_of;
 use dataflow::{ReadSource, last_writes, next_writes};
 use iteration_domains::Model;
 use pluto_systems::kernel_vectors;
 use quast_trees::{Leaf, Quast};
-use scop_parser::read_kernel;
 use std::alloc::{AllocError, Global};
 use std::test::Fail;
 use stmt_graph::components;
@@ -136,15 +136,11 @@ fn is_among(
 
 /// The writes of the cells of a kernel's reads.
 fn writes_of(alloc: Global, text: &str, which: Which) -> Result<Vec<ReadSource>, AllocError> {
-    match read_kernel(alloc, text.as_bytes()) {
-        Err(_) => Err(AllocError),
-        Ok(kernel) => {
-            let model = Model::of(alloc, &kernel)?;
-            match which {
-                Which::Last => last_writes(alloc, &model, 20000),
-                Which::Next => next_writes(alloc, &model, 20000),
-            }
-        }
+    let kernel = kernel_of(alloc, text)?;
+    let model = Model::of(alloc, &kernel)?;
+    match which {
+        Which::Last => last_writes(alloc, &model, 20000),
+        Which::Next => next_writes(alloc, &model, 20000),
     }
 }
 

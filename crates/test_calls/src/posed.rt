@@ -5,12 +5,12 @@ ghost use Rattle.std.specs.Prelude.{◌≡◌, ◌∷◌, [], true, IfOk, map};
 ghost use Rattle.pluto_systems.specs.Posing.{AreCoefficientRows, IsBetween};
 ghost use Rattle.pluto_systems.specs.Schedule.{loops_in};
 
+use crate::made::kernel_of;
 use conflict_deps::conflicts;
 use farkas::{bounded_rows, legal_rows};
 use integer_sets::System;
 use iteration_domains::{Dep, Model};
 use pluto_systems::{Rows, loops_in, posed};
-use scop_parser::read_kernel;
 use std::alloc::{AllocError, Global};
 use std::slice;
 use std::test::Fail;
@@ -133,10 +133,8 @@ fn is_told(posed: &System, point: &[i128], inside: bool) -> bool {
 
 /// The model of a text's kernel; an error where it has none.
 fn model_of(alloc: Global, text: &str) -> Result<Model, AllocError> {
-    match read_kernel(alloc, text.as_bytes()) {
-        Err(_) => Err(AllocError),
-        Ok(kernel) => Model::of(alloc, &kernel),
-    }
+    let kernel = kernel_of(alloc, text)?;
+    Model::of(alloc, &kernel)
 }
 
 /// Whether the first rows are as told.
