@@ -64,8 +64,8 @@ def with_term(draw, text):
     if not steps:
         return text
     end, other = draw.choice(steps)[1], draw.choice(steps)
-    _line, *terms = text[other[0]:other[1]].split(" ", 2)
-    return text[:end] + " " + draw.choice(["1:1", "2:3", terms[-1] if terms else ""]) + text[end:]
+    terms = text[other[0]:other[1]].split(" ", 2)[-1]
+    return text[:end] + " " + draw.choice(["1:1", "2:3", terms]) + text[end:]
 
 
 def main():
