@@ -9,6 +9,7 @@
 ghost use Rattle.std.specs.Prelude.{◌≡◌, ◌≢◌, ◌⊎◌, ◌<◌, ◌++◌, ℕ, ℤ, true, false, List, [], Option, map};
 ghost use Rattle.std.specs.Prelude.{Err, codes, length, string_bytes};
 ghost use Rattle.std.specs.Io.KnownBytes.{Appends};
+ghost use Rattle.clap.specs.Words.{fault_of};
 ghost use Rattle.io_ports.specs.Bytes.{GainsFront, IsAllOf};
 ghost use Rattle.io_ports.specs.Writes.{SinkShows};
 ghost use Rattle.scop_syntax.specs.Execution.{exec};
@@ -43,11 +44,13 @@ ghost use Rattle.report_text.specs.DepsText.{deps_text};
 ghost use Rattle.report_text.specs.KeptText.{kept_text};
 ghost use Rattle.report_text.specs.ScheduleText.{schedule_text};
 ghost use Rattle.report_text.specs.declared.kept_line.KeptLine.{KeptLine};
-ghost use Rattle.report_text.specs.declared.status.Status.TheVariants.{BadData, Done, Rejected, Usage, WriteFault};
+ghost use Rattle.report_text.specs.declared.status.Status.TheVariants.{BadData, Done, NoMemory, Rejected, Usage};
+ghost use Rattle.report_text.specs.declared.status.Status.TheVariants.{WriteFault};
 ghost use Rattle.polypar.specs.Planned.{ArePlanned};
 ghost use Rattle.polypar.specs.Planning.{IsCauseOf, IsSearched};
 ghost use Rattle.command_line.specs.Command.{IsDepsCommand, IsEmitCommand, IsGenCommand, IsRunCommand};
 ghost use Rattle.command_line.specs.Command.{IsCertifyCommand, IsCheckCommand, IsScheduleCommand};
+ghost use Rattle.command_line.specs.Stated.{tool};
 ghost use Rattle.command_line.specs.declared.command.GeneratedKernel.{GeneratedKernel};
 ghost use Rattle.command_line.specs.declared.command.RunOptions.{RunOptions};
 ghost use Rattle.command_callers.specs.Shown.{GainsCertificate, GainsFault, GainsReport, TellsData};
@@ -149,9 +152,9 @@ pub fn answered_certificate<S: Source, O: Sink, E: Sink>(
     plain_command(alloc, words, source, out, err)
 }
 
-/// How a call ends: by `unread`, `nothing` and `written` what else ports show; by `error_line` the line of data that is
-/// refused, with the names of the program that was read, the lines of a command that is done, and those of one that is
-/// cut off, with the count that rose.
+/// How a call ends: by `stranger` over words with a fault; by `unread`, `nothing` and `written` what else ports show; by
+/// `error_line` the line of data that is refused, with the names of the program that was read, the lines of a command
+/// that is done, and those of one that is cut off, with the count that rose.
 pub fn ended_call<S: Source, O: Sink, E: Sink>(
     alloc: Global,
     words: &[String],
@@ -159,6 +162,7 @@ pub fn ended_call<S: Source, O: Sink, E: Sink>(
     out: &mut O,
     err: &mut E,
 ) -> Status
+    ensures stranger { fault_of tool (map string_bytes words.now) ≢ [] → (result ≡ Usage) ⊎ (result ≡ NoMemory) }
     ensures unread { result ≡ Usage → S.shows source.new ≡ S.shows source.old }
     ensures nothing { result ≢ Done → result ≢ WriteFault → O.shows out.new ≡ O.shows out.old }
     ensures front { result ≡ WriteFault → (input : List ℕ) × (told : Told)

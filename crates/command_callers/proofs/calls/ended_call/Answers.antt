@@ -3,6 +3,10 @@ use Rattle.command_callers.proofs.CallLemmas.{data_line, faulted}
 use Rattle.polypar.specs.Answered.{HasLines}
 use Rattle.command_callers.proofs.calls.ended_call.Goals as goal
 
+pub returns-clause-stranger : goal.returns-clause-stranger
+returns-clause-stranger g c = λ fault.
+    c.plain_command.ensures.stranger (λ taken. fault taken.0)
+
 pub returns-clause-front : goal.returns-clause-front
 returns-clause-front g c = λ fault.
     c.plain_command.ensures.written fault
