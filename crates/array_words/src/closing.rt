@@ -1,11 +1,10 @@
 //! The end: the passes are joined, and the words go back into the cells.
 ghost use Rattle.array_words.specs.Closing.{IsClosed, IsResting, one_if_ended, stage_in};
 ghost use Rattle.std.specs.Mem.Slots.{IsFull, slots_items, slots_len};
-ghost use Rattle.std.specs.Prelude.{◌≡◌, ℕ, ◌+◌, ◌<◌, All, List, false, get_or, length, true};
-ghost use Rattle.scop_syntax.specs.Cells.{Cell};
-ghost use Rattle.scop_syntax.specs.Execution.{IsCell, IsShaped, cell_number, exec, held, value_stored_at};
+ghost use Rattle.std.specs.Prelude.{◌≡◌, ℕ, ◌+◌, ◌<◌, All, List, get_or, length};
+ghost use Rattle.scop_syntax.specs.Execution.{IsShaped};
 ghost use Rattle.tile_core.specs.Passes.{IsPass, IsWords, plan_in};
-ghost use Rattle.tile_core.specs.Plans.{HoldsContents, extents_in, is_expanded, plain_shape, program_in, walk_in};
+ghost use Rattle.tile_core.specs.Plans.{HoldsContents, HoldsResults, extents_in};
 ghost use Rattle.tile_events.specs.Sound.{total};
 ghost use lib.ListN.{get_elem?};
 ghost use mathlib.Core.Option.{some};
@@ -63,24 +62,9 @@ pub fn close<'a>(words: Words<'a>, passes: Vec<Pass>, cells: &mut [u64]) -> Clos
     requires all { length passes.items ≡ words.table.shared.key.workers }
     requires over { 0 < total (λ p. one_if_ended (stage_in p)) passes.items }
     requires cells { length cells.old ≡ (plan_in words).cells }
-    ensures arrays { (contents : List (List ℕ)) → is_expanded words.entry.plan ≡ false
-        → IsShaped (extents_in words.entry.plan) contents
+    ensures results { (contents : List (List ℕ)) → IsShaped (extents_in words.entry.plan) contents
         → HoldsContents contents words.entry.table.shared.key.cells.items
-        → (c : Cell) → IsCell (extents_in words.entry.plan) c
-        → get_or cells.new (cell_number (extents_in words.entry.plan) c) 0
-        ≡ held (extents_in words.entry.plan)
-        (exec (program_in words.entry.plan) words.entry.plan.params.now contents) c }
-    ensures kept { (contents : List (List ℕ)) → is_expanded words.entry.plan ≡ true
-        → IsShaped (extents_in words.entry.plan) contents
-        → HoldsContents contents words.entry.table.shared.key.cells.items
-        → (c : Cell) → IsCell (extents_in words.entry.plan) c
-        → get_or cells.new (cell_number (extents_in words.entry.plan) c) 0
-        ≡ held (extents_in words.entry.plan) contents c }
-    ensures copies { (contents : List (List ℕ)) (j : ℕ) → is_expanded words.entry.plan ≡ true
-        → IsShaped (extents_in words.entry.plan) contents
-        → HoldsContents contents words.entry.table.shared.key.cells.items → j < length (walk_in words.entry.plan)
-        → get_or cells.new ((plain_shape words.entry.plan).cells + j) 0
-        ≡ value_stored_at (extents_in words.entry.plan) contents (walk_in words.entry.plan) j }
+        → HoldsResults words.entry.plan contents cells.new }
     ensures plan { result.plan ≡ words.entry.plan }
     ensures ended { result.ended ≡ total (λ p. one_if_ended (stage_in p)) passes.items }
     ensures cells { IsClosed (plan_in words.entry) cells.old cells.new }

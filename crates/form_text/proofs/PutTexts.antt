@@ -1,16 +1,15 @@
 -- Terms put behind one another.
 use Rattle.whole_numbers.proofs.Common.{◌≡◌, ◌∙◌, ap, sym, refl, ℕ, zero, suc, ◌<◌, ◌≤◌, Bool, true, false, List, []}
-use Rattle.whole_numbers.proofs.Common.{◌∷◌, ◌++◌, length, drop, decimal, arith, add-one, ap₂, drop-cons, get_or, map}
-use Rattle.whole_numbers.proofs.Common.{◌+◌, ◌^◌, ◌==◌, ◌≢◌, ◌&&◌, ℤ, if◌then◌else◌, eqb-true, eq-eqb}
+use Rattle.whole_numbers.proofs.Common.{◌∷◌, ◌++◌, length, drop, arith, add-one, ap₂, drop-cons, get_or, map}
+use Rattle.whole_numbers.proofs.Common.{◌+◌, ◌==◌, ◌≢◌, ◌&&◌, ℤ, if◌then◌else◌, eqb-true, eq-eqb}
 use Rattle.std.proofs.lemmas.List.{append_assoc}
 use Rattle.scop_lexer.specs.Bytes.{Text}
 use Rattle.form_text.specs.Forms.{factor_text, constant_text, is_zero, term_text, terms_text}
 use Rattle.form_text.specs.Numerals.{numeral}
-use Rattle.form_text.proofs.Numerals.{decimal_is_numeral}
 
-pub alone : (m : ℕ) (name : Text) → m < 2 ^ 128 → length name ≡ 0 → factor_text m name ≡ decimal m
-alone m [] h e = sym (decimal_is_numeral m (omega (arith, h)))
-alone m (b ∷ bs) h e = absurd (omega (arith, e))
+pub alone : (m : ℕ) (name : Text) → length name ≡ 0 → factor_text m name ≡ numeral m
+alone m [] e = refl
+alone m (b ∷ bs) e = absurd (omega (arith, e))
 
 many : (same : Bool) (m : ℕ) (name : Text) → (m == 1) ≡ same → m ≢ 1
     → (if same then name else numeral m ++ (42 ∷ name)) ≡ numeral m ++ (42 ∷ name)

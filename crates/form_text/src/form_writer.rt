@@ -4,6 +4,7 @@ ghost use Rattle.std.specs.Prelude.{◌≡◌, ◌++◌, ◌&&◌, map, IfOk, On
 ghost use Rattle.whole_numbers.specs.Affine.{form_of};
 ghost use Rattle.form_text.specs.Forms.{constant_text, factor_text, form_text, is_zero, sign_text, signed_text};
 ghost use Rattle.form_text.specs.Forms.{term_text};
+ghost use Rattle.form_text.specs.Numerals.{numeral};
 
 use itoa::Buffer;
 use std::alloc::AllocError;
@@ -21,18 +22,28 @@ pub fn put_bytes(out: &mut Vec<u8>, bytes: &[u8]) -> Result<(), AllocError>
     }
 }
 
+/// Puts a number in decimals.
+///
+/// # Errors
+/// Memory ran out.
+pub fn put_numeral(out: &mut Vec<u8>, number: u128) -> Result<(), AllocError>
+    ensures { OnOk result (out.new.items ≡ out.old.items ++ numeral number) }
+{
+    put_bytes(out, Buffer::new().format(number).as_bytes())
+}
+
 /// Puts a number times a name, or the number alone where there is no name.
 #[tactic(auto, using(crate::proofs::PutTexts::putting))]
 fn put_factor(out: &mut Vec<u8>, number: u128, name: &[u8]) -> Result<(), AllocError>
     ensures { OnOk result (out.new.items ≡ out.old.items ++ factor_text number name.now) }
 {
     if name.is_empty() {
-        return put_bytes(out, Buffer::new().format(number).as_bytes());
+        return put_numeral(out, number);
     }
     if number == 1 {
         return put_bytes(out, name);
     }
-    match put_bytes(out, Buffer::new().format(number).as_bytes()) {
+    match put_numeral(out, number) {
         Ok(()) => {}
         Err(_) => return Err(AllocError),
     }

@@ -9,4 +9,4 @@ mod form_writer;
 
 pub use form_laws::{forms_are_read_back, forms_end_before, texts_are_of_one_form};
 pub use form_reader::{FormRead, read_form, read_number, strip};
-pub use form_writer::{put_bytes, put_constant, put_form, put_term};
+pub use form_writer::{put_bytes, put_constant, put_form, put_numeral, put_term};

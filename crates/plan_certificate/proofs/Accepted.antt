@@ -97,7 +97,7 @@ accepted printed derivations program deps blocks text parts sized kernel placed 
     let whole = ap length found.2 in
     let both = length-append (schedule_text blocks) found.0 in
     let laid = blocks_go printed model 0 nothing_laid blocks found.0
-    (blocks_printed loops blocks sized (schedule_up model.parameters loops deps blocks schedule) narrow.rows narrow.scalars)
+    (blocks_printed loops blocks sized (schedule_up model.parameters loops deps blocks schedule) narrow.items)
     (statements_few program kernel) (omega arith) (omega arith) in
     let enough : has_rows loops l ≡ true =
     ap (λ (k : ℕ). list_all (λ n. nat_le n k) loops) (blocks_rows nothing_laid blocks ∙ zero-add (length (rows_in blocks)))

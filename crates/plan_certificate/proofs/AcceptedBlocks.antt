@@ -1,11 +1,13 @@
 -- The items of a schedule can be printed.
-use Rattle.scop_syntax.proofs.Common.{◌≡◌, ap₂, refl, ℕ, suc, ◌^◌, ◌<◌, ℤ, pos, ◌≤ℤ◌, ◌<ℤ◌, List, [], ◌∷◌, ◌++◌, length}
-use Rattle.scop_syntax.proofs.Common.{map, All, arith, inl, inr, slice_index_or, flat_map, ints, All-nil, All-cons}
-use Rattle.scop_syntax.proofs.Common.{All-head, All-tail, All-weaker, all_front, all_back, In}
+use Rattle.scop_syntax.proofs.Common.{◌≡◌, ap₂, refl, ℕ, suc, ◌^◌, ℤ, pos, ◌≤ℤ◌, ◌<ℤ◌, List, [], ◌∷◌, ◌++◌, length}
+use Rattle.scop_syntax.proofs.Common.{map, All, arith, slice_index_or, flat_map, ints, All-nil, All-cons}
+use Rattle.scop_syntax.proofs.Common.{All-head, All-tail, All-weaker, all_front, all_back}
 use Rattle.schedule_rows.specs.Unknowns.{Part, part_numbers}
 use Rattle.schedule_rows.specs.Items.{Row, Marked, Block, scalar, band, band_rows, part_of, rows_in}
+use Rattle.schedule_rows.specs.Schedule as plain
+use Rattle.schedule_rows.specs.Schedule.{Item, items_of}
 use Rattle.schedule_rows.specs.Sized.{AreSized, AreSizedRows, IsSizedRow, IsSmall}
-use Rattle.report_text.specs.ScheduleText.{IsNarrowRow}
+use Rattle.report_text.specs.ScheduleText.{IsNarrowItem, IsNarrowRow}
 use Rattle.plan_certificate.proofs.AcceptedItems.{ArePrinted, ArePrintedRows}
 use Rattle.plan_certificate.proofs.AcceptedRanks.{IsUpRow}
 use Rattle.plan_certificate.proofs.AcceptedTexts.{IsPrinted, IsPrintedPart, IsPrintedRow}
@@ -49,27 +51,30 @@ row_printed loops r is up narrow =
       lengths = row_lengths loops r is;
     }
 
-rows_printed : (loops : List ℕ) (ms : List Marked) (more : List Row) → AreSizedRows loops ms
-    → All IsUpRow (band_rows ms ++ more) → All IsNarrowRow (band_rows ms ++ more) → ArePrintedRows loops ms
-rows_printed loops [] more is up narrow = tt
-rows_printed loops (m ∷ ms) more is up narrow = (
+abbrev as_items : List Marked → List Item
+as_items ms = map (λ m. plain.row m.row) ms
+
+rows_printed : (loops : List ℕ) (ms : List Marked) (more : List Row) (behind : List Item) → AreSizedRows loops ms
+    → All IsUpRow (band_rows ms ++ more) → All IsNarrowItem (as_items ms ++ behind) → ArePrintedRows loops ms
+rows_printed loops [] more behind is up narrow = tt
+rows_printed loops (m ∷ ms) more behind is up narrow = (
   row_printed loops m.row is.0 (All-head IsUpRow m.row (band_rows ms ++ more) up)
-      (All-head IsNarrowRow m.row (band_rows ms ++ more) narrow),
-  rows_printed loops ms more is.1 (All-tail IsUpRow m.row (band_rows ms ++ more) up)
-      (All-tail IsNarrowRow m.row (band_rows ms ++ more) narrow),
+      (All-head IsNarrowItem (plain.row m.row) (as_items ms ++ behind) narrow),
+  rows_printed loops ms more behind is.1 (All-tail IsUpRow m.row (band_rows ms ++ more) up)
+      (All-tail IsNarrowItem (plain.row m.row) (as_items ms ++ behind) narrow),
 )
 
 -- each item of a schedule can be printed
 pub blocks_printed : (loops : List ℕ) (bs : List Block) → AreSized loops bs → All IsUpRow (rows_in bs)
-    → All IsNarrowRow (rows_in bs) → ((ns : List ℕ) → In (scalar ns) bs → All (λ n. n < 2 ^ 127) ns)
-    → ArePrinted loops bs
-blocks_printed loops [] is up narrow scalars = tt
-blocks_printed loops (scalar ns ∷ bs) is up narrow scalars =
-    ((is.0, scalars ns (inl refl)), blocks_printed loops bs is.1 up narrow (λ n i. scalars n (inr i)))
-blocks_printed loops (band [] ∷ bs) is up narrow scalars = absurd is.0
-blocks_printed loops (band (m ∷ ms) ∷ bs) is up narrow scalars =
-    let rs = band_rows (m ∷ ms) in (
-      rows_printed loops (m ∷ ms) (rows_in bs) is.0 up narrow,
-      blocks_printed loops bs is.1 (all_back IsUpRow rs (rows_in bs) up) (all_back IsNarrowRow rs (rows_in bs) narrow)
-          (λ n i. scalars n (inr i)),
-    )
+    → All IsNarrowItem (items_of bs) → ArePrinted loops bs
+blocks_printed loops [] is up narrow = tt
+blocks_printed loops (scalar ns ∷ bs) is up narrow = (
+  (is.0, All-head IsNarrowItem (plain.scalar ns) (items_of bs) narrow),
+  blocks_printed loops bs is.1 up (All-tail IsNarrowItem (plain.scalar ns) (items_of bs) narrow),
+)
+blocks_printed loops (band [] ∷ bs) is up narrow = absurd is.0
+blocks_printed loops (band (m ∷ ms) ∷ bs) is up narrow = (
+  rows_printed loops (m ∷ ms) (rows_in bs) (items_of bs) is.0 up narrow,
+  blocks_printed loops bs is.1 (all_back IsUpRow (band_rows (m ∷ ms)) (rows_in bs) up)
+      (all_back IsNarrowItem (as_items (m ∷ ms)) (items_of bs) narrow),
+)

@@ -26,10 +26,9 @@ use Rattle.plan_check.proofs.PlanOrder.{lt_true}
 use Rattle.plan_check.proofs.SoundDerivations.{then_is}
 use Rattle.plan_check.proofs.Progresses.{run_sized}
 use Rattle.plan_certificate.specs.Certificates.{derivation_of, derivation_over, in_front, proof_text, proofs_text}
-use Rattle.plan_certificate.specs.Certificates.{step_line_of, steps_text, term_line_of}
+use Rattle.plan_certificate.specs.Certificates.{IsNarrowStep, step_line_of, steps_text, term_line_of}
 use Rattle.plan_certificate.specs.Derivation.{derivation}
 use Rattle.plan_certificate.specs.Written.{IsWritten, IsWrittenNumber}
-use Rattle.plan_certificate.specs.steps.Narrow.{IsNarrowStep}
 use Rattle.plan_certificate.proofs.AcceptedLines.{IsPlain, PrintedLaws, line_goes, line_length, passes, same_number, saturated_same}
 
 -- the laws of derivations: each is one, and can be written

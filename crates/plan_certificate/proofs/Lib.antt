@@ -16,7 +16,6 @@ pub mod GoalTexts
 pub mod ItemLemmas
 pub mod MarkedLines
 pub mod Moves
-pub mod Narrow
 pub mod SizedPlans
 pub mod StepTexts
 pub mod TightestPlaces

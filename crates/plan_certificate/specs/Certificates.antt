@@ -1,15 +1,16 @@
 -- The certificate of a schedule: its items' lines, then each goal's line and those of its determined derivation.
-use Rattle.std.specs.Prelude.{◌≡◌, ℕ, suc, unsigned_abs, List, [], ◌∷◌, ◌++◌, codes, map, Option, Some, None, Result, Ok, Err}
+use Rattle.std.specs.Prelude.{◌≡◌, ℕ, suc, ◌^◌, ◌<◌, unsigned_abs, List, [], ◌∷◌, ◌++◌, All, codes, map}
+use Rattle.std.specs.Prelude.{Option, Some, None, Result, Ok, Err}
 use Rattle.scop_lexer.specs.Bytes.{Text}
 use Rattle.wide_math.specs.declared.Wide.{Wide}
 use Rattle.whole_numbers.specs.Affine.{Affine}
 use Rattle.integer_sets.specs.Constraints.{variables_in}
 use Rattle.iteration_domains.specs.Dependence.{Dependence}
 use Rattle.iteration_domains.specs.Model.{KernelModel}
-use Rattle.schedule_rows.specs.Items.{Block, rows_in}
+use Rattle.schedule_rows.specs.Items.{Block}
 use Rattle.schedule_rows.specs.Outcomes.{IsSchedule}
-use Rattle.schedule_rows.specs.Schedule.{Scheduled, loops_in}
-use Rattle.report_text.specs.ScheduleText.{schedule_text}
+use Rattle.schedule_rows.specs.Schedule.{Scheduled, items_of, loops_in}
+use Rattle.report_text.specs.ScheduleText.{IsNarrowItem, schedule_text}
 use Rattle.plan_check.specs.Derivations.{Step}
 use Rattle.plan_check.specs.Goals.{goals_in}
 use Rattle.plan_check.specs.Printed.{goal_text, step_text}
@@ -18,9 +19,7 @@ use Rattle.plan_check.specs.Text.{TermLine, StepLine, step_line, term_line}
 use Rattle.plan_check.specs.declared.lines.Term.{Term}
 use Rattle.plan_certificate.specs.Derivation.{derivation}
 use Rattle.plan_certificate.specs.SchedulePlan.{plan_of_blocks}
-use Rattle.std.specs.Prelude.{◌^◌, ◌<◌, pos, ◌<ℤ◌, All}
 use Rattle.scop_syntax.specs.Members.{In}
-use Rattle.schedule_rows.specs.Items as blocks
 
 -- a step as its line says it
 abbrev pub term_line_of : Term → TermLine
@@ -73,10 +72,15 @@ pub record Certifies (s : Scheduled) (given : Result Text ℕ) : Type 0 where
   pub run : IsSchedule s.model.parameters (loops_in s.model) s.deps blocks
   pub given_is : given ≡ certificate_of s.model blocks
 
--- numbers of the blocks below 2^127, and of rows in the certificate's lines below 2^64
+-- the numbers of rows that a step takes are below 2^64
+abbrev pub IsNarrowTerm : Term → Type 0
+IsNarrowTerm t = t.row < 2 ^ 64
+
+abbrev pub IsNarrowStep : Step → Type 0
+IsNarrowStep s = All IsNarrowTerm s.terms
+
+-- the numbers of a certificate are those that types hold
 pub record IsNarrow (model : KernelModel) (bs : List Block) : Type 0 where
-  pub rows : All (λ r. All (λ z. z <ℤ pos (2 ^ 127)) r.u × (r.w <ℤ pos (2 ^ 127))) (rows_in bs)
-  pub scalars : (numbers : List ℕ) → In (blocks.scalar numbers) bs → All (λ n. n < 2 ^ 127) numbers
+  pub items : All IsNarrowItem (items_of bs)
   pub lines : (d : Dependence) (steps : List Step) → In d (goals_in model (plan_of_blocks bs))
-      → derivation_of d ≡ Some steps
-      → All (λ s. All (λ t. t.row < 2 ^ 64) s.terms) steps
+      → derivation_of d ≡ Some steps → All IsNarrowStep steps

@@ -1,23 +1,15 @@
 //! The lines of goals and of their derivations, whose rows' numbers are those that their types hold.
 ghost use Rattle.std.specs.Prelude.{◌≡◌, ◌++◌, All, OnOk, codes, map};
-ghost use Rattle.form_text.specs.Numerals.{numeral};
 ghost use Rattle.plan_check.specs.Derivations.{step_of};
 ghost use Rattle.plan_check.specs.Printed.{goal_text, step_text, terms_text};
-ghost use Rattle.plan_certificate.specs.Certificates.{proof_text, step_line_of, steps_text, term_line_of};
-ghost use Rattle.plan_certificate.specs.steps.Narrow.{AreNarrow, IsNarrowLine, IsNarrowTerm};
+ghost use Rattle.plan_certificate.specs.Certificates.{IsNarrowStep, IsNarrowTerm, proof_text, step_line_of, steps_text};
+ghost use Rattle.plan_certificate.specs.Certificates.{term_line_of};
+ghost use Rattle.plan_certificate.specs.steps.Narrow.{IsNarrowLine};
 ghost use Rattle.plan_certificate.specs.steps.Numerals.{numbered, term_text};
 
-use form_text::put_bytes;
-use itoa::Buffer;
+use form_text::{put_bytes, put_numeral};
 use plan_check::{Line, Term};
 use std::alloc::AllocError;
-
-/// Appends a number in decimals.
-fn push_numeral(out: &mut Vec<u8>, number: u128) -> Result<(), AllocError>
-    ensures { OnOk result (out.new.items ≡ out.old.items ++ numeral number) }
-{
-    put_bytes(out, Buffer::new().format(number).as_bytes())
-}
 
 /// Appends a text and a number behind it.
 fn push_numbered(out: &mut Vec<u8>, front: &[u8], number: u128) -> Result<(), AllocError>
@@ -25,7 +17,7 @@ fn push_numbered(out: &mut Vec<u8>, front: &[u8], number: u128) -> Result<(), Al
 {
     match put_bytes(out, front) {
         Err(error) => Err(error),
-        Ok(()) => push_numeral(out, number),
+        Ok(()) => put_numeral(out, number),
     }
 }
 
@@ -72,7 +64,7 @@ fn push_step(out: &mut Vec<u8>, line: &Line) -> Result<(), AllocError>
 /// Appends the lines of steps.
 fn push_steps(out: &mut Vec<u8>, lines: &[Line]) -> Result<(), AllocError>
     ensures text { OnOk result (out.new.items ≡ out.old.items ++ steps_text (map step_of lines.now)) }
-    ensures narrow { OnOk result (AreNarrow (map step_of lines.now)) }
+    ensures narrow { OnOk result (All IsNarrowStep (map step_of lines.now)) }
 {
     for line in lines {
         match push_step(out, line) {
@@ -99,7 +91,7 @@ fn push_goal(out: &mut Vec<u8>, number: u64) -> Result<(), AllocError>
 /// `AllocError` alone.
 pub fn push_proof(out: &mut Vec<u8>, number: u64, lines: &[Line]) -> Result<(), AllocError>
     ensures text { OnOk result (out.new.items ≡ out.old.items ++ proof_text number (map step_of lines.now)) }
-    ensures narrow { OnOk result (AreNarrow (map step_of lines.now)) }
+    ensures narrow { OnOk result (All IsNarrowStep (map step_of lines.now)) }
 {
     match push_goal(out, number) {
         Err(error) => Err(error),

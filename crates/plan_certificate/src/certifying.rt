@@ -7,9 +7,10 @@ ghost use Rattle.scop_syntax.specs.Tree.{Program};
 ghost use Rattle.iteration_domains.specs.Model.{model_of};
 ghost use Rattle.plan_check.specs.Derivations.{step_of};
 ghost use Rattle.plan_check.specs.Judged.{judged};
-ghost use Rattle.plan_certificate.specs.Certificates.{Certifies, behind_text, derivation_of, proof_text, proofs_text};
+ghost use Rattle.plan_certificate.specs.Certificates.{Certifies, IsNarrowStep, behind_text, derivation_of, proof_text};
+ghost use Rattle.plan_certificate.specs.Certificates.{proofs_text};
 ghost use Rattle.plan_certificate.specs.steps.GoalTexts.{text_of};
-ghost use Rattle.plan_certificate.specs.steps.Narrow.{AreNarrow, HasNarrow, IsCertified};
+ghost use Rattle.plan_certificate.specs.steps.Narrow.{HasNarrow, IsCertified};
 ghost use Rattle.plan_certificate.specs.View.{uncertified_in};
 
 use crate::certificate_laws::certificates_are_accepted;
@@ -41,7 +42,7 @@ fn lines_for(alloc: Global, goal: &Dep) -> Result<Option<Vec<Line>>, AllocError>
 fn push_lines(out: &mut Vec<u8>, number: u64, lines: &[Line]) -> Result<(), CertifyStop>
     ensures gives { Gives uncertified_in (λ u. out.new.items) result
         (Ok (out.old.items ++ proof_text number (map step_of lines.now))) }
-    ensures narrow { OnOk result (AreNarrow (map step_of lines.now)) }
+    ensures narrow { OnOk result (All IsNarrowStep (map step_of lines.now)) }
 {
     match push_proof(out, number, lines) {
         Err(_) => Err(CertifyStop::NoMemory),

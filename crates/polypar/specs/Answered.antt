@@ -29,7 +29,8 @@ use Rattle.polypar.specs.Deserves.{Deserves, Asks, IsReadBy}
 use Rattle.plan_search.specs.StatusText.{status_text}
 
 -- an accepted input was read, and exactly the text of the arrays that it asks for was printed; `err` has gained exactly
--- the line of a kept order, if it is kept, and the report, where one is asked for
+-- the lines that tell why there are no copies, why tiles go by waves and why the order is kept, where it is so, and the
+-- report, where one is asked for
 abbrev pub PrintsArrays : RunOptions → Option (List ℕ) → SinkShows → SinkShows → SinkShows → SinkShows → Type 0
 PrintsArrays options left out out_after err err_after =
     (input : List ℕ) × (accepted : Accepted input) × (lines : List ℕ) × IsAllOf left input

@@ -1,5 +1,5 @@
 //! What a command that reads an input does: the source is read to its end and cut into a kernel and its data. For `run`
-//! the data's case is run by the kernel's plan, and the final arrays are printed; for the other commands see `kernel` and
+//! the data's case is run by the kernel's plan, and the final arrays are printed; for the other commands see `asked` and
 //! `check`.
 
 ghost use Rattle.std.specs.Prelude.{◌≡◌, MatchResult, Some, option_map};

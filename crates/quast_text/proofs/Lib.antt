@@ -1,4 +1,3 @@
 pub mod Names
-pub mod Numbers
 mod Quasts
 mod PendingParts

@@ -6,7 +6,7 @@ use Rattle.std.proofs.lemmas.List.{length-append}
 use Rattle.scop_lexer.specs.Bytes.{Text}
 use Rattle.quast_trees.specs.Tree.{Tree, branch, bind, count}
 use Rattle.quast_trees.specs.Place.{Spot, subtree}
-use Rattle.form_text.specs.Forms.{form_text, signed_text}
+use Rattle.form_text.specs.Forms.{constant_text, form_text}
 use Rattle.quast_text.specs.Text.{bound_name, names_within, let_text, quast_text, texts_of}
 use Rattle.quast_text.specs.steps.Waiting.{lets_in, waiting_text, weight, weights, GoesOn}
 use Rattle.quast_text.specs.declared.writer.Rest.TheVariants as rest
@@ -112,7 +112,7 @@ goes_let count place body rs names names' out out' f d is made named = λ outer 
           (made ∙ (ap (λ (i : ℕ). out ++ let_text (texts_of names) (suc i) f d) counted
           ∙ ap (λ (ns : List Text). out ++ let_text ns (suc k) f d) there))
           ∙ (let_front out (codes "let ") (bound_name (suc k)) (codes " = floor(") (form_text within f) (codes " / ")
-          (signed_text true d []) (codes ") { ") inner (codes " }") tail
+          (constant_text true d) (codes ") { ") inner (codes " }") tail
           ∙ sym (ap (λ (t : Tree). out ++ (quast_text outer k t ++ tail)) is)),
     )
 

@@ -7,7 +7,7 @@ use Rattle.std.proofs.lemmas.List.{length-append}
 use Rattle.scop_lexer.specs.Bytes.{Text}
 use Rattle.quast_trees.specs.Source.{Source, source_of, Forms}
 use Rattle.quast_trees.specs.Tree.{Tree, initial, leaf, branch, bind}
-use Rattle.form_text.specs.Forms.{form_text, signed_text}
+use Rattle.form_text.specs.Forms.{constant_text, form_text}
 use Rattle.form_text.specs.Names.{AreNames, IsFormOver}
 use Rattle.form_text.specs.Numerals.{numeral}
 use Rattle.form_text.specs.Reading.{read_terms, read_form, term_in_front, with_coefficient, EndsForm}
@@ -36,9 +36,12 @@ first t = get_or t 0 0
 
 -- two divisors with one text in front of what no digit begins are one
 pub one_divisor : (y z : ℤ) (r s : Text) → pos 1 ≤ℤ y → pos 1 ≤ℤ z → EndsDigits r → EndsDigits s
-    → signed_text true y [] ++ r ≡ signed_text true z [] ++ s → (y ≡ z) × (r ≡ s)
-one_divisor (pos m) (pos n) r s a b c d e = let t = one_number m n r s c d e in (ap pos t.0, t.1)
-one_divisor (pos m) (negsuc n) r s a b c d e = absurd (omega (arith, ints, b))
+    → constant_text true y ++ r ≡ constant_text true z ++ s → (y ≡ z) × (r ≡ s)
+one_divisor (pos zero) z r s a b c d e = absurd (omega (arith, ints, a))
+one_divisor (pos (suc m)) (pos zero) r s a b c d e = absurd (omega (arith, ints, b))
+one_divisor (pos (suc m)) (pos (suc n)) r s a b c d e =
+    let t = one_number (suc m) (suc n) r s c d e in (ap pos t.0, t.1)
+one_divisor (pos (suc m)) (negsuc n) r s a b c d e = absurd (omega (arith, ints, b))
 one_divisor (negsuc m) z r s a b c d e = absurd (omega (arith, ints, a))
 
 -- ---- lists of forms
@@ -237,9 +240,9 @@ one_quast laws loops outer k n (bind f d c) (bind g z v) x y o count a b e =
     let q = λ (s : Tree). quast_text outer (suc k) s in
     let head = codes "let " ++ (bound_name (suc k) ++ codes " = floor(") in
     let behind = λ (i : ℤ) (s : Tree) (r : Text).
-    signed_text true i [] ++ (codes ") { " ++ (q s ++ (codes " }" ++ r))) in
+    constant_text true i ++ (codes ") { " ++ (q s ++ (codes " }" ++ r))) in
     let parts = λ (h : Affine) (i : ℤ) (s : Tree) (r : Text). bind_parts (codes "let ") (bound_name (suc k))
-    (codes " = floor(") (form_text names h) (codes " / ") (signed_text true i []) (codes ") { ") (q s) (codes " }") r in
+    (codes " = floor(") (form_text names h) (codes " / ") (constant_text true i) (codes ") { ") (q s) (codes " }") r in
     let form = laws.one names f g (codes " / " ++ behind d c x) (codes " / " ++ behind z v y)
     (names_told outer k o) (over_names n (length names) f count a.0) (over_names n (length names) g count b.0)
     (laws.divisor (behind d c x)) (laws.divisor (behind z v y))

@@ -3,7 +3,7 @@ use Rattle.std.specs.Prelude.{ℕ, zero, suc, true, ℤ, List, [], ◌∷◌, �
 use Rattle.std.specs.List.{concat}
 use Rattle.whole_numbers.specs.Affine.{Affine}
 use Rattle.scop_lexer.specs.Bytes.{Text}
-use Rattle.form_text.specs.Forms.{form_text, signed_text}
+use Rattle.form_text.specs.Forms.{constant_text, form_text}
 use Rattle.form_text.specs.Numerals.{numeral}
 use Rattle.quast_trees.specs.Source.{Source, Forms}
 use Rattle.quast_trees.specs.Tree.{Tree, initial, leaf, branch, bind}
@@ -45,7 +45,7 @@ test_text names test = concat (codes "if " ∷ form_text names test ∷ codes " 
 abbrev pub let_text : List Text → ℕ → Affine → ℤ → Text
 let_text names k form divisor =
     concat (codes "let " ∷ bound_name k ∷ codes " = floor(" ∷ form_text names form ∷ codes " / "
-    ∷ signed_text true divisor [] ∷ codes ") { " ∷ [])
+    ∷ constant_text true divisor ∷ codes ") { " ∷ [])
 
 -- a quast within k `let`s: `initial`, `SN (FORM, ..)`, `if FORM >= 0 { Q } else { Q }` or
 -- `let #K = floor(FORM / D) { Q }`

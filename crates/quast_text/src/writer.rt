@@ -3,8 +3,7 @@
 
 ghost use Rattle.std.specs.Prelude.{◌≡◌, ◌<◌, ◌+◌, ◌-◌, ◌++◌, [], ◌∷◌, suc, IfOk, OnOk, codes, length, true};
 ghost use Rattle.std.specs.Prelude.{reverse};
-ghost use Rattle.form_text.specs.Forms.{form_text, signed_text};
-ghost use Rattle.form_text.specs.Numerals.{numeral};
+ghost use Rattle.form_text.specs.Forms.{form_text};
 ghost use Rattle.quast_trees.specs.Postfix.{tree_of};
 ghost use Rattle.quast_trees.specs.Source.{source_held};
 ghost use Rattle.quast_text.specs.Text.{bound_name, comma, forms_from, leaf_text, let_text, quast_text};
@@ -12,8 +11,7 @@ ghost use Rattle.quast_text.specs.Text.{statement_name, test_text, texts_of};
 ghost use Rattle.quast_text.specs.steps.Waiting.{GoesOn, weight, weights};
 ghost use Rattle.quast_text.specs.declared.writer.Rest.TheVariants as rest;
 
-use form_text::{put_bytes, put_form};
-use itoa::Buffer;
+use form_text::{put_bytes, put_constant, put_form, put_numeral};
 use quast_trees::{Form, Forms, Part, Place, Quast, Source};
 use std::alloc::{AllocError, Global};
 
@@ -38,20 +36,6 @@ fn lay<'a>(stack: &mut Vec<Rest<'a>>, part: Rest<'a>) -> Result<(), AllocError>
         Err(_) => Err(AllocError),
         Ok(()) => Ok(()),
     }
-}
-
-/// Puts a number.
-fn put_number(out: &mut Vec<u8>, number: u128) -> Result<(), AllocError>
-    ensures { OnOk result (out.new.items ≡ out.old.items ++ numeral number) }
-{
-    put_bytes(out, Buffer::new().format(number).as_bytes())
-}
-
-/// Puts a signed number.
-fn put_signed(out: &mut Vec<u8>, number: i128) -> Result<(), AllocError>
-    ensures { OnOk result (out.new.items ≡ out.old.items ++ signed_text true number []) }
-{
-    put_bytes(out, Buffer::new().format(number).as_bytes())
 }
 
 /// Puts a form over names.
@@ -99,7 +83,7 @@ fn put_statement(out: &mut Vec<u8>, source: &Option<Source>) -> Result<(), Alloc
         None => Ok(()),
         Some(source) => {
             put_bytes(out, b"S")?;
-            put_number(out, source.statement as u128 + 1)?;
+            put_numeral(out, source.statement as u128 + 1)?;
             put_bytes(out, b" ")?;
             Ok(())
         }
@@ -132,7 +116,7 @@ fn put_bound(out: &mut Vec<u8>, number: u128) -> Result<(), AllocError>
     ensures { OnOk result (out.new.items ≡ out.old.items ++ (codes "let " ++ bound_name number)) }
 {
     put_bytes(out, b"let #")?;
-    put_number(out, number)?;
+    put_numeral(out, number)?;
     Ok(())
 }
 
@@ -151,7 +135,7 @@ fn put_let(
     put_bytes(out, b" = floor(")?;
     put_named(out, names, form)?;
     put_bytes(out, b" / ")?;
-    put_signed(out, divisor)?;
+    put_constant(out, true, divisor)?;
     put_bytes(out, b") { ")?;
     Ok(())
 }
@@ -162,7 +146,7 @@ fn bound_name(alloc: Global, number: u128) -> Result<Vec<u8>, AllocError>
 {
     let mut name = Vec::new(alloc);
     put_bytes(&mut name, b"#")?;
-    put_number(&mut name, number)?;
+    put_numeral(&mut name, number)?;
     Ok(name)
 }
 

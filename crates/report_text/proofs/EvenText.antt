@@ -5,7 +5,7 @@ use Rattle.std.specs.Fmt.{digits}
 use Rattle.std.specs.List.{concat}
 use Rattle.whole_numbers.specs.Affine.{Affine, form_of}
 use Rattle.scop_lexer.specs.Bytes.{Text}
-use Rattle.form_text.specs.Forms.{form_text, signed_text}
+use Rattle.form_text.specs.Forms.{constant_text, form_text}
 use Rattle.form_text.specs.Numerals.{numeral}
 use Rattle.form_text.proofs.Numerals.{decimal_is_numeral}
 use Rattle.quast_trees.specs.Source.{source_of}
@@ -31,7 +31,7 @@ branch_of test first =
 
 abbrev half_of : ℕ → Text → Text → Text
 half_of k form body =
-    concat (concat (codes "let " ∷ bound_name k ∷ codes " = floor(" ∷ form ∷ codes " / " ∷ signed_text true (pos 2) []
+    concat (concat (codes "let " ∷ bound_name k ∷ codes " = floor(" ∷ form ∷ codes " / " ∷ constant_text true (pos 2)
     ∷ codes ") { " ∷ []) ∷ body ∷ codes " }" ∷ [])
 
 abbrev leaf_of : Text → Text

@@ -1,14 +1,12 @@
 -- The text of the sources of a kernel's reads is read in one way.
 use Rattle.scop_syntax.proofs.Common.{◌≡◌, ◌∙◌, ap, sym, subst, refl, ℕ, zero, suc, ◌+◌, ◌^◌, ◌<◌, List, [], ◌∷◌}
 use Rattle.scop_syntax.proofs.Common.{◌++◌, drop, get_or, length, arith, append_assoc, append-nil, decimal, Option}
-use Rattle.scop_syntax.proofs.Common.{Some, None, ◌≢◌, All, codes, slice_get, append_cancel_left}
-use Rattle.scop_syntax.proofs.Common.{IsPlaced, ranks_of, In, Placed, loops_in, statements_of}
-use Rattle.scop_syntax.proofs.Common.{Program, in_from_place, in_map_from}
+use Rattle.scop_syntax.proofs.Common.{Some, None, ◌≢◌, All, codes, slice_get, append_cancel_left, Program}
 use Rattle.std.proofs.lemmas.List.{length-append}
 use Rattle.scop_lexer.specs.Bytes.{Text}
 use Rattle.scop_lexer.specs.Words.{IsName}
 use Rattle.scop_parser.specs.DistinctNames.{HasDistinctNames, header_names}
-use Rattle.iteration_domains.specs.Model.{Modelled, KernelModel, modelled, model_of}
+use Rattle.iteration_domains.specs.Model.{Modelled, KernelModel, model_of}
 use Rattle.quast_trees.specs.Postfix.{tree_of}
 use Rattle.dataflow.specs.Stop.TheVariants as solver
 use Rattle.dataflow.specs.ReadSources.{reads_of}
@@ -112,23 +110,9 @@ one_source_text laws model outer n (source.Unresolved a) (source.Unresolved b) x
 
 -- ---- lines
 
--- what is known of the statements of a kernel
-pub record StatementLaws (program : Program) : Type 0 where
-  pub distinct : HasDistinctNames program
-  pub words : All IsName (header_names program)
-  pub loops : (p : Placed) → In p (statements_of program) → length p.loops ≡ loops_in p.scopes
-  pub placed : (p : Placed) → In p (statements_of program)
-      → IsPlaced (ranks_of program) (length program.parameters) p
-
-few_loops : (program : Program) (k : ℕ) (s : Modelled) → StatementLaws program
-    → slice_get (model_of program).statements k ≡ Some s → length s.loops < 2 ^ 64
-few_loops program k s laws e =
-    let from = in_map_from (modelled (length program.parameters)) s (statements_of program)
-    (in_from_place (model_of program).statements k s e) in
-    let same = ap (λ (m : Modelled). length m.loops) from.2 in
-    let count = laws.loops from.0 from.1 in
-    let few = (laws.placed from.0 from.1).few_loops in
-    omega (arith, same, count, few)
+-- a kernel's parameters and any turns are told apart
+abbrev AreNamesOf : Program → Type 0
+AreNamesOf program = (d : ℕ) → AreOuter (program.parameters ++ turn_names d)
 
 length_turns : (d : ℕ) → length (turn_names d) ≡ d
 length_turns zero = refl
@@ -142,14 +126,12 @@ line_parts : (p d q k r a s t u x : Text)
     ≡ (p ++ (d ++ (q ++ (k ++ (r ++ (a ++ s)))))) ++ (t ++ (u ++ x))
 line_parts p d q k r a s t u x = simp (append_assoc, append-nil) refl
 
-one_line : (quasts : QuastLaws) (program : Program) (i k : ℕ) (o : Option Modelled) (a b : ReadSource) (x y : Text)
-    → StatementLaws program → slice_get (model_of program).statements i ≡ o → IsToldAt (model_of program) o a
-    → IsToldAt (model_of program) o b → line_of program o k a ++ x ≡ line_of program o k b ++ y
-    → SaySame a b × (x ≡ y)
-one_line quasts program i k None a b x y laws here h g e = absurd h
-one_line quasts program i k (Some s) a b x y laws here h g e =
+one_line : (quasts : QuastLaws) (program : Program) (k : ℕ) (o : Option Modelled) (a b : ReadSource) (x y : Text)
+    → AreNamesOf program → IsToldAt (model_of program) o a → IsToldAt (model_of program) o b
+    → line_of program o k a ++ x ≡ line_of program o k b ++ y → SaySame a b × (x ≡ y)
+one_line quasts program k None a b x y named h g e = absurd h
+one_line quasts program k (Some s) a b x y named h g e =
     let names = names_at program s in
-    let outer = outer_names program (length s.loops) laws.distinct laws.words (few_loops program i s laws here) in
     let both = length-append program.parameters (turn_names (length s.loops)) in
     let turns = length_turns (length s.loops) in
     let array = array_of program (slice_get s.accesses k) in
@@ -158,27 +140,27 @@ one_line quasts program i k (Some s) a b x y laws here h g e =
     let parts = λ (c : ReadSource) (z : Text). line_parts (codes "S") number (codes " read ") (decimal k) (codes " ")
     array (codes ": ") (source_text names c) (codes "\n") z in
     one_source_text quasts (model_of program) names (length program.parameters + length s.loops) a b x y
-    outer (omega (arith, both, turns)) h g
+    (named (length s.loops)) (omega (arith, both, turns)) h g
     (append_cancel_left head (source_text names a ++ 10 ∷ x) (source_text names b ++ 10 ∷ y)
     (sym (parts a x) ∙ (e ∙ parts b y)))
 
 one_text : (quasts : QuastLaws) (program : Program) (reads : List (ℕ × ℕ)) (a b : List ReadSource)
-    → StatementLaws program → AreTold (model_of program) reads a → AreTold (model_of program) reads b
+    → AreNamesOf program → AreTold (model_of program) reads a → AreTold (model_of program) reads b
     → lines_of program reads a ≡ lines_of program reads b → AllSaySame a b
-one_text quasts program [] [] [] laws h g e = tt
-one_text quasts program [] [] (b ∷ bs) laws h g e = absurd g
-one_text quasts program [] (a ∷ others) bs laws h g e = absurd h
-one_text quasts program (r ∷ rs) [] bs laws h g e = absurd h
-one_text quasts program (r ∷ rs) (a ∷ others) [] laws h g e = absurd g
-one_text quasts program (r ∷ rs) (a ∷ others) (b ∷ bs) laws h g e =
-    let t = one_line quasts program r.0 r.1 (slice_get (model_of program).statements r.0) a b
-    (lines_of program rs others)
-    (lines_of program rs bs) laws refl h.0 g.0 e in
-    (t.0, one_text quasts program rs others bs laws h.1 g.1 t.1)
+one_text quasts program [] [] [] named h g e = tt
+one_text quasts program [] [] (b ∷ bs) named h g e = absurd g
+one_text quasts program [] (a ∷ others) bs named h g e = absurd h
+one_text quasts program (r ∷ rs) [] bs named h g e = absurd h
+one_text quasts program (r ∷ rs) (a ∷ others) [] named h g e = absurd g
+one_text quasts program (r ∷ rs) (a ∷ others) (b ∷ bs) named h g e =
+    let t = one_line quasts program r.1 (slice_get (model_of program).statements r.0) a b (lines_of program rs others)
+    (lines_of program rs bs) named h.0 g.0 e in
+    (t.0, one_text quasts program rs others bs named h.1 g.1 t.1)
 
 -- sources of a kernel's reads with one text say the same
-pub one_deps_text : (quasts : QuastLaws) (program : Program) (a b : List ReadSource) → StatementLaws program
-    → AreTold (model_of program) (reads_of (model_of program)) a
+pub one_deps_text : (quasts : QuastLaws) (program : Program) (a b : List ReadSource) → HasDistinctNames program
+    → All IsName (header_names program) → AreTold (model_of program) (reads_of (model_of program)) a
     → AreTold (model_of program) (reads_of (model_of program)) b
     → deps_text program a ≡ deps_text program b → AllSaySame a b
-one_deps_text quasts program a b laws h g e = one_text quasts program (reads_of (model_of program)) a b laws h g e
+one_deps_text quasts program a b distinct words h g e =
+    one_text quasts program (reads_of (model_of program)) a b (λ d. outer_names program d distinct words) h g e

@@ -1,15 +1,15 @@
 -- The names that forms of sources speak of are told apart.
-use Rattle.scop_syntax.proofs.Common.{◌≡◌, ◌∙◌, ap, sym, subst, refl, ℕ, zero, suc, ◌^◌, ◌<◌, false, List, [], ◌∷◌}
-use Rattle.scop_syntax.proofs.Common.{◌++◌, drop, get_or, map, decimal, arith, append-nil, append_assoc, inr, inl, ◌≢◌}
-use Rattle.scop_syntax.proofs.Common.{All, false≢true, All-head, All-tail, decimal_injective, all_front, In, Sorted}
+use Rattle.scop_syntax.proofs.Common.{◌≡◌, ◌∙◌, ap, sym, subst, refl, ℕ, zero, suc, ◌<◌, false, List, [], ◌∷◌}
+use Rattle.scop_syntax.proofs.Common.{◌++◌, drop, get_or, map, arith, append-nil, append_assoc, inr, inl, ◌≢◌}
+use Rattle.scop_syntax.proofs.Common.{All, false≢true, All-head, All-tail, all_front, In, Sorted}
 use Rattle.scop_syntax.proofs.Common.{Declaration, Program, in_front}
 use Rattle.scop_lexer.specs.Bytes.{Text, is_letter}
 use Rattle.scop_lexer.specs.Words.{IsName}
 use Rattle.scop_parser.specs.DistinctNames.{HasDistinctNames, header_names}
-use Rattle.form_text.specs.Names.{AreNameBytes, IsFresh, AreNames}
+use Rattle.form_text.specs.Names.{IsFresh, AreNames}
 use Rattle.form_text.specs.Numerals.{numeral}
+use Rattle.form_text.proofs.Digits.{one_number}
 use Rattle.form_text.proofs.Names.{fresh_append, numeral_bytes, variable_name}
-use Rattle.form_text.proofs.Numerals.{decimal_is_numeral}
 use Rattle.quast_text.specs.Text.{bound_name}
 use Rattle.quast_text.specs.Reading.{AreOuter}
 use Rattle.quast_text.proofs.Names.{fresh_behind, names_behind}
@@ -41,44 +41,41 @@ sorted_front R (x ∷ xs) ys s = ((λ y i. s.0 y (in_front y xs ys i)), sorted_f
 
 -- ---- numbered names
 
-turn_apart : (i j : ℕ) → i < 2 ^ 64 → j < 2 ^ 64 → j < i → turn_name i ≢ turn_name j
-turn_apart i j a b less e =
-    let same : i ≡ j = decimal_injective i j a b (ap (drop 1) e) in
-    omega (arith, same, less)
+turn_apart : (i j : ℕ) → j < i → turn_name i ≢ turn_name j
+turn_apart i j less e =
+    let same = (one_number i j [] [] tt tt (ap (λ (t : Text). drop 1 t ++ []) e)).0 in omega (arith, same, less)
 
 mark_apart : (i j : ℕ) → bound_name i ≢ turn_name j
 mark_apart i j e = let same : 35 ≡ 36 = ap (λ (t : Text). get_or t 0 0) e in omega (arith, same)
 
-turn_fresh : (i d : ℕ) → i < 2 ^ 64 → d < i → IsFresh (turn_name i) (turn_names d)
-turn_fresh i zero a less = tt
-turn_fresh i (suc d) a less =
-    fresh_behind (turn_name i) (turn_name (suc d)) (turn_names d) (turn_fresh i d a (omega (arith, less)))
-    (turn_apart i (suc d) a (omega (arith, a, less)) less)
+turn_fresh : (i d : ℕ) → d < i → IsFresh (turn_name i) (turn_names d)
+turn_fresh i zero less = tt
+turn_fresh i (suc d) less =
+    fresh_behind (turn_name i) (turn_name (suc d)) (turn_names d) (turn_fresh i d (omega (arith, less)))
+    (turn_apart i (suc d) less)
 
 no_turn : (j d : ℕ) → IsFresh (bound_name j) (turn_names d)
 no_turn j zero = tt
 no_turn j (suc d) = fresh_behind (bound_name j) (turn_name (suc d)) (turn_names d) (no_turn j d) (mark_apart j (suc d))
 
-turns_told : (names : List Text) (d : ℕ) → AreNames names → All IsName names → d < 2 ^ 64
-    → AreNames (names ++ turn_names d)
-turns_told names zero told w a = subst AreNames (sym (append-nil names)) told
-turns_told names (suc d) told w a =
+turns_told : (names : List Text) (d : ℕ) → AreNames names → All IsName names → AreNames (names ++ turn_names d)
+turns_told names zero told w = subst AreNames (sym (append-nil names)) told
+turns_told names (suc d) told w =
     subst AreNames (append_assoc names (turn_names d) (turn_name (suc d) ∷ []))
-    (names_behind (names ++ turn_names d) (turn_name (suc d)) (turns_told names d told w (omega (arith, a)))
-    (refl, subst AreNameBytes (sym (decimal_is_numeral (suc d) (omega (arith, a)))) (numeral_bytes (suc d)))
+    (names_behind (names ++ turn_names d) (turn_name (suc d)) (turns_told names d told w) (refl, numeral_bytes (suc d))
     (fresh_append (turn_name (suc d)) names (turn_names d)
-    (marked_is_fresh 36 (decimal (suc d)) names refl w) (turn_fresh (suc d) d a (omega arith))))
+    (marked_is_fresh 36 (numeral (suc d)) names refl w) (turn_fresh (suc d) d (omega arith))))
 
 -- a kernel's parameters and the turns of loops stand round quasts
 pub outer_names : (program : Program) (d : ℕ) → HasDistinctNames program → All IsName (header_names program)
-    → d < 2 ^ 64 → AreOuter (program.parameters ++ turn_names d)
-outer_names program d distinct words a =
+    → AreOuter (program.parameters ++ turn_names d)
+outer_names program d distinct words =
     let arrays = map (λ (x : Declaration). x.name) program.arrays in
     let own = all_front IsName program.parameters arrays words in
     let told = words_told program.parameters
     (sorted_front (λ (v w : Text). v ≢ w) program.parameters arrays distinct.header) own in
     record {
-      names = turns_told program.parameters d told own a;
+      names = turns_told program.parameters d told own;
       fresh = λ j. fresh_append (bound_name j) program.parameters (turn_names d)
           (marked_is_fresh 35 (numeral j) program.parameters refl own) (no_turn j d);
     }

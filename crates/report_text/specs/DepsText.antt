@@ -6,6 +6,7 @@
 use Rattle.std.specs.Prelude.{ℕ, zero, suc, List, [], ◌∷◌, ◌++◌, length, codes, decimal, Option, Some, None, slice_get}
 use Rattle.std.specs.List.{concat}
 use Rattle.scop_lexer.specs.Bytes.{Text}
+use Rattle.form_text.specs.Numerals.{numeral}
 use Rattle.scop_syntax.specs.Tree.{Access, Program}
 use Rattle.iteration_domains.specs.Model.{Modelled, model_of}
 use Rattle.quast_trees.specs.Postfix.{tree_of}
@@ -20,7 +21,7 @@ use Rattle.report_text.specs.StatusText.{array_name}
 
 -- the turn of the j-th loop from the outside
 abbrev pub turn_name : ℕ → Text
-turn_name j = codes "$" ++ decimal j
+turn_name j = codes "$" ++ numeral j
 
 -- those of d loops, the outermost first
 abbrev pub turn_names : ℕ → List Text

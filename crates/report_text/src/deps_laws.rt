@@ -3,7 +3,6 @@
 ghost use Rattle.std.specs.Prelude.{◌≡◌, List, All, codes};
 ghost use Rattle.scop_lexer.specs.Bytes.{Text};
 ghost use Rattle.scop_lexer.specs.Words.{IsName};
-ghost use Rattle.scop_syntax.specs.Kernel.{IsKernel};
 ghost use Rattle.scop_syntax.specs.Tree.{Program};
 ghost use Rattle.scop_parser.specs.Spelling.{SpellsProgram};
 ghost use Rattle.scop_parser.specs.DistinctNames.{HasDistinctNames, header_names};
@@ -18,17 +17,15 @@ ghost use Rattle.report_text.specs.DepsReading.{AllSaySame};
 
 use quast_text::texts_are_of_one_quast;
 use scop_parser::spelled_programs_are_kernels;
-use scop_syntax::statements_are_numbered;
 
 /// A text of sources is read in one way: two lists of sources of a kernel's reads that have one text say the same, quast
 /// by quast, and of each unresolved read the same cause with the same number. What is printed is what was proved.
 pub fn deps_texts_are_read_in_one_way()
-    ensures { (program : Program) (a b : List ReadSource) → IsKernel program → HasDistinctNames program
+    ensures { (program : Program) (a b : List ReadSource) → HasDistinctNames program
         → All IsName (header_names program) → AreTold (model_of program) (reads_of (model_of program)) a
         → AreTold (model_of program) (reads_of (model_of program)) b → deps_text program a ≡ deps_text program b
         → AllSaySame a b }
 {
-    statements_are_numbered();
     texts_are_of_one_quast();
 }
 

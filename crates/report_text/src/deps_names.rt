@@ -6,7 +6,7 @@ ghost use Rattle.scop_syntax.specs.View.{program_of};
 ghost use Rattle.quast_text.specs.Text.{texts_of};
 ghost use Rattle.report_text.specs.DepsText.{turn_name, turn_names};
 
-use crate::pieces::{Piece, push_pieces};
+use form_text::{put_bytes, put_numeral};
 use scop_syntax::{Kernel, Name};
 use std::alloc::{AllocError, Global};
 
@@ -37,7 +37,8 @@ fn turn_name(alloc: Global, number: u128) -> Result<Name, AllocError>
     ensures { IfOk result (λ name. name.items ≡ turn_name number) }
 {
     let mut name = Vec::new(alloc);
-    push_pieces(&mut name, &[Piece::Text(b"$"), Piece::Number(number)])?;
+    put_bytes(&mut name, b"$")?;
+    put_numeral(&mut name, number)?;
     Ok(name)
 }
 

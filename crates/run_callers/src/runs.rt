@@ -1,10 +1,7 @@
-//! Callers of whole runs: the cells that they leave, in the arrays of the program's own execution.
+//! Callers of whole runs: the cells that they leave, and what stays where memory is wanting.
 ghost use Rattle.array_words.specs.Closing.{IsClosed};
-ghost use Rattle.std.specs.Prelude.{◌≡◌, ℕ, ◌+◌, ◌<◌, ◌≤◌, ⊤, false, true, [], IfErr, IfOk, List, MatchOption, get_or};
-ghost use Rattle.std.specs.Prelude.{length};
-ghost use Rattle.scop_syntax.specs.Cells.{Cell};
-ghost use Rattle.scop_syntax.specs.Execution.{IsCell, IsInside, IsShaped, cell_number, exec, held, layout};
-ghost use Rattle.scop_syntax.specs.Execution.{value_stored_at};
+ghost use Rattle.std.specs.Prelude.{◌≡◌, ⊤, true, [], IfErr, IfOk, MatchOption, length};
+ghost use Rattle.scop_syntax.specs.Execution.{IsInside, IsShaped, layout};
 ghost use Rattle.scop_syntax.specs.Limits.{WithinLimits};
 ghost use Rattle.scop_syntax.specs.Reductions.{AreMarked};
 ghost use Rattle.scop_syntax.specs.View.{program_of};
@@ -15,12 +12,11 @@ ghost use Rattle.loop_tree.specs.Walk.{visits};
 ghost use Rattle.expansions.specs.Expansions.{AreSourcesOf};
 ghost use Rattle.planned_trees.specs.Trees.{AreFlowTreesOf, AreTreesOf};
 ghost use Rattle.tile_list.specs.Tiles.{CanTile};
-ghost use Rattle.tile_core.specs.Plans.{HasRest, HoldsContents, IsPlan, extents_in, is_expanded, plain_shape, plan_of};
-ghost use Rattle.tile_core.specs.Plans.{program_in, shape_of, walk_in};
+ghost use Rattle.tile_core.specs.Plans.{HasRest, IsPlan, plan_of, shape_of};
 
 use array_words::Closed;
 use data_text::Case;
-use io_ports::{Gate, OpenGate};
+use io_ports::OpenGate;
 use loop_tree::{Tiling, Tree};
 use scop_syntax::Kernel;
 use std::alloc::{AllocError, Global};
@@ -46,40 +42,6 @@ pub fn run_by_one_worker<'a, R: Threads + Wait + Sync>(
     ensures unchanged { IfErr result (λ _. cells.new.items ≡ cells.old.items) }
 {
     run_plan(rt, alloc, plan, cells, 1, &OpenGate)
-}
-
-/// After a run of any number of workers, over the arrays' contents one behind another, each cell of each array holds
-/// what the program's own execution leaves there, by `arrays` of `run_plan`; with an expansion what it held before, by
-/// `kept`, and the copy of each place what that execution stores there, by `copies`.
-pub fn run_as_executed<'a, R: Threads + Wait + Sync, G: Gate>(
-    rt: &R,
-    alloc: Global,
-    plan: Plan<'a>,
-    cells: &mut Vec<u64>,
-    workers: usize,
-    gate: &G,
-) -> Result<Closed<'a>, AllocError>
-    requires plan { IsPlan plan }
-    requires cells { length cells.old.items ≡ (shape_of plan).cells }
-    requires rest { HasRest plan cells.old.items }
-    requires some { 1 ≤ workers }
-    requires few { workers ≤ 64 }
-    ensures arrays { IfOk result (λ _. (contents : List (List ℕ)) → is_expanded plan.entry ≡ false
-        → IsShaped (extents_in plan.entry) contents → HoldsContents contents cells.old.items
-        → (c : Cell) → IsCell (extents_in plan.entry) c
-        → get_or cells.new.items (cell_number (extents_in plan.entry) c) 0
-        ≡ held (extents_in plan.entry) (exec (program_in plan.entry) plan.entry.params.now contents) c) }
-    ensures kept { IfOk result (λ _. (contents : List (List ℕ)) → is_expanded plan.entry ≡ true
-        → IsShaped (extents_in plan.entry) contents → HoldsContents contents cells.old.items
-        → (c : Cell) → IsCell (extents_in plan.entry) c
-        → get_or cells.new.items (cell_number (extents_in plan.entry) c) 0 ≡ held (extents_in plan.entry) contents c) }
-    ensures copies { IfOk result (λ _. (contents : List (List ℕ)) (j : ℕ) → is_expanded plan.entry ≡ true
-        → IsShaped (extents_in plan.entry) contents → HoldsContents contents cells.old.items
-        → j < length (walk_in plan.entry)
-        → get_or cells.new.items ((plain_shape plan.entry).cells + j) 0
-        ≡ value_stored_at (extents_in plan.entry) contents (walk_in plan.entry) j) }
-{
-    run_plan(rt, alloc, plan, cells, workers, gate)
 }
 
 /// Where memory is wanting a case stays as it was, by the clauses of `run_case` of these names.

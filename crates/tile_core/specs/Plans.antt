@@ -1,9 +1,9 @@
 -- A plan of a kernel as plain data.
 use Rattle.std.specs.Prelude.{◌≡◌, ℕ, ◌+◌, ◌<◌, ◌≤◌, ⊤, List, [], length, map, get_or, slice_get}
-use Rattle.std.specs.Prelude.{Bool, IsSome, MatchOption, Option, Some, None, is_some}
+use Rattle.std.specs.Prelude.{Bool, true, false, IsSome, MatchOption, Option, Some, None, is_some}
 use Rattle.std.specs.Borrow.{Bor}
-use Rattle.scop_syntax.specs.Cells.{cell_of, reads}
-use Rattle.scop_syntax.specs.Execution.{IsInside, layout, total_cells}
+use Rattle.scop_syntax.specs.Cells.{Cell, cell_of, reads}
+use Rattle.scop_syntax.specs.Execution.{IsCell, IsInside, cell_number, exec, held, layout, total_cells, value_stored_at}
 use Rattle.scop_syntax.specs.Limits.{WithinLimits}
 use Rattle.scop_syntax.specs.Reductions.{AreMarked}
 use Rattle.scop_syntax.specs.Tree.{Program}
@@ -143,6 +143,29 @@ HasRest plan cells = (c : ℕ) → (plain_shape plan).cells ≤ c → get_or cel
 -- a row holds these contents, one array behind another, and 0 behind them
 abbrev pub HoldsContents : List (List ℕ) → List ℕ → Type 0
 HoldsContents contents row = (c : ℕ) → get_or row c 0 ≡ get_or (flat contents) c 0
+
+-- each cell of each array is as execution of these contents leaves it
+abbrev pub AreHeld : Plan → List (List ℕ) → List ℕ → Type 0
+AreHeld plan contents cells = (c : Cell) → IsCell (extents_in plan) c
+    → get_or cells (cell_number (extents_in plan) c) 0
+    ≡ held (extents_in plan) (exec (program_in plan) plan.params.now contents) c
+
+-- each cell of each array is as it was
+abbrev pub AreKept : Plan → List (List ℕ) → List ℕ → Type 0
+AreKept plan contents cells = (c : Cell) → IsCell (extents_in plan) c
+    → get_or cells (cell_number (extents_in plan) c) 0 ≡ held (extents_in plan) contents c
+
+-- behind the arrays stands what each place of the walk stores in that execution
+abbrev pub AreCopies : Plan → List (List ℕ) → List ℕ → Type 0
+AreCopies plan contents cells = (j : ℕ) → j < length (walk_in plan)
+    → get_or cells ((plain_shape plan).cells + j) 0 ≡ value_stored_at (extents_in plan) contents (walk_in plan) j
+
+-- what a run over these contents leaves: the arrays of execution, or with an expansion the arrays as they were, and the
+-- copies
+pub record HoldsResults (plan : Plan) (contents : List (List ℕ)) (cells : List ℕ) : Type 0 where
+  pub arrays : is_expanded plan ≡ false → AreHeld plan contents cells
+  pub kept : is_expanded plan ≡ true → AreKept plan contents cells
+  pub copies : is_expanded plan ≡ true → AreCopies plan contents cells
 
 -- the order that a plan has to keep: of what conflicts on an array that is not marked; with an expansion, of reads behind
 -- their last writers alone

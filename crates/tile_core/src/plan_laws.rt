@@ -1,15 +1,6 @@
 //! Laws of plans, as contracts of functions that call the laws which their proofs use.
-ghost use Rattle.std.specs.Prelude.{◌≡◌, ℕ, ◌+◌, ◌<◌, ◌≤◌, List, Some, false, length, slice_get, slice_index_or, true};
-ghost use Rattle.scop_syntax.specs.Cells.{Cell};
-ghost use Rattle.scop_syntax.specs.Execution.{
-  IsCell,
-  IsShaped,
-  before_place,
-  cell_number,
-  exec,
-  held,
-  value_stored_at,
-};
+ghost use Rattle.std.specs.Prelude.{◌≡◌, ℕ, ◌<◌, ◌≤◌, List, Some, false, length, slice_get, true};
+ghost use Rattle.scop_syntax.specs.Execution.{IsShaped, before_place};
 ghost use Rattle.scop_syntax.specs.Members.{In};
 ghost use Rattle.scop_syntax.specs.Walk.{Instance, Visit, instance};
 ghost use Rattle.tile_table.specs.declared.table.Row.{Row};
@@ -23,6 +14,9 @@ ghost use Rattle.tile_events.specs.Plan.{GoodPlan, IsDealt, values_read};
 ghost use Rattle.tile_events.specs.Sound.{Sound};
 ghost use Rattle.tile_core.specs.Marks.{values_loaded_by};
 ghost use Rattle.tile_core.specs.Plans.{
+  AreCopies,
+  AreHeld,
+  AreKept,
   HoldsContents,
   IsPlan,
   deal_of,
@@ -32,7 +26,6 @@ ghost use Rattle.tile_core.specs.Plans.{
   plain_plan,
   plain_shape,
   plan_of,
-  program_in,
   scan_in,
   sources_in,
   walk_in,
@@ -107,18 +100,13 @@ pub fn plans_execute_the_kernel()
         v.body v.point }
     ensures end { (plan : Plan) (contents : List (List ℕ)) (s : State) → IsPlan plan → is_expanded plan ≡ false
         → IsShaped (extents_in plan) contents → Sound (plan_of plan (flat contents)) s
-        → IsQuiet (plan_of plan (flat contents)) s → (c : Cell) → IsCell (extents_in plan) c
-        → slice_index_or s.cells (cell_number (extents_in plan) c) 0
-        ≡ held (extents_in plan) (exec (program_in plan) plan.params.now contents) c }
+        → IsQuiet (plan_of plan (flat contents)) s → AreHeld plan contents s.cells }
     ensures kept { (plan : Plan) (contents : List (List ℕ)) (s : State) → IsPlan plan → is_expanded plan ≡ true
         → IsShaped (extents_in plan) contents → Sound (plan_of plan (flat contents)) s
-        → (c : Cell) → IsCell (extents_in plan) c
-        → slice_index_or s.cells (cell_number (extents_in plan) c) 0 ≡ held (extents_in plan) contents c }
-    ensures copies { (plan : Plan) (contents : List (List ℕ)) (s : State) (j : ℕ) → IsPlan plan
-        → is_expanded plan ≡ true → IsShaped (extents_in plan) contents → Sound (plan_of plan (flat contents)) s
-        → IsQuiet (plan_of plan (flat contents)) s → j < length (walk_in plan)
-        → slice_index_or s.cells ((plain_shape plan).cells + j) 0
-        ≡ value_stored_at (extents_in plan) contents (walk_in plan) j }
+        → AreKept plan contents s.cells }
+    ensures copies { (plan : Plan) (contents : List (List ℕ)) (s : State) → IsPlan plan → is_expanded plan ≡ true
+        → IsShaped (extents_in plan) contents → Sound (plan_of plan (flat contents)) s
+        → IsQuiet (plan_of plan (flat contents)) s → AreCopies plan contents s.cells }
 {
     walks_are_dealt();
     pairs_make_plans();

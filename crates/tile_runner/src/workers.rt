@@ -1,10 +1,8 @@
 //! The run of all workers.
 ghost use Rattle.array_words.specs.Closing.{IsClosed};
-ghost use Rattle.std.specs.Prelude.{◌≡◌, ℕ, ◌+◌, ◌<◌, ◌≤◌, All, IfErr, IfOk, List, false, get_or, length, true};
-ghost use Rattle.scop_syntax.specs.Cells.{Cell};
-ghost use Rattle.scop_syntax.specs.Execution.{IsCell, IsShaped, cell_number, exec, held, value_stored_at};
-ghost use Rattle.tile_core.specs.Plans.{HasRest, HoldsContents, IsPlan, extents_in, is_expanded};
-ghost use Rattle.tile_core.specs.Plans.{plain_shape, plan_of, program_in, shape_of, walk_in};
+ghost use Rattle.std.specs.Prelude.{◌≡◌, ℕ, ◌<◌, ◌≤◌, All, IfErr, IfOk, List, length};
+ghost use Rattle.scop_syntax.specs.Execution.{IsShaped};
+ghost use Rattle.tile_core.specs.Plans.{HasRest, HoldsContents, HoldsResults, IsPlan, extents_in, plan_of, shape_of};
 ghost use Rattle.tile_runner.specs.steps.Running.{IsOver, IsReady};
 
 use crate::worker::work;
@@ -61,20 +59,8 @@ pub fn run_plan<'a, R: Threads + Wait + Sync, G: Gate>(
     requires rest { HasRest plan cells.old.items }
     requires some { 1 ≤ workers }
     requires few { workers ≤ 64 }
-    ensures arrays { IfOk result (λ _. (contents : List (List ℕ)) → is_expanded plan.entry ≡ false
-        → IsShaped (extents_in plan.entry) contents
-        → HoldsContents contents cells.old.items → (c : Cell) → IsCell (extents_in plan.entry) c
-        → get_or cells.new.items (cell_number (extents_in plan.entry) c) 0
-        ≡ held (extents_in plan.entry) (exec (program_in plan.entry) plan.entry.params.now contents) c) }
-    ensures kept { IfOk result (λ _. (contents : List (List ℕ)) → is_expanded plan.entry ≡ true
-        → IsShaped (extents_in plan.entry) contents
-        → HoldsContents contents cells.old.items → (c : Cell) → IsCell (extents_in plan.entry) c
-        → get_or cells.new.items (cell_number (extents_in plan.entry) c) 0 ≡ held (extents_in plan.entry) contents c) }
-    ensures copies { IfOk result (λ _. (contents : List (List ℕ)) (j : ℕ) → is_expanded plan.entry ≡ true
-        → IsShaped (extents_in plan.entry) contents
-        → HoldsContents contents cells.old.items → j < length (walk_in plan.entry)
-        → get_or cells.new.items ((plain_shape plan.entry).cells + j) 0
-        ≡ value_stored_at (extents_in plan.entry) contents (walk_in plan.entry) j) }
+    ensures results { IfOk result (λ _. (contents : List (List ℕ)) → IsShaped (extents_in plan.entry) contents
+        → HoldsContents contents cells.old.items → HoldsResults plan.entry contents cells.new.items) }
     ensures cells { IfOk result (λ _. IsClosed (plan_of plan.entry cells.old.items) cells.old.items cells.new.items) }
     ensures plan { IfOk result (λ c. c.plan ≡ plan.entry) }
     ensures ended { IfOk result (λ c. c.ended ≡ workers) }

@@ -1,12 +1,12 @@
 -- What the cells are at the end of a plan's run.
-use Rattle.scop_syntax.proofs.Common.{◌≡◌, ◌∙◌, ◌+◌, ◌<◌, ◌≤◌, ℕ, ℤ, List, Bool, true, false, Bor, Option, None, Some}
-use Rattle.scop_syntax.proofs.Common.{ap₂, arith, get_or, length, refl, subst, sym, take, is_some, get_or-take}
-use Rattle.scop_syntax.proofs.Common.{length-take-le, Cell, Program, IsCell, IsShaped, cell_number, exec, held}
-use Rattle.scop_syntax.proofs.Common.{total_cells, value_stored_at}
+use Rattle.scop_syntax.proofs.Common.{◌≡◌, ◌∙◌, ◌+◌, ◌≤◌, ℕ, ℤ, List, Bool, true, false, Bor, Option, None, Some}
+use Rattle.scop_syntax.proofs.Common.{ap₂, arith, length, refl, subst, sym, take, is_some, get_or-take}
+use Rattle.scop_syntax.proofs.Common.{length-take-le, Program, IsShaped, cell_number, exec, total_cells}
 use Rattle.tile_core.specs.Boards.{IsRun}
 use Rattle.tile_core.specs.Cores.{plan_in, state_in}
-use Rattle.tile_core.specs.Plans.{HoldsContents, IsPlan, extents_in, is_expanded, plain_shape, plan_of, program_in}
-use Rattle.tile_core.specs.Plans.{shape_of, sources_in, walk_in, with_copies}
+use Rattle.tile_core.specs.Plans.{AreCopies, AreHeld, AreKept, HoldsContents, HoldsResults, IsPlan, extents_in}
+use Rattle.tile_core.specs.Plans.{is_expanded, plain_shape, plan_of, program_in, shape_of, sources_in, walk_in}
+use Rattle.tile_core.specs.Plans.{with_copies}
 use Rattle.tile_core.proofs.Gates.{shape_extends, wider}
 use Rattle.tile_core.specs.declared.cores.Core.{Core}
 use Rattle.tile_core.specs.declared.expansion.Expansion.{Expansion}
@@ -22,22 +22,6 @@ use Rattle.tile_runs.specs.steps.Alone.{IsAlone, IsLater, shape_in}
 use Rattle.tile_runs.proofs.Cells.{row_is, shape_executed}
 use Rattle.tile_runs.proofs.SettledCells.{CellsAreBelow}
 use Rattle.tile_runs.proofs.Steps.{quiet_alone}
-
--- each cell of each array is as execution leaves it
-abbrev pub AreHeld : Plan → List (List ℕ) → List ℕ → Type 0
-AreHeld plan contents cells = (c : Cell) → IsCell (extents_in plan) c
-    → get_or cells (cell_number (extents_in plan) c) 0
-    ≡ held (extents_in plan) (exec (program_in plan) plan.params.now contents) c
-
--- each cell of each array is as it was
-abbrev pub AreKept : Plan → List (List ℕ) → List ℕ → Type 0
-AreKept plan contents cells = (c : Cell) → IsCell (extents_in plan) c
-    → get_or cells (cell_number (extents_in plan) c) 0 ≡ held (extents_in plan) contents c
-
--- behind them stands what each place stores
-abbrev pub AreCopies : Plan → List (List ℕ) → List ℕ → Type 0
-AreCopies plan contents cells = (j : ℕ) → j < length (walk_in plan)
-    → get_or cells ((plain_shape plan).cells + j) 0 ≡ value_stored_at (extents_in plan) contents (walk_in plan) j
 
 -- the cells of all arrays are in front
 front_within : (plan : Plan) → total_cells (extents_in plan) ≤ (shape_of plan).cells
@@ -92,13 +76,12 @@ by_kind false plan contents cells arrays copies = arrays refl
 
 -- the one or the other
 pub cells_left : CellsAreBelow → (plan : Plan) (contents : List (List ℕ)) (cells : List ℕ)
-    → IsShaped (extents_in plan) contents → (shape_of plan).cells ≤ length cells
-    → (is_expanded plan ≡ false → AreHeld plan contents cells) → (is_expanded plan ≡ true → AreKept plan contents cells)
-    → (is_expanded plan ≡ true → AreCopies plan contents cells) → LeavesCells (is_expanded plan) plan contents cells
-cells_left below plan contents cells shape long holds kept copies =
+    → IsShaped (extents_in plan) contents → (shape_of plan).cells ≤ length cells → HoldsResults plan contents cells
+    → LeavesCells (is_expanded plan) plan contents cells
+cells_left below plan contents cells shape long told =
     by_kind (is_expanded plan) plan contents cells
-    (λ plain. row_executed below plan contents cells shape long (holds plain))
-    (λ expanded. row_copied below plan contents cells shape long (kept expanded) (copies expanded))
+    (λ plain. row_executed below plan contents cells shape long (told.arrays plain))
+    (λ expanded. row_copied below plan contents cells shape long (told.kept expanded) (told.copies expanded))
 
 -- told by the plan's program, parameters and extents
 pub executes : (plan : Plan) (program : Program) (params : List ℤ) (es : List (List ℕ)) (old new : List ℕ)
@@ -121,10 +104,9 @@ SoundKeeps = (plan : Plan) (contents : List (List ℕ)) (s : State) → IsPlan p
 
 -- and one in which nothing is left to do has the copies
 abbrev pub SoundCopies : Type 0
-SoundCopies = (plan : Plan) (contents : List (List ℕ)) (s : State) (j : ℕ) → IsPlan plan → is_expanded plan ≡ true
+SoundCopies = (plan : Plan) (contents : List (List ℕ)) (s : State) → IsPlan plan → is_expanded plan ≡ true
     → IsShaped (extents_in plan) contents → Sound (plan_of plan (flat contents)) s
-    → IsQuiet (plan_of plan (flat contents)) s → j < length (walk_in plan)
-    → get_or s.cells ((plain_shape plan).cells + j) 0 ≡ value_stored_at (extents_in plan) contents (walk_in plan) j
+    → IsQuiet (plan_of plan (flat contents)) s → AreCopies plan contents s.cells
 
 -- zeros behind the contents change no plan
 abbrev pub ZerosChangeNone : Type 0
@@ -149,8 +131,9 @@ alone_executed ends keeps copies zeros below plan cells old new is same run late
     quiet_alone (plan_of plan (flat contents)) (state_in new) (shape_of plan).tiles (omega arith) all in
     let wide = last.sound.wide in (
       wide ∙ sym long,
-      cells_left below plan contents (state_in new).cells shape (omega (arith, wide))
-          (λ plain. ends plan contents (state_in new) is plain shape there.sound quiet)
-          (λ expanded. keeps plan contents (state_in new) is expanded shape there.sound)
-          (λ expanded j. copies plan contents (state_in new) j is expanded shape there.sound quiet),
+      cells_left below plan contents (state_in new).cells shape (omega (arith, wide)) (record {
+        arrays = λ plain. ends plan contents (state_in new) is plain shape there.sound quiet;
+        kept = λ expanded. keeps plan contents (state_in new) is expanded shape there.sound;
+        copies = λ expanded. copies plan contents (state_in new) is expanded shape there.sound quiet;
+      }),
     )

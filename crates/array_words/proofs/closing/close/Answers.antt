@@ -31,27 +31,20 @@ sound c contents holds =
     (c.plans_execute_the_kernel.ensures.row plan contents row holds)
     (c.plans_are_good.ensures.dealt plan (flat contents) c.requires.words.planned) c.requires.cells (closed c)
 
-pub returns-clause-arrays : goal.returns-clause-arrays
-returns-clause-arrays c = λ contents plain shaped holds d cell.
+pub returns-clause-results : goal.returns-clause-results
+returns-clause-results c = λ contents shaped holds.
     let plan = c.args.words.plan in
     let p = plan_of plan (flat contents) in
     let cells = c.copy_words.new.cells in
-    c.plans_execute_the_kernel.ensures.end plan contents (end_of p cells) c.requires.words.planned plain shaped
-    (sound (goal.at.returns-clause-arrays c).After-free contents holds) (quiet_end p cells) d cell
-
-pub returns-clause-kept : goal.returns-clause-kept
-returns-clause-kept c = λ contents copied shaped holds d cell.
-    let plan = c.args.words.plan in
-    c.plans_execute_the_kernel.ensures.kept plan contents (end_of (plan_of plan (flat contents)) c.copy_words.new.cells)
-    c.requires.words.planned copied shaped (sound (goal.at.returns-clause-kept c).After-free contents holds) d cell
-
-pub returns-clause-copies : goal.returns-clause-copies
-returns-clause-copies c = λ contents j copied shaped holds less.
-    let plan = c.args.words.plan in
-    let p = plan_of plan (flat contents) in
-    let cells = c.copy_words.new.cells in
-    c.plans_execute_the_kernel.ensures.copies plan contents (end_of p cells) j c.requires.words.planned copied shaped
-    (sound (goal.at.returns-clause-copies c).After-free contents holds) (quiet_end p cells) less
+    let s = end_of p cells in
+    let laws = c.plans_execute_the_kernel.ensures in
+    let planned = c.requires.words.planned in
+    let last = sound (goal.at.returns-clause-results c).After-free contents holds in
+    record {
+      arrays = λ plain. laws.end plan contents s planned plain shaped last (quiet_end p cells);
+      kept = λ copied. laws.kept plan contents s planned copied shaped last;
+      copies = λ copied. laws.copies plan contents s planned copied shaped last (quiet_end p cells);
+    }
 
 pub returns-clause-cells : goal.returns-clause-cells
 returns-clause-cells c = closed (goal.at.returns-clause-cells c).After-free

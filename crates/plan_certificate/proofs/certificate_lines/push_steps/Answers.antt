@@ -3,8 +3,8 @@ use Rattle.scop_syntax.proofs.Common.{◌∙◌, ◌+◌, ◌++◌, All-map, all
 use Rattle.scop_syntax.proofs.Common.{map}
 use Rattle.plan_check.specs.Derivations.{step_of}
 use Rattle.report_text.proofs.AppendedTexts.{next_appended, last_appended}
-use Rattle.plan_certificate.specs.Certificates.{steps_text}
-use Rattle.plan_certificate.specs.steps.Narrow.{IsNarrowLine, IsNarrowStep}
+use Rattle.plan_certificate.specs.Certificates.{IsNarrowStep, steps_text}
+use Rattle.plan_certificate.specs.steps.Narrow.{IsNarrowLine}
 use Rattle.plan_certificate.proofs.StepTexts.{steps_next}
 use Rattle.plan_certificate.proofs.certificate_lines.push_steps.Goals as goal
 

@@ -2,8 +2,7 @@
 use Rattle.scop_syntax.proofs.Common.{◌∙◌, ◌+◌, ◌++◌, All-more, all_taken, ap, drop, drop_of_length-le, map}
 use Rattle.plan_check.specs.Printed.{terms_text}
 use Rattle.report_text.proofs.AppendedTexts.{next_appended, last_appended}
-use Rattle.plan_certificate.specs.Certificates.{term_line_of}
-use Rattle.plan_certificate.specs.steps.Narrow.{IsNarrowTerm}
+use Rattle.plan_certificate.specs.Certificates.{IsNarrowTerm, term_line_of}
 use Rattle.plan_certificate.proofs.StepTexts.{terms_next}
 use Rattle.plan_certificate.proofs.certificate_lines.push_terms.Goals as goal
 

@@ -1,8 +1,7 @@
 -- What was appended so far and the terms to come are all terms, and the numbers of rows so far fit their type.
 use Rattle.scop_syntax.proofs.Common.{◌≡◌, ◌++◌, All, drop, map, take}
 use Rattle.plan_check.specs.Printed.{terms_text}
-use Rattle.plan_certificate.specs.Certificates.{term_line_of}
-use Rattle.plan_certificate.specs.steps.Narrow.{IsNarrowTerm}
+use Rattle.plan_certificate.specs.Certificates.{IsNarrowTerm, term_line_of}
 use Rattle.plan_certificate.proofs.certificate_lines.push_terms.Given as goal
 
 abbrev pub invariant-loop-term : goal.invariant-loop-term

@@ -1,5 +1,5 @@
 -- The text of the items is that of the blocks whose plan has these goals.
-use Rattle.scop_syntax.proofs.Common.{subst, All, IfOk-weaker, List, Ok}
+use Rattle.scop_syntax.proofs.Common.{subst, all_in, All, IfOk-weaker, List, Ok}
 use Rattle.iteration_domains.specs.Dependence.{Dependence}
 use Rattle.schedule_rows.specs.Schedule.{Item, loops_in}
 use Rattle.report_text.specs.ScheduleText.{IsNarrowItem, IsTextOf}
@@ -12,7 +12,6 @@ use Rattle.plan_certificate.specs.steps.ItemPlans.{IsPlanned}
 use Rattle.plan_certificate.specs.steps.Narrow.{HasNarrow}
 use Rattle.plan_certificate.specs.Certificates.{IsNarrow}
 use Rattle.plan_certificate.proofs.GoalTexts.{certificate_is, gives_same, goals_are}
-use Rattle.plan_certificate.proofs.Narrow.{goals_narrow, rows_narrow, scalars_narrow}
 use Rattle.plan_certificate.proofs.certifying.certified.Goals as goal
 
 pub returns-in-Err : goal.returns-in-Err
@@ -48,9 +47,8 @@ returns-in-Ok-schedule_text c =
       narrow = IfOk-weaker c.with_proofs.result (λ _. All HasNarrow c.in-Ok-of.goals.left)
           (λ _. IsNarrow s.model blocks)
           (λ text each. record {
-            rows = rows_narrow blocks items;
-            scalars = scalars_narrow blocks items;
-            lines = λ d steps is. goals_narrow (goals_in s.model (plan_of_blocks blocks)) d
+            items = items;
+            lines = λ d steps is. all_in HasNarrow (goals_in s.model (plan_of_blocks blocks)) d
                 (subst (λ (ds : List Dependence). All HasNarrow ds) goals each) is steps;
           })
           c.with_proofs.ensures.narrow;

@@ -3,4 +3,4 @@ use Rattle.run_callers.proofs.words.words_closed.Goals as goal
 
 pub returns : goal.returns
 returns c = λ contents shaped holds d cell.
-    c.close.ensures.arrays contents (ap is_some c.requires.single) shaped holds d cell
+    (c.close.ensures.results contents shaped holds).arrays (ap is_some c.requires.single) d cell

@@ -70,7 +70,7 @@ returns-clause-kept c = λ plan contents s is some shaped sound d cell.
     ∙ kept_words (laws a) plan is contents shaped some (is_done (shape_of plan) s) d cell
 
 pub returns-clause-copies : goal.returns-clause-copies
-returns-clause-copies c = λ plan contents s j is some shaped sound quiet less.
+returns-clause-copies c = λ plan contents s is some shaped sound quiet j less.
     let a = (goal.at.returns-clause-copies c).After-all_interleavings_agree in
     let cells = flat contents in
     let n = (plain_shape plan).cells + j in

@@ -44,29 +44,13 @@ returns-clause-ended g c =
     let e = c.close.ensures.ended in
     omega (arith, t, k, e)
 
-pub returns-clause-arrays : goal.returns-clause-arrays
-returns-clause-arrays g c =
+pub returns-clause-results : goal.returns-clause-results
+returns-clause-results g c =
     let k = c.in_ok-words.ensures.key in
     let n : c.start.new.cells.len ≡ length c.start.new.cells.items = search rules in
     let l = c.close.ensures.cells.long ∙ (c.deref_mut-2.ensures.len ∙ n) in
     rw (whole c.start.new.cells.items c.close.new.cells c.start.new.cells.len n l)
-    (rw (k.planned, k.opening) at c.close.ensures.arrays)
-
-pub returns-clause-kept : goal.returns-clause-kept
-returns-clause-kept g c =
-    let k = c.in_ok-words.ensures.key in
-    let n : c.start.new.cells.len ≡ length c.start.new.cells.items = search rules in
-    let l = c.close.ensures.cells.long ∙ (c.deref_mut-2.ensures.len ∙ n) in
-    rw (whole c.start.new.cells.items c.close.new.cells c.start.new.cells.len n l)
-    (rw (k.planned, k.opening) at c.close.ensures.kept)
-
-pub returns-clause-copies : goal.returns-clause-copies
-returns-clause-copies g c =
-    let k = c.in_ok-words.ensures.key in
-    let n : c.start.new.cells.len ≡ length c.start.new.cells.items = search rules in
-    let l = c.close.ensures.cells.long ∙ (c.deref_mut-2.ensures.len ∙ n) in
-    rw (whole c.start.new.cells.items c.close.new.cells c.start.new.cells.len n l)
-    (rw (k.planned, k.opening) at c.close.ensures.copies)
+    (rw (k.planned, k.opening) at c.close.ensures.results)
 
 pub returns-clause-cells : goal.returns-clause-cells
 returns-clause-cells g c =

@@ -12,7 +12,5 @@ returns-in-Ok-clause-arrays g c = λ contents shape holds.
     let most : (shape_of c.args.plan).cells ≤ length new = omega (arith, long, all) in (
       long,
       cells_left c.cells_have_numbers_of_their_own.ensures.below c.args.plan contents new shape most
-          (λ plain. told.arrays contents plain shape holds)
-          (λ expanded. told.kept contents expanded shape holds)
-          (λ expanded j. told.copies contents j expanded shape holds),
+          (told.results contents shape holds),
     )

@@ -1,7 +1,7 @@
 use Rattle.whole_numbers.proofs.Common.{rules, ◌≡◌, ◌∙◌, ◌++◌, subst, arith, decimal, OnOk}
 use Rattle.scop_lexer.specs.Bytes.{Text}
 use Rattle.form_text.proofs.Numerals.{decimal_is_numeral}
-use Rattle.quast_text.proofs.writer.put_number.Goals as goal
+use Rattle.form_text.proofs.form_writer.put_numeral.Goals as goal
 
 pub returns : goal.returns
 returns c =
