@@ -6,6 +6,6 @@ set -eu
 root=$(CDPATH= cd -- "$(dirname -- "$0")/.." && pwd)
 work=$(mktemp -d)
 trap 'rm -rf "$work"' EXIT
-"$root/polypar" run <"$root/crates/polypar_main/stdin" >/dev/null
+. "$root/bench/programs.sh"
 gcc -O2 -o "$work/baseline" "$root/bench/copy_baseline.c"
-python3 -B "$root/bench/copy.py" "$root/crates/polypar_main/out/polypar_main" "$work/baseline" "$work/input" "$@"
+python3 -B "$root/bench/copy.py" "$program" "$work/baseline" "$work/input" "$@"

@@ -11,11 +11,11 @@ rounds=${1:-5}
 [ $# -ne 0 ] || . "$root/bench/example_kernels.sh"
 work=$(mktemp -d)
 trap 'rm -rf "$work"' EXIT
-"$root/polypar" deps <"$root/examples/copy.c" >/dev/null
+. "$root/bench/programs.sh"
 baseline=
 if gcc -O2 -o "$work/baseline" "$root/bench/deps_isl.c" -lisl 2>"$work/missing"; then
   baseline=$work/baseline
 else
   echo "libisl-dev is missing: no ratio"
 fi
-python3 -B "$root/bench/deps.py" "$root/crates/polypar_main/out/polypar_main" "$baseline" "$work" "$rounds" "$@"
+python3 -B "$root/bench/deps.py" "$program" "$baseline" "$work" "$rounds" "$@"

@@ -10,5 +10,5 @@ rounds=${1:-5}
 [ $# -ne 0 ] || . "$root/bench/example_kernels.sh"
 work=$(mktemp -d)
 trap 'rm -rf "$work"' EXIT
-"$root/polypar" emit <"$root/examples/copy.c" >/dev/null
-python3 -B "$root/bench/planning.py" emit "$root/crates/polypar_main/out/polypar_main" "$work" "$rounds" "$@"
+. "$root/bench/programs.sh"
+python3 -B "$root/bench/planning.py" emit "$program" "$work" "$rounds" "$@"

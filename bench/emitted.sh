@@ -14,5 +14,5 @@ tile=${1:-32}
 [ $# -ne 0 ] || . "$root/bench/example_kernels.sh"
 work=$(mktemp -d)
 trap 'rm -rf "$work"' EXIT
-"$root/polypar" emit <"$root/examples/copy.c" >/dev/null
-python3 -B "$root/bench/emitted.py" "$root/crates/polypar_main/out/polypar_main" "$work" "$rounds" "$tile" "$@"
+. "$root/bench/programs.sh"
+python3 -B "$root/bench/emitted.py" "$program" "$work" "$rounds" "$tile" "$@"

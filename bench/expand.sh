@@ -6,5 +6,5 @@
 # usage: bench/expand.sh [ROUNDS], at least 5
 set -eu
 root=$(CDPATH= cd -- "$(dirname -- "$0")/.." && pwd)
-"$root/polypar" run <"$root/examples/copy.c" >/dev/null
-python3 -B "$root/bench/expand.py" "$root/crates/polypar_main/out/polypar_main" "$@"
+. "$root/bench/programs.sh"
+python3 -B "$root/bench/expand.py" "$program" "$@"

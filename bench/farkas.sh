@@ -12,13 +12,14 @@ rounds=${1:-5}
 [ $# -ne 0 ] || . "$root/bench/example_kernels.sh"
 work=$(mktemp -d)
 trap 'rm -rf "$work"' EXIT
-(cd "$root/crates/bench_cases" && rt run -- conflicts 1 <stdin >/dev/null 2>"$work/log" &&
-  cd ../test_cases && rt run <stdin >/dev/null 2>"$work/log") || { cat "$work/log" >&2; exit 1; }
+. "$root/bench/programs.sh"
+built test_cases
+cases=$made
+built bench_cases
 baseline=
 if gcc -O2 -o "$work/baseline" "$root/bench/farkas_baseline.c" -lisl 2>"$work/missing"; then
   baseline=$work/baseline
 else
   echo "libisl-dev is missing: no ratio"
 fi
-python3 -B "$root/bench/farkas.py" "$root/crates/bench_cases/out/bench_cases" \
-  "$root/crates/test_cases/out/test_cases" "$baseline" "$rounds" "$@"
+python3 -B "$root/bench/farkas.py" "$made" "$cases" "$baseline" "$rounds" "$@"

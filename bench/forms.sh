@@ -7,6 +7,7 @@ set -eu
 root=$(CDPATH= cd -- "$(dirname -- "$0")/.." && pwd)
 work=$(mktemp -d)
 trap 'rm -rf "$work"' EXIT
-(cd "$root/crates/bench_cases" && rt run -- value_at 1 >/dev/null 2>"$work/log") || { cat "$work/log" >&2; exit 1; }
+. "$root/bench/programs.sh"
+built bench_cases
 gcc -O2 -o "$work/baseline" "$root/bench/forms_baseline.c"
-python3 -B "$root/bench/forms.py" "$root/crates/bench_cases/out/bench_cases" "$work/baseline" "$@"
+python3 -B "$root/bench/forms.py" "$made" "$work/baseline" "$@"

@@ -13,11 +13,12 @@ rounds=${1:-}
 cases=${2:-$root/crates/test_cases/stdin}
 work=$(mktemp -d)
 trap 'rm -rf "$work"' EXIT
-(cd "$root/crates/test_cases" && rt run <stdin >/dev/null 2>"$work/log") || { cat "$work/log" >&2; exit 1; }
+. "$root/bench/programs.sh"
+built test_cases
 baseline=
 if gcc -O2 -o "$work/baseline" "$root/bench/lexmin_isl.c" -lisl 2>/dev/null; then
     baseline=$work/baseline
 else
     echo "isl is missing (libisl-dev): no comparison"
 fi
-python3 -B "$root/bench/lexmin.py" "$root/crates/test_cases/out/test_cases" "$baseline" "$cases" $rounds
+python3 -B "$root/bench/lexmin.py" "$made" "$baseline" "$cases" $rounds

@@ -9,7 +9,6 @@ set -eu
 root=$(CDPATH= cd -- "$(dirname -- "$0")/.." && pwd)
 work=$(mktemp -d)
 trap 'rm -rf "$work"' EXIT
-"$root/polypar" run <"$root/examples/copy.c" >/dev/null
-(cd "$root/crates/bench_cases" && rt run -- run <"$root/examples/copy.c" >/dev/null 2>"$work/log") || { cat "$work/log" >&2; exit 1; }
-python3 -B "$root/bench/workers.py" "$root/crates/polypar_main/out/polypar_main" "$root/crates/bench_cases/out/bench_cases" \
-  "$root" "$work" "$@"
+. "$root/bench/programs.sh"
+built bench_cases
+python3 -B "$root/bench/workers.py" "$program" "$made" "$root" "$work" "$@"

@@ -1,9 +1,9 @@
 #!/bin/sh
 # Runs each kernel of examples/, by waves, with tiles released one by one, with sums in any order and with copies, and
 # compares what it prints with the arrays beside it, and its schedule, the sources of its reads, its certificate and its
-# emitted text with those beside it; the certificate is checked, the text compiled and run where there is a compiler; looks
-# that the stored calls of crates/test_cases have each of these files, byte for byte; and that a process ends with each exit
-# status that its streams can be brought to give, and tells why tiles go by waves, or why no instance has a copy.
+# emitted text with those beside it; the certificate is checked; looks that the stored calls of crates/test_cases have
+# each of these files, byte for byte; and that a process ends with each exit status that its streams can be brought to
+# give, and tells why tiles go by waves, or why no instance has a copy.
 set -u
 root=$(CDPATH= cd -- "$(dirname -- "$0")/.." && pwd)
 failed=0
@@ -50,13 +50,6 @@ for kernel in "$@"; do
         echo "$kernel is not among the stored calls"
     }
 done
-
-# The emitted texts, compiled without a word and run, give the arrays.
-if python3 -B "$root/tests/emitted.py" "$@"; then
-    passed=$((passed + 1))
-else
-    failed=$((failed + 1))
-fi
 
 # Whether `polypar` with the words behind $3, on the text $3, ends with status $1 and says $2.
 expect() {

@@ -1,6 +1,7 @@
 #!/bin/sh
-# Tries the launcher `polypar` on a copy of the repository, with a stand-in for `rt` that builds at once: what it
-# builds, when it builds again, and what it says where it can't. The last line is 'N passed, M failed'.
+# Tries the launcher `polypar` on a copy of the repository, with a stand-in for `rt` that builds at once, and one for
+# proved/polypar: which program it starts, what it builds, when it builds again, and what it says where it can't. The
+# last line is 'N passed, M failed'.
 # usage: tests/launcher.sh
 set -u
 root=$(CDPATH= cd -- "$(dirname -- "$0")/.." && pwd)
@@ -50,8 +51,9 @@ fresh() {
     for old in copy builds refuse slow calls proofs process lacking; do
         rm -rf "${work:?}/$old"
     done
-    mkdir -p "$copy/crates"
+    mkdir -p "$copy/crates" "$copy/tools"
     cp -p "$root/polypar" "$root/crates.txt" "$root/HANDLES" "$copy"
+    cp -p "$root"/tools/*.sh "$copy/tools"
     cp -Rp "$root/examples" "$copy"
     for crate in "$root"/crates/*; do
         mkdir -p "$copy/crates/${crate##*/}"
@@ -67,6 +69,38 @@ call() {
     status=$?
     said=$(cat "$work/said")
     builds=$(cat "$work/builds" 2>/dev/null | wc -l)
+}
+
+# Puts a program into proved/ of the copy that prints `shipped` and its words, and exits with $1, and its record.
+ship() {
+    mkdir -p "$copy/proved"
+    printf '#!/bin/sh\necho "shipped $*"\nexit %s\n' "$1" >"$copy/proved/polypar"
+    chmod +x "$copy/proved/polypar"
+    record
+}
+
+# Makes the record of proved/polypar, as it is, and of the sources.
+record() {
+    (
+        root=$copy
+        . "$copy/tools/sources.sh"
+        printf '%s\n' "$(sources)" "kit 1" "$(sha256sum <"$copy/proved/polypar")" 2.34 >"$copy/proved/record"
+    )
+}
+
+# Calls the launcher at $1 with two words where `rt` is not on the PATH; sets what `call` does.
+call_bare() {
+    printed=$(PATH=$work/tools TMPDIR=$work/tmp "$1" one two 2>"$work/said")
+    status=$?
+    said=$(cat "$work/said")
+    builds=0
+}
+
+# Whether the last call, without `rt`, built nothing, since $2; $1 says what was tried.
+expect_unfit() {
+    expect "$1" 70 0
+    expect_same "$1: why" "$said" \
+        "polypar: $2, and the command rt of the Rattle kit, which builds the program, is not on the PATH"
 }
 
 # Calls the launcher on a terminal with two words; sets `status`, `said` (all that is shown) and `builds`.
@@ -317,15 +351,112 @@ expect_word "where a source folder is missing it says so" "can't be read whole"
 
 fresh
 mkdir "$work/tools"
-for tool in sh readlink awk find sha256sum sort ls cat rm mkdir mktemp flock; do
+for tool in sh readlink awk find sha256sum sort ls cat rm mkdir mktemp flock xargs stat cmp wc tr split mv uname; do
     ln -s "$(command -v "$tool")" "$work/tools/$tool"
 done
-printed=$(PATH=$work/tools "$copy/polypar" 2>"$work/said")
+printf '#!/bin/sh\necho glibc 2.36\n' >"$work/tools/getconf"
+chmod +x "$work/tools/getconf"
+call_bare "$copy/polypar"
+expect_unfit "without rt" "no build of it is kept"
+
+ship 9
+for file in "$copy/polypar" "$work/bin/by_link" "$work/relative"; do
+    call_bare "$file"
+    expect "proved/polypar, by $file" 9 0
+    expect_same "proved/polypar, by $file: words" "$printed" "shipped one two"
+    expect_same "proved/polypar, by $file: no word" "$said" ""
+done
+call "$copy/polypar"
+expect "proved/polypar with a kit" 9 0
+which=$(POLYPAR_WHICH=1 "$copy/polypar" one two)
+expect_same "which program" "$which" "$copy/proved/polypar"
+(cd / && PATH=$work/tools "$copy/polypar" one two) >"$work/other" &
+call_bare "$copy/polypar"
+wait "$!"
+expect "proved/polypar, two calls at once" 9 0
+expect_same "proved/polypar, the other call, from another folder" "$(cat "$work/other")" "shipped one two"
+
+rm "$work/tools/sha256sum"
+call_bare "$copy/polypar"
+expect "checksums are remembered" 9 0
+ln -s "$(command -v sha256sum)" "$work/tools/sha256sum"
+touch "$copy/crates/polypar/src/lib.rt"
+call_bare "$copy/polypar"
+expect "a touched source, proved/polypar" 9 0
+cp -p "$copy/crates/polypar/src/lib.rt" "$work/old.rt"
+echo "// edited" >>"$copy/crates/polypar/src/lib.rt"
+call_bare "$copy/polypar"
+expect_unfit "an edited source, proved/polypar" "its sources are not those of proved/polypar"
+cp -p "$work/old.rt" "$copy/crates/polypar/src/lib.rt"
+: >"$copy/crates/polypar/proofs/New.antt"
+call_bare "$copy/polypar"
+expect_unfit "a new file of proofs" "its sources are not those of proved/polypar"
+rm "$copy/crates/polypar/proofs/New.antt"
+call_bare "$copy/polypar"
+expect "the sources as they were" 9 0
+
+cp -p "$copy/proved/polypar" "$work/whole"
+head -c 20 "$work/whole" >"$copy/proved/polypar"
+call_bare "$copy/polypar"
+expect_unfit "a file that is cut off" "proved/polypar is not the file that was proved"
+sed 's/shipped/shopped/' "$work/whole" >"$copy/proved/polypar"
+call_bare "$copy/polypar"
+expect_unfit "one byte is another" "proved/polypar is not the file that was proved"
+cp -p "$work/whole" "$copy/proved/polypar"
+chmod -x "$copy/proved/polypar"
+call_bare "$copy/polypar"
+expect_unfit "a file that may not be executed" "proved/polypar is not the file that was proved"
+chmod +x "$copy/proved/polypar"
+for library in "glibc 2.31" "glibc 1.99" ""; do
+    printf '#!/bin/sh\necho "%s"\n' "$library" >"$work/tools/getconf"
+    call_bare "$copy/polypar"
+    expect_unfit "the C library '$library'" "proved/polypar wants Linux on x86-64 with glibc 2.34"
+done
+for library in "glibc 2.34" "glibc 2.100" "glibc 3.0"; do
+    printf '#!/bin/sh\necho "%s"\n' "$library" >"$work/tools/getconf"
+    call_bare "$copy/polypar"
+    expect "the C library '$library'" 9 0
+done
+cp -p "$copy/proved/record" "$work/record"
+head -n 2 "$work/record" >"$copy/proved/record"
+call_bare "$copy/polypar"
+expect_unfit "a record that is cut off" "no build of it is kept"
+cp -p "$work/record" "$copy/proved/record"
+
+rm -rf "$copy/crates/polypar_main/out"
+: >"$copy/crates/polypar_main/out"
+call_bare "$copy/polypar"
+expect "where nothing can be remembered" 9 0
+rm "$copy/crates/polypar_main/out"
+if unshare -m true 2>/dev/null; then
+    printed=$(PATH=$work/tools:$PATH unshare -m sh -c \
+        "mount --bind '$copy' '$copy' && mount -o remount,bind,ro '$copy' && exec '$copy/polypar' one two" 2>&1)
+    status=$?
+    expect "in a checkout that can't be written" 9 0
+    expect_same "in a checkout that can't be written: words" "$printed" "shipped one two"
+fi
+
+printed=$(POLYPAR_PROVE=1 PATH=$work/bin:$PATH TMPDIR=$work/tmp "$copy/polypar" one two 2>"$work/said")
 status=$?
 said=$(cat "$work/said")
-builds=0
-expect "without rt" 70 0
-expect_word "without rt it says so" "is not on the PATH"
+builds=$(wc -l <"$work/builds")
+expect "POLYPAR_PROVE proves" 7 1
+expect_word "POLYPAR_PROVE is told" "since POLYPAR_PROVE is set"
+expect_word "other bytes are told" "polypar: warning: what $(cat "$work/version") built here is not the program of proved/record, by kit 1"
+call "$copy/polypar"
+expect "its own build is started" 7 1
+call_bare "$copy/polypar"
+expect "its own build is started without rt" 7 0
+cp -p "$copy/crates/polypar_main/out/polypar_main" "$copy/proved/polypar"
+echo "// edited" >>"$copy/crates/polypar/src/lib.rt"
+record
+touch "$copy/proved/polypar"
+printed=$(POLYPAR_PROVE=1 PATH=$work/bin:$PATH TMPDIR=$work/tmp "$copy/polypar" one two 2>"$work/said")
+status=$?
+said=$(cat "$work/said")
+builds=$(wc -l <"$work/builds")
+expect "POLYPAR_PROVE proves what was edited" 7 2
+expect_word "the same bytes are told" "polypar: what was proved and built here has the same bytes as proved/polypar"
 
 echo "$passed passed, $failed failed"
 [ "$failed" -eq 0 ]
