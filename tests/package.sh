@@ -162,7 +162,7 @@ commit=$(cd -P "$root" && git -c safe.directory="$PWD" log -1 --format=%ct 2>/de
     expect_same "the time is that of the last commit" "$time" "$commit"
 
 mkdir -p "$copy/bench"
-(umask 077 && renew tools docs examples proved VERSION CHANGES.md README.md LICENSE bench/example_kernels.sh)
+(umask 077 && renew tools docs examples proved VERSION CHANGES.md README.md LICENSE NOTICES bench/example_kernels.sh)
 touch -d "@$time" "$copy/CHANGES.md"
 (TZ=Asia/Tokyo && export TZ && umask 077 && "$copy/tools/package" >/dev/null)
 expect_same_packages "elsewhere, without git, with another umask, in another time zone" "$copy/dist"
@@ -173,7 +173,7 @@ expect_plain "$tarball" "$work/first/$tarball"
 expect_answers "$work/roots/tarball" "/polypar-$version/polypar" "/polypar-$version/examples"
 expect_completions "$tree/share/bash-completion/completions" "$tree/share/zsh/site-functions"
 expect_own "$tree/tools/polypar-cc"
-for file in README.md LICENSE CHANGES.md VERSION docs/LANGUAGE.md docs/CERTIFICATES.md; do
+for file in README.md LICENSE NOTICES CHANGES.md VERSION docs/LANGUAGE.md docs/CERTIFICATES.md; do
     expect_same_bytes "$file" "$tree/$file" "$root/$file"
 done
 expect_same_bytes "the manual page" "$tree/share/man/man1/polypar.1" "$root/docs/polypar.1"
