@@ -21,6 +21,7 @@ compare() {
 compare seidel examples/seidel.c T=6 N=8
 compare triangle examples/fir.c N=8 K=8
 compare shift docs/pictures/shift.c
+compare product examples/product.c N=6
 
 # Whether `tools/picture`, on the kernel $2 with the words behind it, ends with status 1 and the one line `picture: $1`.
 refuse() {
@@ -36,7 +37,6 @@ refuse() {
 }
 
 loop='void c(int64_t N, uint64_t A[N]) { for (int64_t i = 0; i < N; i++) A[i] = A[i + 1]; }\n'
-refuse 'S1 has 3 loops round it, and a picture takes two' "$(cat examples/product.c)"
 refuse 'its schedule is found in one move, so no answer keeps the order of the source' \
     'void c(uint64_t A[9]) { for (int64_t i = 0; i < 9; i++) A[i] = 7; }'
 refuse 'N has no value' "$loop"
