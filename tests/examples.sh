@@ -89,6 +89,8 @@ if [ -c /dev/full ]; then
     "$root/polypar" run <"$root/examples/copy.c" 2>/dev/null >/dev/full
     if [ $? -eq 6 ]; then passed=$((passed + 1)); else failed=$((failed + 1)) && echo "a full device is no write fault"; fi
 fi
+ended=$({ { sleep 1; "$root/polypar" schedule <"$root/examples/copy.c" 2>/dev/null; echo $? >&3; } | :; } 3>&1)
+if [ "$ended" -eq 6 ]; then passed=$((passed + 1)); else failed=$((failed + 1)) && echo "a reader that is gone: $ended"; fi
 "$root/polypar" run <"$root" 2>/dev/null >/dev/null
 if [ $? -eq 5 ]; then passed=$((passed + 1)); else failed=$((failed + 1)) && echo "a folder is no read fault"; fi
 echo "$passed passed, $failed failed"
