@@ -1,0 +1,7 @@
+/* No kernel: #pragma polypar stands in a comment. */
+#include <stdio.h>
+
+int main(void) {
+  puts("#pragma polypar");
+  return 0;
+}
