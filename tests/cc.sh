@@ -91,10 +91,10 @@ expect_same "standard output has the file" "$(cat "$work/printed")" "$(sed 's/^#
 { printf '#define h 1\n#define S1 2\n#define i 3\n#undef i\n'; cat tests/cc/end.c; } >"$work/beside.c"
 call "$work/beside.c" --tile 7
 expect_same "a file beside it, in tiles of 7" "$status $(grep -c '7\*pp_2 + 6' "$work/beside.polypar.c")" "0 1"
-printf '\357\273\277#pragma polypar\r\nvoid k(unsigned A[1]) { A[0] = 1; }\r\n' >"$work/mark.c"
+printf '\357\273\277#pragma polypar\r\nvoid k(uint64_t A[1]) {\r\n/* \303\205 \f\r */ A[0] /= 2; }' >"$work/mark.c"
 call "$work/mark.c"
-expect_same "behind a byte order mark" "$(sed -n 1p "$work/said" | cut -d : -f 2-3,6)" \
-    '2:8: `unsigned` is not read'
+expect_same "behind a byte order mark, and bytes of other lines" \
+    "$(sed -n 1p "$work/said" | cut -d : -f 2-5)" '3:18: error: Division'
 call "$work/beside.c" -o "$work/beside.c"
 expect "over its own source" 1 "polypar-cc: $work/beside.c would take the place of its own source"
 call "$work/absent.c"
