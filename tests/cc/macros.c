@@ -14,7 +14,7 @@ static int total(const uint64_t *cells, int64_t size) {
 static int total(const uint64_t *cells, int size) {
 #endif
   int sum = 0;
-  LOOP(k, size) sum += (int)cells[k]; }
+  for (int k = 0; k < (int)size; k++) sum += (int)cells[k];
   return sum;
 }
 
@@ -36,6 +36,7 @@ static void kernel_add(int64_t N, uint64_t A[N]) {
 
 int main(void) {
   uint64_t A[3] = {1, 2, 3};
+  LOOP(k, 3) A[k]++; }
   kernel_double(count, A);
   kernel_add(count, A);
   printf("%d %d\n", total(A, (int)count), __LINE__);
