@@ -65,6 +65,12 @@ call tests/cc/refused.c -o "$work/refused.c"
 expect "refused kernels" 2 "$(cat tests/cc/refused.told)"
 expect_same "nothing is written where a kernel is refused" "$(cat "$work/refused.c")" old
 
+kinds=$(sed -n '/^## The kinds of refusal/,/^## /s/^| \([A-Z][A-Za-z, ]*\) |.*/\1/p' docs/LANGUAGE.md | tr -d ,)
+for kind in $kinds; do
+    [ "$kind" = Kind ] || grep -q "^    (\"\(.*|\)*$kind\(|.*\)*\", " tools/polypar-cc || echo "$kind"
+done >"$work/printed"
+expect_same "a sentence for each of 25 kinds" "$(echo $kinds | wc -w) $(cat "$work/printed")" "26 "
+
 # A file of its own for what is told of a place: the kernel $2 behind the text $1 is told of as $3, with status 2.
 tell() {
     printf '%b#pragma polypar\n%b' "$1" "$2" >"$work/told.c"
@@ -76,6 +82,8 @@ tell '' 'void k(uint64_t A[1]) { A[0] = 1; ' 'Unended: the file ends within a ke
 tell '' 'void k(uint64_t A[1]) { A[0] = 1; /* }' 'UnendedComment: this comment has no end'
 tell '' 'void k(uint64_t A[2]) {\n A[0] = 1; // a \\\n A[1] = 1;\n}' \
     'this joins two lines of a kernel: write them as one'
+tell '' 'void k(uint64_t A[1]) { A[0] = k /* A */ (1); }' \
+    'UnknownName: a call is not read: write out what `k` does, or call it outside of the kernel'
 tell '' 'void k(uint64_t A[1]);' 'no definition of a function follows this line'
 for front in 'static\n' 'void f(void) {\n'; do
     tell "$front" 'void k(uint64_t A[1]) { A[0] = 1; }' \
