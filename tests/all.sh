@@ -37,6 +37,8 @@ run python3 "$tests/examples.sh"
 . "$root/bench/example_kernels.sh"
 run python3 "$tests/emitted.py" "$@"
 run python3 "$tests/picture.sh"
+run "python3 gcc" "$tests/cc.sh"
+run python3 "$tests/completion.sh"
 run "python3 gcc" "$tests/widths.py" "$program" 100
 run python3 "$tests/certificates.py" "$program" 1000 "$root"/examples/*.c
 echo "$passed passed, $failed failed"

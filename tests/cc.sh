@@ -36,10 +36,10 @@ call() {
     status=$?
 }
 
-# The launcher looks at all sources at each call, so it is called once, and then the program itself.
+# The launcher is called once, and then the program itself.
 call tests/cc/end.c -o "$work/end.c"
 expect "by the launcher" 0 ""
-[ -n "${POLYPAR:-}" ] || export POLYPAR="$root/crates/polypar_main/out/polypar_main"
+[ -n "${POLYPAR:-}" ] || export POLYPAR="$(POLYPAR_WHICH=1 "$root/polypar")"
 
 pairs="tests/cc/end.c $work/end.c"
 for name in several tabs comments macros; do
