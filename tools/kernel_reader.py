@@ -2,6 +2,7 @@
 
 It shares no code with the program, and is not proved: it goes by docs/LANGUAGE.md. `Kernel(text)` has the parameters,
 the arrays and the statements of a text, and `instances(values)` goes through all instances in the source's own order.
+`ask` brings a tool the program's own answers.
 
 A form is a dictionary from names to numbers: those of parameters and of turns, `$1` that of the outermost loop round a
 statement, and None, under which the constant stands. A test is `("row", form)`, where the form is to be at least 0, or
@@ -10,52 +11,47 @@ statement, and None, under which the constant stands. A test is `("row", form)`,
 
 import ast
 import itertools
+import os
 import re
-from typing import NamedTuple
+import subprocess
+from collections import namedtuple
 
 WORD = re.compile(r"\w+|<<=|>>=|<<|>>|\+\+|--|[-+*&|^<>=]=|&&|\S")
 
-
-class Loop(NamedTuple):
-    """A loop: its iterator is the value of `first`, and `stride` more with each turn, as long as the tests hold."""
-    iterator: str
-    first: dict
-    stride: int
-    tests: list
-    body: list
-
-
-class Guard(NamedTuple):
-    """What runs where the tests hold."""
-    tests: list
-    body: list
+# A loop's iterator is the value of `first`, and `stride` more with each turn, as long as the tests hold.
+Loop = namedtuple("Loop", "iterator first stride tests body")
+# A statement's number counts from 1, its tests are those of all loops and guards round it, and lines are those of the
+# whole file. Access 0 is what is written, then come the reads as `deps` counts them, a compound operator's own first.
+Statement = namedtuple("Statement", "number loops tests accesses operator text line")
+Access = namedtuple("Access", "array subscripts text line")
+# Of an instance `iterators` has the values by name, and `cells` an array's name and indices for each access.
+Instance = namedtuple("Instance", "number turns iterators cells")
+# An item of a schedule has a form for each statement's number; of a scalar one the band is None, and so is `carries`.
+Item = namedtuple("Item", "number band carries forms")
 
 
-class Access(NamedTuple):
-    """A place of a statement: an array with its subscripts, and how the source spells it."""
-    array: str
-    subscripts: list
-    text: str
+class Refused(Exception):
+    """The line in which the program refuses a text."""
 
 
-class Statement(NamedTuple):
-    """A statement: its number from 1, the loops round it, all tests round it, and its accesses: access 0 is the place
-    that is written, then come the reads, a compound operator's own place first."""
-    number: int
-    loops: list
-    tests: list
-    accesses: list
-    operator: str
-    text: str
-    line: int
+def ask(words, text):
+    """What the program writes to its two streams: that of the variable POLYPAR, else the one beside this folder."""
+    beside = os.path.join(os.path.dirname(os.path.realpath(__file__)), "..", "polypar")
+    done = subprocess.run([os.environ.get("POLYPAR", beside), *words], input=text.encode("latin-1"),
+                          capture_output=True, check=False)
+    if done.returncode:
+        raise Refused(done.stderr.decode("latin-1").strip().rpartition("\n")[2])
+    return done.stdout.decode("latin-1"), done.stderr.decode("latin-1")
 
 
-class Instance(NamedTuple):
-    """A statement's number, the turns and the iterators of its loops, and the cell (array, indices) of each access."""
-    number: int
-    turns: tuple
-    iterators: dict
-    cells: list
+def items_of(text):
+    """The items of a schedule, or of a report, as the program prints them."""
+    items = []
+    for number, band, kind, parts in re.findall(r"(?m)^(?:row|scalar) (\d+)(?: band (\d+) (\w+) .*)?: (S1 .*)$", text):
+        forms = {int(s): {None: int(shift), **{f"${k}": int(c) for k, c in enumerate(factors.split(), 1)}}
+                 for s, factors, shift in re.findall(r"S(\d+) (?:\(([-\d ]*)\) \+ )?(-?\d+)", parts)}
+        items.append(Item(int(number), int(band) if band else None, kind == "carries" if band else None, forms))
+    return items
 
 
 def cut(text):
@@ -68,13 +64,10 @@ def plus(f, g, times=1):
     return {k: f.get(k, 0) + times * g.get(k, 0) for k in {**f, **g}}
 
 
-def parsed(text):
-    """Affine C is Python's syntax, but for `&&`."""
-    return ast.parse(text.replace("&&", " and ").strip(), mode="eval").body
-
-
 def form(node, names):
-    """The form of an affine expression, where names have these forms."""
+    """The form of an affine expression, where names have these forms. Affine C is Python's syntax, but for `&&`."""
+    if isinstance(node, str):
+        node = ast.parse(node.strip(), mode="eval").body
     if isinstance(node, (ast.Constant, ast.Name)):
         return {None: node.value} if isinstance(node, ast.Constant) else dict(names[node.id])
     if isinstance(node, ast.UnaryOp):
@@ -88,6 +81,8 @@ def form(node, names):
 
 def tests_of(node, names):
     """The tests of a condition."""
+    if isinstance(node, str):
+        node = ast.parse(node.replace("&&", " and ").strip(), mode="eval").body
     if isinstance(node, ast.BoolOp):
         return [test for value in node.values for test in tests_of(value, names)]
     f, sign = plus(form(node.left, names), form(node.comparators[0], names), -1), node.ops[0]
@@ -111,10 +106,8 @@ def walk(items, at, turns=()):
     """The statements in items with the values of names there, as they run."""
     for item in items:
         if isinstance(item, Statement):
-            yield item, turns, at
-        elif isinstance(item, Guard):
             if holds(item.tests, at):
-                yield from walk(item.body, at, turns)
+                yield item, turns, at
         else:
             for turn in itertools.count():
                 here = {**at, f"${len(turns) + 1}": turn}
@@ -131,63 +124,39 @@ class Kernel:
         self.source = re.sub(r"(?m)^[ \t\f\r]*#.*$", lambda found: " " * len(found[0]), text)
         self.spans = [found.span() for found in WORD.finditer(self.source)]
         self.words = [self.source[first:end] for first, end in self.spans]
-        self.parameters, self.types, self.extents, self.statements = [], {}, {}, []
-        self.name, self.at = self.words[1], 2
-        _, end = self.bracketed()
-        self.declare(end)
+        self.name, self.at, self.statements, self.body = self.words[1], 2, [], []
+        declared = re.findall(r"(\w+) (\w+) ?((?:\[[^]]*] ?)*)", self.bracketed())
+        self.parameters = [name for _, name, extents in declared if not extents]
+        names = {name: {name: 1} for name in self.parameters}
+        self.types = {name: kind for kind, name, extents in declared if extents}
+        self.extents = {name: [form(extent, names) for extent in re.findall(r"\[([^]]*)]", extents)]
+                        for _, name, extents in declared if extents}
         self.at += 1
         while self.words[self.at] == "int64_t":
-            self.until(";")
-        self.body = []
+            self.at = self.words.index(";", self.at) + 1
         while self.words[self.at] != "}":
-            self.item([], [], {name: {name: 1} for name in self.parameters}, self.body)
+            self.item([], [], names, self.body)
 
     def spelled(self, first, end):
         """How the source spells words, with one blank for each gap."""
-        return " ".join(self.source[self.spans[first][0]:self.spans[end - 1][1]].split()) if first < end else ""
-
-    def until(self, sign):
-        """The words up to a sign, which is passed by: from which to which."""
-        first, self.at = self.at, self.words.index(sign, self.at) + 1
-        return first, self.at - 1
+        return " ".join(self.source[self.spans[first][0]:self.spans[end - 1][1]].split())
 
     def bracketed(self):
-        """The words in a bracket, which is passed by: from which to which."""
+        """What stands in a bracket, which is passed by."""
         first, depth = self.at + 1, 0
         while depth or self.at < first:
             depth += (self.words[self.at] in "([") - (self.words[self.at] in ")]")
             self.at += 1
-        return first, self.at - 1
-
-    def declare(self, end):
-        """The parameters and the arrays in the kernel's own bracket."""
-        self.at, names = 3, {}
-        while self.at < end:
-            kind, name = self.words[self.at:self.at + 2]
-            self.at += 2
-            if kind == "int64_t":
-                self.parameters.append(name)
-                names[name] = {name: 1}
-            else:
-                self.types[name], self.extents[name] = kind, self.subscripts(names)
-            self.at += 1
-
-    def subscripts(self, names):
-        """The forms in the square brackets that come next."""
-        forms = []
-        while self.words[self.at] == "[":
-            forms.append(form(parsed(self.spelled(*self.bracketed())), names))
-        return forms
+        return self.spelled(first, self.at - 1)
 
     def item(self, loops, tests, names, body):
         """Puts what comes next behind a body."""
         word = self.words[self.at]
         if word in ("for", "if"):
             self.at += 1
-            head = self.spelled(*self.bracketed())
+            head = self.bracketed()
             if word == "if":
-                body.append(Guard(tests_of(parsed(head), names), []))
-                self.item(loops, tests + body[-1].tests, names, body[-1].body)
+                self.item(loops, tests + tests_of(head, names), names, body)
             else:
                 self.loop(loops, tests, names, head, body)
         elif word == "{":
@@ -202,29 +171,31 @@ class Kernel:
         """Puts a loop behind a body."""
         first, second, third = head.split(";")
         name, first = re.sub(r"\bint64_t\b", "", first).split("=")
-        name, first, numbers = name.strip(), form(parsed(first), names), re.findall(r"\b[0-9]\w*", third)
+        name, first, numbers = name.strip(), form(first, names), re.findall(r"\b[0-9]\w*", third)
         stride = (int(numbers[0], 0) if numbers else 1) * (-1 if "-" in third else 1)
         turn = f"${len(loops) + 1}"
         names = {**names, name: plus(first, {turn: stride})}
-        body.append(Loop(name, first, stride, tests_of(parsed(second), names), []))
+        body.append(Loop(name, first, stride, tests_of(second, names), []))
         self.item([*loops, body[-1]], tests + [("row", {turn: 1})] + body[-1].tests, names, body[-1].body)
 
     def statement(self, loops, tests, names, body):
         """Puts a statement behind a body, where there is one in front of the semicolon."""
-        (first, end), accesses, operator = self.until(";"), [], None
+        first, end, accesses, operator = self.at, self.words.index(";", self.at), [], None
         for place in range(first, end):
-            array, self.at = self.words[place], place + 1
+            array, forms, self.at = self.words[place], [], place + 1
             if array in self.types:
-                accesses.append(Access(array, self.subscripts(names), self.spelled(place, self.at)))
+                while self.words[self.at] == "[":
+                    forms.append(form(self.bracketed(), names))
+                line = self.source.count("\n", 0, self.spans[place][0]) + 1
+                accesses.append(Access(array, forms, self.spelled(place, self.at), line))
                 operator = operator or self.words[self.at]
                 if place == first and operator != "=":
                     accesses.append(accesses[0])
         self.at = end + 1
         if accesses:
-            line = self.source.count("\n", 0, self.spans[first][0]) + 1
-            text = self.spelled(first, end)
-            self.statements.append(Statement(len(self.statements) + 1, loops, tests, accesses, operator, text, line))
-            body.append(self.statements[-1])
+            number, text = len(self.statements) + 1, self.spelled(first, end)
+            body.append(Statement(number, loops, tests, accesses, operator, text, accesses[0].line))
+            self.statements.append(body[-1])
 
     def instances(self, values):
         """All instances in the order in which they run, where the parameters have these values."""
