@@ -1,8 +1,7 @@
 """A reader of kernels for the tools beside it, which takes it that polypar accepts what it reads.
 
-It shares no code with the program, and is not proved: it goes by docs/LANGUAGE.md. `Kernel(text)` has the parameters,
-the arrays and the statements of a text, and `instances(values)` goes through all instances in the source's own order.
-`ask` brings a tool the program's own answers.
+It shares no code with the program, and is not proved: it goes by docs/LANGUAGE.md. `Kernel(text)` has what a text
+declares and its statements, `instances(values)` has all instances as they run, and `ask` brings the program's answers.
 
 A form is a dictionary from names to numbers: those of parameters and of turns, `$1` that of the outermost loop round a
 statement, and None, under which the constant stands. A test is `("row", form)`, where the form is to be at least 0, or
@@ -64,12 +63,15 @@ def plus(f, g, times=1):
     return {k: f.get(k, 0) + times * g.get(k, 0) for k in {**f, **g}}
 
 
+def parsed(text):
+    """The tree of an affine expression or a condition: C is Python's syntax there, but for `&&` and some names."""
+    return ast.parse(re.sub(r"\b([A-Za-z_])", r"_\1", text).replace("&&", " and ").strip(), mode="eval").body
+
+
 def form(node, names):
-    """The form of an affine expression, where names have these forms. Affine C is Python's syntax, but for `&&`."""
-    if isinstance(node, str):
-        node = ast.parse(node.strip(), mode="eval").body
+    """The form of an affine expression, where names have these forms."""
     if isinstance(node, (ast.Constant, ast.Name)):
-        return {None: node.value} if isinstance(node, ast.Constant) else dict(names[node.id])
+        return {None: node.value} if isinstance(node, ast.Constant) else dict(names[node.id[1:]])
     if isinstance(node, ast.UnaryOp):
         return plus({}, form(node.operand, names), -1)
     f, g = form(node.left, names), form(node.right, names)
@@ -81,8 +83,6 @@ def form(node, names):
 
 def tests_of(node, names):
     """The tests of a condition."""
-    if isinstance(node, str):
-        node = ast.parse(node.replace("&&", " and ").strip(), mode="eval").body
     if isinstance(node, ast.BoolOp):
         return [test for value in node.values for test in tests_of(value, names)]
     f, sign = plus(form(node.left, names), form(node.comparators[0], names), -1), node.ops[0]
@@ -129,7 +129,7 @@ class Kernel:
         self.parameters = [name for _, name, extents in declared if not extents]
         names = {name: {name: 1} for name in self.parameters}
         self.types = {name: kind for kind, name, extents in declared if extents}
-        self.extents = {name: [form(extent, names) for extent in re.findall(r"\[([^]]*)]", extents)]
+        self.extents = {name: [form(parsed(extent), names) for extent in re.findall(r"\[([^]]*)]", extents)]
                         for _, name, extents in declared if extents}
         self.at += 1
         while self.words[self.at] == "int64_t":
@@ -156,7 +156,7 @@ class Kernel:
             self.at += 1
             head = self.bracketed()
             if word == "if":
-                self.item(loops, tests + tests_of(head, names), names, body)
+                self.item(loops, tests + tests_of(parsed(head), names), names, body)
             else:
                 self.loop(loops, tests, names, head, body)
         elif word == "{":
@@ -171,11 +171,11 @@ class Kernel:
         """Puts a loop behind a body."""
         first, second, third = head.split(";")
         name, first = re.sub(r"\bint64_t\b", "", first).split("=")
-        name, first, numbers = name.strip(), form(first, names), re.findall(r"\b[0-9]\w*", third)
+        name, first, numbers = name.strip(), form(parsed(first), names), re.findall(r"\b[0-9]\w*", third)
         stride = (int(numbers[0], 0) if numbers else 1) * (-1 if "-" in third else 1)
         turn = f"${len(loops) + 1}"
         names = {**names, name: plus(first, {turn: stride})}
-        body.append(Loop(name, first, stride, tests_of(second, names), []))
+        body.append(Loop(name, first, stride, tests_of(parsed(second), names), []))
         self.item([*loops, body[-1]], tests + [("row", {turn: 1})] + body[-1].tests, names, body[-1].body)
 
     def statement(self, loops, tests, names, body):
@@ -185,7 +185,7 @@ class Kernel:
             array, forms, self.at = self.words[place], [], place + 1
             if array in self.types:
                 while self.words[self.at] == "[":
-                    forms.append(form(self.bracketed(), names))
+                    forms.append(form(parsed(self.bracketed()), names))
                 line = self.source.count("\n", 0, self.spans[place][0]) + 1
                 accesses.append(Access(array, forms, self.spelled(place, self.at), line))
                 operator = operator or self.words[self.at]
