@@ -6,7 +6,7 @@ set -u
 root=$(CDPATH= cd -- "$(dirname -- "$0")/.." && pwd)
 cd "$root" || exit 1
 "$root/polypar" schedule <examples/copy.c >/dev/null || exit 1
-POLYPAR=${POLYPAR:-$root/crates/polypar_main/out/polypar_main}
+POLYPAR=${POLYPAR:-$(POLYPAR_WHICH=1 "$root/polypar")}
 export POLYPAR
 said=$(python3 -B tests/explained.py)
 failed=$?
