@@ -1,4 +1,5 @@
-"""Times what `polypar emit` prints against the kernel's own text and compilers' polyhedral passes. Called by emitted.sh.
+"""Times what `polypar emit` prints against the kernel's own text and compilers' polyhedral passes. Called by emitted.sh
+and, for the kernels of bench/polybench, by polybench.py.
 
 usage: emitted.py PROGRAM FOLDER ROUNDS TILE FILE..
 """
@@ -40,54 +41,54 @@ MAIN = """
 #include <stdlib.h>
 #include <time.h>
 int main(void) {
-  struct timespec begin, end;
-  uint64_t sum = 0;
+  struct timespec pp_begin, pp_end;
+  uint64_t pp_sum = 0;
 %(declared)s
 %(filled)s
-  clock_gettime(CLOCK_MONOTONIC, &begin);
-  for (int k = 0; k < %(runs)d; k++) %(call)s
-  clock_gettime(CLOCK_MONOTONIC, &end);
+  clock_gettime(CLOCK_MONOTONIC, &pp_begin);
+  for (int pp_k = 0; pp_k < %(runs)d; pp_k++) %(call)s
+  clock_gettime(CLOCK_MONOTONIC, &pp_end);
 %(summed)s
-  printf("%%.6f %%016llx\\n", (double)(end.tv_sec - begin.tv_sec) + (double)(end.tv_nsec - begin.tv_nsec) / 1e9,
-         (unsigned long long)sum);
+  printf("%%.6f %%016llx\\n", (double)(pp_end.tv_sec - pp_begin.tv_sec)
+         + (double)(pp_end.tv_nsec - pp_begin.tv_nsec) / 1e9, (unsigned long long)pp_sum);
 }
 """
 
 
 def program_of(text, kernel, sizes, runs):
     """A C program that runs a text of the kernel so often, and prints its seconds and a sum of its cells."""
-    each = [(f"  for (size_t k = 0; k < {cells}; k++)", name) for name, cells in arrays_of(kernel)]
+    each = [(f"  for (size_t pp_k = 0; pp_k < {cells}; pp_k++)", name) for name, cells in arrays_of(kernel)]
     parts = {
         "declared": "\n".join(declarations(kernel, sizes)),
-        "filled": "\n".join(f"{loop} {name}[k] = (k + 1) * 11400714819323198485ULL;" for loop, name in each),
+        "filled": "\n".join(f"{loop} {name}[pp_k] = (pp_k + 1) * 11400714819323198485ULL;" for loop, name in each),
         "runs": runs,
         "call": call_of(kernel),
-        "summed": "\n".join(f"{loop} sum = sum * 31 + {name}[k];" for loop, name in each),
+        "summed": "\n".join(f"{loop} pp_sum = pp_sum * 31 + {name}[pp_k];" for loop, name in each),
     }
     return text + MAIN % parts
 
 
-def timed(program):
-    """The seconds of one run, and the sum of its cells; nothing where it was given up."""
+def timed(program, patience):
+    """The seconds of one run, and the sum of its cells; nothing where it was given up after so many seconds."""
     environment = dict(os.environ, OMP_NUM_THREADS=str(THREADS))
     try:
-        done = subprocess.run([program], capture_output=True, check=True, env=environment, timeout=PATIENCE)
+        done = subprocess.run([program], capture_output=True, check=True, env=environment, timeout=patience)
     except subprocess.TimeoutExpired:
         return None
     seconds, cells = done.stdout.split()
     return float(seconds), cells
 
 
-def time_in_turn(programs, rounds, times, sums):
+def time_in_turn(programs, rounds, patience, times, sums):
     """Runs the programs in turn, and puts the shortest seconds of each and its sum of cells into the tables. Returns
     those that were given up."""
     given_up = set()
     for _ in range(rounds):
         for way, made in programs.items():
-            told = None if way in given_up else timed(made)
+            told = None if way in given_up else timed(made, patience)
             if told is None:
                 given_up.add(way)
-                times[way] = float(PATIENCE)
+                times[way] = float(patience)
             else:
                 times[way] = min(told[0], times.get(way, told[0]))
                 sums[way] = told[1]
@@ -103,29 +104,42 @@ COMPILERS = {
 }
 
 
+def programs_of(program, folder, tile, file, sizes, runs):
+    """The programs of a file's kernel, with its parameters and runs, by their ways, and the line of a kept order."""
+    kernel = kernel_of(file)
+    name = os.path.splitext(os.path.basename(file))[0]
+    with open(file, encoding="utf-8") as source:
+        emitted = subprocess.run([program, "emit", "--tile", tile], stdin=source, capture_output=True, check=True)
+    texts = {"emitted": emitted.stdout.decode(), "serial": emitted.stdout.decode()}
+    programs = {}
+    for way, compiler in COMPILERS.items():
+        text = program_of(texts.get(way, "#include <stdint.h>\n" + kernel), kernel, sizes, runs)
+        made, _ = built(folder, f"{name}_{way}", text, [*compiler, "-w"])
+        if made is not None:
+            programs[way] = made
+    return programs, emitted.stderr.decode().strip()
+
+
+def timed_ways(name, programs, rounds, patience):
+    """The shortest seconds of the ways of a kernel, and which were given up; all others end with the same cells."""
+    times, sums = {}, {}
+    given_up = time_in_turn(programs, rounds, patience, times, sums)
+    if len(set(sums.values())) != 1:
+        sys.exit(f"{name}: the programs end with different cells: {sums}")
+    return times, given_up
+
+
 def main():
     program, folder, rounds, tile, *files = sys.argv[1:]
     for file in files:
         name = os.path.splitext(os.path.basename(file))[0]
         if name not in SIZES:
             sys.exit(f"no sizes are known for {name}")
-        kernel = kernel_of(file)
-        with open(file, encoding="utf-8") as source:
-            emitted = subprocess.run([program, "emit", "--tile", tile], stdin=source, capture_output=True, check=True)
-        texts = {"emitted": emitted.stdout.decode(), "serial": emitted.stdout.decode()}
-        times, sums = {}, {}
-        programs = {}
-        for way, compiler in COMPILERS.items():
-            text = program_of(texts.get(way, "#include <stdint.h>\n" + kernel), kernel, *SIZES[name])
-            made, _ = built(folder, f"{name}_{way}", text, [*compiler, "-w"])
-            if made is not None:
-                programs[way] = made
-        given_up = time_in_turn(programs, rounds_of([rounds], 5), times, sums)
-        if len(set(sums.values())) != 1:
-            sys.exit(f"{name}: the programs end with different cells: {sums}")
+        programs, kept = programs_of(program, folder, tile, file, *SIZES[name])
+        times, given_up = timed_ways(name, programs, rounds_of([rounds], 5), PATIENCE)
         line = "  ".join(f"{way} {'>' if way in given_up else ''}{1000 * seconds:.1f}" for way, seconds in times.items())
-        kept = emitted.stderr.decode().strip()
         print(f"{name:12} {line}  emitted/own {times['emitted'] / times['own']:5.2f}  {kept}", flush=True)
 
 
-main()
+if __name__ == "__main__":
+    main()
