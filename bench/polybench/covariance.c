@@ -1,6 +1,6 @@
 /* covariance: of N rows of M numbers the covariance of each two columns.
-   Differs: the divisions by N and by N - 1 are products with per_n and per_less, which are 2^32 / N and 2^32 / (N - 1),
-   rounded up, and shifts by 32 places, that of cov with its sign.
+   Differs: the divisions by N and by one less are products with per_n and per_less, which are 2^32 by these, rounded
+   up, and shifts by 32 places, that of cov with its sign.
    Refused: mean[j] /= N;
    Refused: cov[i][j] /= N - 1; */
 #include <stdint.h>

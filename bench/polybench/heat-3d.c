@@ -1,6 +1,6 @@
 /* heat-3d: steps of heat over a cube: a cell gains an eighth of its second differences along the three axes.
    Differs: the eighth is a shift of the whole sum.
-   Refused: B[i][j][k] = 0.125 * A[i][j][k]; */
+   Refused: B[i][j][k] = 0.125 * (A[i + 1][j][k] - 2 * A[i][j][k] + A[i - 1][j][k]); */
 #include <stdint.h>
 
 void heat_3d(int64_t T, int64_t N, uint64_t A[N][N][N], uint64_t B[N][N][N]) {
