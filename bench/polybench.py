@@ -150,8 +150,9 @@ def times_of(program, folder, rounds, name, file):
     """The cells of a kernel's times, by the names of columns."""
     planning, _ = shortest({"schedule": [program, "schedule"]}, rounds, file, subprocess.DEVNULL)
     programs, _ = programs_of(program, folder, TILE, file, *SIZES[name])
-    times, given_up = timed_ways(name, programs, rounds, PATIENCE)
+    times, given_up, wrong = timed_ways(name, programs, rounds, PATIENCE)
     cells = {way: (">" if way in given_up else "") + milliseconds(seconds) for way, seconds in times.items()}
+    cells.update(dict.fromkeys(wrong, "wrong"))
     ratio = (">" if "emitted" in given_up else "") + f"{times['emitted'] / times['own']:.2f}"
     return {"planning": milliseconds(planning["schedule"]), **dict.fromkeys(WAYS, "-"), **cells, "ratio": ratio}
 
@@ -246,8 +247,8 @@ def times_section(plans):
     said = (f"Milliseconds by the clock of so many runs one behind another, the shortest of some rounds in turn: the "
             f"kernel's own text by `gcc -O2`, by gcc's polyhedral passes and by Polly, both with {THREADS} threads, "
             f"and the emitted text with {THREADS} threads and without OpenMP (serial); last, the emitted text's time "
-            f"with threads to its own text's. All end with the same cells. Where a number stands behind >, a run was "
-            f"given up after so long.")
+            f"with threads to its own text's. All end with the same cells, but where a compiler's is called wrong. "
+            f"Where a number stands behind >, a run was given up after so long.")
     return "## Times\n\n" + filled(said) + "\n\n" + table(heads, rows) + "\n\n" + outcome(plans)
 
 
@@ -257,12 +258,14 @@ def outcome(plans):
     wins = [name for name, own in timed.items() if number(own["ratio"]) < 0.9]
     loses = [name for name, own in timed.items() if number(own["ratio"]) > 1.1]
     stay = [name for name in timed if name not in wins and name not in loses]
-    polly = [name for name, own in timed.items() if own["polly"] != "-"]
+    polly = [name for name, own in timed.items() if own["polly"] not in ("-", "wrong")]
     faster = [name for name in polly if number(timed[name]["emitted"]) < number(timed[name]["polly"])]
+    wrong = [name for name, own in timed.items() if "wrong" in (own["graphite"], own["polly"])]
     return "\n\n".join(filled(said) for said in [
         f"**What wins**, {len(wins)} of {len(timed)}, with the emitted text's time to its own text's: "
         f"{ratios(timed, wins)}. About equal: {ratios(timed, stay)}. The emitted text is faster than Polly's in "
-        f"{len(faster)} of {len(polly)}: {listed(faster)}.",
+        f"{len(faster)} of {len(polly)}: {listed(faster)}. A compiler's passes end with other cells than the kernel's "
+        f"own text in {len(wrong)}: {listed(wrong)}.",
         f"**What loses**, {len(loses)}: {ratios(timed, loses)}.",
         f"**Where nothing runs at once**, the first band is one row, which carries, so each wave is one tile: "
         f"{causes_among(plans)}. Threads start for each tile and have nothing to share; without OpenMP (serial) such "
