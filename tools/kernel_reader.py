@@ -15,6 +15,17 @@ import re
 import subprocess
 from collections import namedtuple
 
+# Why the program keeps an order, or does not tell a read's source, by the word that it gives.
+CAUSES = {
+    "no row": "no next row is left that keeps all dependences in order, and no scalar item would part any of them",
+    "no order": "statements that depend on each other are left at the end, so no scalar item puts them in order",
+    "large": "the least next row has a coefficient or a shift above 4096, or the plan's loops a number above 2^40",
+    "wide": "a question or an elimination meets a number of more than 128 bits",
+    "spent": "a question has made all its moves (--budget), and is not answered",
+    "crowded": "an elimination would pair more than 4096 rows",
+    "nodes": "the writers that may be its last one take more than 4096 nodes to tell apart",
+}
+
 WORD = re.compile(r"\w+|<<=|>>=|<<|>>|\+\+|--|[-+*&|^<>=]=|&&|\S")
 
 # A loop's iterator is the value of `first`, and `stride` more with each turn, as long as the tests hold.

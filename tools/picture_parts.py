@@ -88,7 +88,7 @@ def value_at(form, turns):
 class Kernel:
     """A kernel with its parameters, as the answers tell it."""
 
-    most_instances, most_loops, taken = 400, 5, "no kernel has more than five"
+    most_instances = 400
 
     def __init__(self, text, data, words):
         emitted, lines = asked("emit --budget 1", text)
@@ -100,9 +100,6 @@ class Kernel:
         names = {"pp_floord": int.__floordiv__, **self.values}
         statements = {int(number): Statement(int(number), names, parts.split("; "))
                       for number, parts in re.findall(r"\{ /\* S(\d+) \*/ (.*); \}", emitted)}
-        for number, statement in statements.items():
-            if len(statement.iterators) > self.most_loops:
-                raise NoPicture(f"S{number} has {len(statement.iterators)} loops round it, and {self.taken}")
         self.instances = list(itertools.islice(visits(emitted.splitlines(), names), self.most_instances + 1))
         if not 0 < len(self.instances) <= self.most_instances:
             raise NoPicture(f"more than {self.most_instances} instances" if self.instances else "no instance")
