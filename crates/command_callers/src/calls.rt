@@ -11,6 +11,7 @@ ghost use Rattle.std.specs.Prelude.{Err, codes, length, string_bytes};
 ghost use Rattle.std.specs.Io.KnownBytes.{Appends};
 ghost use Rattle.clap.specs.Words.{fault_of};
 ghost use Rattle.io_ports.specs.Bytes.{GainsFront, IsAllOf};
+ghost use Rattle.io_ports.specs.Faults.{Rose};
 ghost use Rattle.io_ports.specs.Writes.{SinkShows};
 ghost use Rattle.scop_syntax.specs.Execution.{exec};
 ghost use Rattle.scop_syntax.specs.Limits.{HasParameters};
@@ -44,8 +45,9 @@ ghost use Rattle.report_text.specs.DepsText.{deps_text};
 ghost use Rattle.report_text.specs.KeptText.{kept_text};
 ghost use Rattle.report_text.specs.ScheduleText.{schedule_text};
 ghost use Rattle.report_text.specs.declared.kept_line.KeptLine.{KeptLine};
-ghost use Rattle.report_text.specs.declared.status.Status.TheVariants.{BadData, Done, NoMemory, Rejected, Usage};
+ghost use Rattle.report_text.specs.declared.status.Status.TheVariants.{BadData, Done, NoMemory, ReadFault, Rejected, Usage};
 ghost use Rattle.report_text.specs.declared.status.Status.TheVariants.{WriteFault};
+ghost use Rattle.polypar.specs.Answered.{Answered};
 ghost use Rattle.polypar.specs.Planned.{ArePlanned};
 ghost use Rattle.polypar.specs.Planning.{IsCauseOf, IsSearched};
 ghost use Rattle.command_line.specs.Command.{IsDepsCommand, IsEmitCommand, IsGenCommand, IsRunCommand};
@@ -60,9 +62,27 @@ ghost use Rattle.polypar.specs.Deserves.{Asks};
 ghost use Rattle.polypar.specs.Runs.{left_by};
 ghost use Rattle.polypar.specs.Told.{Told};
 
-use io_ports::{Sink, Source};
-use polypar::{Status, plain_command};
+use io_ports::{Gate, Sink, Source};
+use polypar::{Status, plain_command, polypar};
 use std::alloc::Global;
+use std::sync::Wait;
+use std::thread::Threads;
+
+/// The call that the program makes: the whole promise, of which the callers below hold the fields.
+pub fn answered_program<R: Threads + Wait + Sync, S: Source, O: Sink, E: Sink, G: Gate>(
+    rt: &R,
+    alloc: Global,
+    words: &[String],
+    source: &mut S,
+    out: &mut O,
+    err: &mut E,
+    gate: &G,
+) -> Status
+    ensures { Answered (map string_bytes words.now) result (S.shows source.old) (S.shows source.new) (O.shows out.old)
+        (O.shows out.new) (E.shows err.old) (E.shows err.new) }
+{
+    polypar(rt, alloc, words, source, out, err, gate)
+}
 
 /// A run: by `done` the arrays and the report of `run`, by `generated` the summary of `gen`.
 pub fn answered_run<S: Source, O: Sink, E: Sink>(
@@ -152,8 +172,8 @@ pub fn answered_certificate<S: Source, O: Sink, E: Sink>(
     plain_command(alloc, words, source, out, err)
 }
 
-/// How a call ends: by `stranger` over words with a fault; by `unread`, `nothing` and `written` what else ports show; by
-/// `error_line` the line of data that is refused, with the names of the program that was read, the lines of a command
+/// How a call ends: by `stranger` over words with a fault; by `read_fault` and `write_fault` only where a count rose; by
+/// `unread`, `nothing` and `written` what else ports show; by `error_line` the line of data that is refused, with the names of the program that was read, the lines of a command
 /// that is done, and those of one that is cut off, with the count that rose.
 pub fn ended_call<S: Source, O: Sink, E: Sink>(
     alloc: Global,
@@ -163,6 +183,9 @@ pub fn ended_call<S: Source, O: Sink, E: Sink>(
     err: &mut E,
 ) -> Status
     ensures stranger { fault_of tool (map string_bytes words.now) ≢ [] → (result ≡ Usage) ⊎ (result ≡ NoMemory) }
+    ensures read_fault { result ≡ ReadFault → Rose (S.shows source.old).faults (S.shows source.new).faults }
+    ensures write_fault { result ≡ WriteFault
+        → Rose (O.shows out.old).faults (O.shows out.new).faults ⊎ Rose (E.shows err.old).faults (E.shows err.new).faults }
     ensures unread { result ≡ Usage → S.shows source.new ≡ S.shows source.old }
     ensures nothing { result ≢ Done → result ≢ WriteFault → O.shows out.new ≡ O.shows out.old }
     ensures front { result ≡ WriteFault → (input : List ℕ) × (told : Told)

@@ -20,6 +20,36 @@ A = 3 4
 const USAGE: &str =
     "usage: polypar run|schedule|deps|emit|gen|certify|check [--workers 1..64] [--tile 1..1024] [--budget 1..20000] [--report] [--expand] [--sync waves|tiles] [--reduce]\n";
 
+/// The schedule of that kernel, its loops in tiles of one instance, and the kernel with a certificate.
+const SCHEDULE: &str = "row 1 band 1 parallel u (0) w 0: S1 (1) + 0\n";
+
+const LOOPS: &str = "#include <stdint.h>
+static int64_t pp_floord(int64_t n, int64_t d) { return n < 0 ? -((-n + d - 1) / d) : n / d; }
+static int64_t pp_ceild(int64_t n, int64_t d) { return n < 0 ? -((-n) / d) : (n + d - 1) / d; }
+static int64_t pp_max(int64_t a, int64_t b) { return a > b ? a : b; }
+static int64_t pp_min(int64_t a, int64_t b) { return a < b ? a : b; }
+void copy(int64_t N, uint64_t A[N], uint64_t B[N]) {
+  #pragma omp parallel for
+  for (int64_t pp_1 = 0; pp_1 <= N - 1; pp_1++) {
+    for (int64_t pp_2 = pp_1; pp_2 <= pp_1; pp_2++) {
+      { /* S1 */ const int64_t i = pp_2; B[i] = A[i]; }
+    }
+  }
+}
+";
+
+const CERTIFICATE: &str = "void copy(int64_t N, uint64_t A[N], uint64_t B[N]) {
+    for (int64_t i = 0; i < N; i++) B[i] = A[i]; }
+%%
+row 1 band 1 parallel u (0) w 0: S1 (1) + 0
+goal 1
+line 1 10:1 7:1
+goal 2
+line 1 1:1 7:1
+goal 3
+line 1 1:1 9:1
+";
+
 /// How a call ended, and what its sinks took.
 #[derive(Drop)]
 pub struct Answer {
@@ -89,6 +119,7 @@ fn prints_the_arrays_of_the_execution(rt: HostRuntime) -> Result<(), Fail> {
 /// A call over ports of which calls fail, how it ends, and how many calls of its error output failed.
 struct Fault {
     words: &'static [&'static str],
+    input: &'static str,
     room: usize,
     fails: [&'static [u64]; 3],
     exit: u8,
@@ -97,10 +128,12 @@ struct Fault {
     faults: u64,
 }
 
-/// The source, the output, flushes of both outputs, also behind a line that was told, and such a line itself.
+/// The source, the output, flushes of both outputs, of the output behind each kind of text, of the other also behind a
+/// line that was told, and such a line itself.
 const FAULTS: &[Fault] = &[
     Fault {
         words: &["polypar", "run"],
+        input: TWO_CELLS,
         room: 99,
         fails: [&[2], &[], &[]],
         exit: 5,
@@ -110,6 +143,7 @@ const FAULTS: &[Fault] = &[
     },
     Fault {
         words: &["polypar", "run"],
+        input: TWO_CELLS,
         room: 7,
         fails: [&[], &[], &[]],
         exit: 6,
@@ -119,6 +153,7 @@ const FAULTS: &[Fault] = &[
     },
     Fault {
         words: &["polypar", "run"],
+        input: TWO_CELLS,
         room: 99,
         fails: [&[], &[2], &[]],
         exit: 6,
@@ -128,6 +163,7 @@ const FAULTS: &[Fault] = &[
     },
     Fault {
         words: &["polypar", "run"],
+        input: TWO_CELLS,
         room: 99,
         fails: [&[], &[], &[1]],
         exit: 6,
@@ -137,6 +173,7 @@ const FAULTS: &[Fault] = &[
     },
     Fault {
         words: &["polypar"],
+        input: TWO_CELLS,
         room: 9,
         fails: [&[], &[], &[2]],
         exit: 1,
@@ -146,6 +183,7 @@ const FAULTS: &[Fault] = &[
     },
     Fault {
         words: &["polypar"],
+        input: TWO_CELLS,
         room: 9,
         fails: [&[], &[], &[1]],
         exit: 1,
@@ -153,20 +191,59 @@ const FAULTS: &[Fault] = &[
         err: "",
         faults: 1,
     },
+    Fault {
+        words: &["polypar", "schedule"],
+        input: TWO_CELLS,
+        room: 99,
+        fails: [&[], &[2], &[]],
+        exit: 6,
+        out: SCHEDULE,
+        err: "write fault\n",
+        faults: 0,
+    },
+    Fault {
+        words: &["polypar", "emit", "--tile", "1"],
+        input: TWO_CELLS,
+        room: 999,
+        fails: [&[], &[5], &[]],
+        exit: 6,
+        out: LOOPS,
+        err: "write fault\n",
+        faults: 0,
+    },
+    Fault {
+        words: &["polypar", "gen", "product", "1", "2"],
+        input: "",
+        room: 99,
+        fails: [&[], &[2], &[]],
+        exit: 6,
+        out: "gen product seed 1 size 2\ntiles 1 waves 1\ncells 12 sum 2850253945313235602\n",
+        err: "write fault\n",
+        faults: 0,
+    },
+    Fault {
+        words: &["polypar", "check"],
+        input: CERTIFICATE,
+        room: 99,
+        fails: [&[], &[2], &[]],
+        exit: 6,
+        out: "yes\n",
+        err: "write fault\n",
+        faults: 0,
+    },
 ];
 
-/// Whether a call on the copy kernel ends as told.
+/// Whether a call ends as told.
 fn is_fault<R: Threads + Wait + Sync>(
     rt: &R,
     alloc: Global,
     fault: &Fault,
 ) -> Result<bool, AllocError> {
-    let input = TWO_CELLS.as_bytes();
     let answer = answer_of(
         rt,
         alloc,
         fault.words,
-        input,
+        fault.input.as_bytes(),
         200,
         fault.room,
         fault.fails,

@@ -3,6 +3,7 @@
 use io_ports::{
     Failed, MemSink, MemSource, Pieces, Sink, StdSink, StdSource, read_to_end, write_whole,
 };
+use std::io::{self, Write};
 use std::test::Fail;
 
 #[test]
@@ -47,5 +48,31 @@ fn copies_through_streams_in_memory(rt: HostRuntime) -> Result<(), Fail> {
     assert!(rt; write_whole(&mut sink, &text).is_ok());
     assert!(rt; sink.flush().is_ok());
     assert!(rt; written.as_slice() == b"one two".as_slice());
+    Ok(())
+}
+
+/// Takes all that it is given, and counts how often it is flushed.
+#[derive(Drop)]
+struct Counting {
+    flushes: u8,
+}
+
+impl Write for Counting {
+    fn write(&mut self, bytes: &[u8]) -> io::Result<usize> {
+        Ok(bytes.len())
+    }
+
+    fn flush(&mut self) -> io::Result<()> {
+        self.flushes = self.flushes.saturating_add(1);
+        Ok(())
+    }
+}
+
+#[test]
+fn flushes_the_writer_below(rt: HostRuntime) -> Result<(), Fail> {
+    let mut writer = Counting { flushes: 0 };
+    let mut sink = StdSink::of(&mut writer);
+    assert!(rt; sink.flush().is_ok());
+    assert!(rt; writer.flushes == 1);
     Ok(())
 }

@@ -7,6 +7,14 @@ pub returns-clause-stranger : goal.returns-clause-stranger
 returns-clause-stranger g c = λ fault.
     c.plain_command.ensures.stranger (λ taken. fault taken.0)
 
+pub returns-clause-read_fault : goal.returns-clause-read_fault
+returns-clause-read_fault g c = λ fault.
+    c.plain_command.ensures.read_fault fault
+
+pub returns-clause-write_fault : goal.returns-clause-write_fault
+returns-clause-write_fault g c = λ fault.
+    c.plain_command.ensures.write_fault fault
+
 pub returns-clause-front : goal.returns-clause-front
 returns-clause-front g c = λ fault.
     c.plain_command.ensures.written fault
