@@ -215,9 +215,9 @@ The thirty kernels of PolyBench/C 4.2, a suite of loops for polyhedral compilers
 does not read; here they are whole numbers modulo 2^64. A scalar is an array of one cell. Where a statement divides,
 takes a root or chooses by `?:`, it is refused, and another stands in its place; each such line stands below, with what
 the kernel differs in.
-Times were made on four cores of a shared machine, by gcc {gcc} and clang {clang}, in tiles of {tile}. The page is made
-by `bench/polybench.sh 3`; `bench/polybench.sh --quick` makes all but the times. `tests/polybench.sh` compares
-what `run`, the emitted text and the kernel's own text leave of each."""
+Times were made on four cores of a shared machine, by gcc {gcc} and clang {clang}, in tiles of {tile}; {rounds}.
+The page is made by `bench/polybench.sh 3`; `bench/polybench.sh --quick` makes all but the times. `tests/polybench.sh`
+compares what `run`, the emitted text and the kernel's own text leave of each."""
 
 
 def plans_section(plans):
@@ -321,7 +321,7 @@ def main():
     if any(name not in SIZES for name in names) or not quick and not re.fullmatch("[1-9][0-9]*", rounds):
         sys.exit("usage: polybench.sh [ROUNDS [NAME..] | --quick]")
     timed = [] if quick else names or list(SIZES)
-    text = ""
+    text, load = "", os.getloadavg()[0]
     if os.path.exists(page):
         with open(page, encoding="utf-8") as source:
             text = source.read()
@@ -332,7 +332,9 @@ def main():
             times = times_of(program, folder, int(rounds), name, file)
         plans[name] = {**plan_of(program, file), **times}
         print(f"{name:15} {plans[name]['rows']}, schedule {times['planning']} ms, to own {times['ratio']}", flush=True)
-    head = HEAD.format(gcc=version_of("gcc"), clang=version_of("clang"), tile=TILE)
+    standing = re.search(r"rounds: \d+, begun at a load of \d+", text)
+    rounds = standing.group() if standing and (quick or names) else f"rounds: {rounds}, begun at a load of {load:.0f}"
+    head = HEAD.format(gcc=version_of("gcc"), clang=version_of("clang"), tile=TILE, rounds=rounds)
     sections = [head, plans_section(plans), times_section(plans), refused_section(plans), rest_section(plans)]
     with open(page, "w", encoding="utf-8") as out:
         out.write("\n\n".join(sections) + "\n")
