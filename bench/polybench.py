@@ -215,9 +215,9 @@ The thirty kernels of PolyBench/C 4.2, a suite of loops for polyhedral compilers
 does not read; here they are whole numbers modulo 2^64. A scalar is an array of one cell. Where a statement divides,
 takes a root or chooses by `?:`, it is refused, and another stands in its place; each such line stands below, with what
 the kernel differs in.
-Times were made on four cores of a shared machine, by gcc {gcc} and clang {clang}, in tiles of {tile}; {rounds}.
-The page is made by `bench/polybench.sh 3`; `bench/polybench.sh --quick` makes all but the times. `tests/polybench.sh`
-compares what `run`, the emitted text and the kernel's own text leave of each."""
+Times were made on four cores of a shared machine, by gcc {gcc} and clang {clang}, in tiles of {tile}
+({rounds}). The page is made by `bench/polybench.sh 3`; `bench/polybench.sh --quick` makes all
+but the times. `tests/polybench.sh` compares what `run`, the emitted text and the kernel's own text leave of each."""
 
 
 def plans_section(plans):

@@ -8,7 +8,7 @@ set -eu
 root=$(CDPATH= cd -- "$(dirname -- "$0")/.." && pwd)
 work=$(mktemp -d)
 trap 'rm -rf "$work"' EXIT
-"$root/polypar" schedule <"$root/examples/copy.c" >/dev/null
+. "$root/bench/programs.sh"
 [ $# -ne 0 ] || set -- 3
-python3 -B "$root/bench/polybench.py" "$root/crates/polypar_main/out/polypar_main" "$work" "$root/bench/polybench" \
+python3 -B "$root/bench/polybench.py" "$program" "$work" "$root/bench/polybench" \
     "$root/docs/POLYBENCH.md" "$@"
