@@ -1,0 +1,12 @@
+pub mod FormWorths
+pub mod BoundWorths
+pub mod LaterNames
+pub mod ProgramRuns
+pub mod TreeRuns
+pub mod FormedTrees
+pub mod ValueWorths
+pub mod Assigned
+pub mod Reached
+pub mod Arrays
+pub mod Wholes
+pub mod RangesHold

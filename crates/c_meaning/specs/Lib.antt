@@ -1,0 +1,10 @@
+pub mod Syntax
+pub mod Expressions
+pub mod Assignments
+pub mod Runs
+pub mod Programs
+pub mod Narrow
+pub mod Visits
+pub mod Ranges
+pub mod Examples
+pub mod steps
