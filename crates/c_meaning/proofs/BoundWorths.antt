@@ -53,11 +53,12 @@ floor_called z d h f = by_sign (lt_z z (pos 0)) refl
   where
     m : ℤ
     m = (neg_ℤ z +ℤ d) -ℤ pos 1
+
     by_sign : (t : Bool) → lt_z z (pos 0) ≡ t
         → (if t
-          then when (when (when (when (kept false (neg_ℤ z)) (λ a. kept false (a +ℤ d)))
-          (λ a. kept false (a -ℤ pos 1))) (λ a. divided false a d)) (λ a. kept false (neg_ℤ a))
-          else divided false z d)
+        then when (when (when (when (kept false (neg_ℤ z)) (λ a. kept false (a +ℤ d)))
+        (λ a. kept false (a -ℤ pos 1))) (λ a. divided false a d)) (λ a. kept false (neg_ℤ a))
+        else divided false z d)
         ≡ Some (if t then neg_ℤ (quot_z m d) else quot_z z d)
     by_sign true e =
         let l = holds_lt_z z (pos 0) e in
@@ -84,9 +85,10 @@ ceiling_called z d h f = by_sign (lt_z z (pos 0)) refl
   where
     m : ℤ
     m = (z +ℤ d) -ℤ pos 1
+
     by_sign : (t : Bool) → lt_z z (pos 0) ≡ t
         → (if t then when (when (kept false (neg_ℤ z)) (λ a. divided false a d)) (λ a. kept false (neg_ℤ a))
-          else when (when (kept false (z +ℤ d)) (λ a. kept false (a -ℤ pos 1))) (λ a. divided false a d))
+        else when (when (kept false (z +ℤ d)) (λ a. kept false (a -ℤ pos 1))) (λ a. divided false a d))
         ≡ Some (if t then neg_ℤ (quot_z (neg_ℤ z) d) else quot_z m d)
     by_sign true e =
         let l = holds_lt_z z (pos 0) e in
@@ -252,8 +254,8 @@ tests_worth params outer (test ∷ tests) h o f =
     ∙ by_truth (λ e. tests_worth params outer tests h.1 o.1 (f.1 e)) (holds test (outer ++ params)) refl
   where
     by_truth : (holds test (outer ++ params) ≡ true
-          → all_of (params ++ outer) (map (comparison (length params) (length outer)) tests)
-          ≡ Some (all_hold tests (outer ++ params)))
+        → all_of (params ++ outer) (map (comparison (length params) (length outer)) tests)
+        ≡ Some (all_hold tests (outer ++ params)))
         → (t : Bool) → holds test (outer ++ params) ≡ t
         → both (Some t) (all_of (params ++ outer) (map (comparison (length params) (length outer)) tests))
         ≡ Some (if t then all_hold tests (outer ++ params) else false)

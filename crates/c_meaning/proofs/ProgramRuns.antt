@@ -82,10 +82,11 @@ in_turn told condition Body Run first last test fits body (suc n) x low o h =
     let ends = after_is rest.0 (map told more.0) o (λ ws. o ≡ Some (map told done.0 ++ ws)) more.2 rest.2 in
     let turn = one_turn (last -ℤ x) (omega (arith, ints, up)) in
     let same : (last -ℤ x) -ℤ pos 1 ≡ last -ℤ (x +ℤ pos 1) = omega (arith, ints) in
-    let count = turn ∙ ap (λ (z : ℤ). suc (most_turns z)) same in
-    (done.0 ++ more.0,
-    subst (λ m. RunsAlong false Run x m (done.0 ++ more.0)) (sym count) (done.0, more.0, done.1, more.1, refl),
-    ends ∙ ap (λ (vs : List Act). Some vs) (sym (map-append told done.0 more.0)))
+    let count = turn ∙ ap (λ (z : ℤ). suc (most_turns z)) same in (
+      done.0 ++ more.0,
+      subst (λ m. RunsAlong false Run x m (done.0 ++ more.0)) (sym count) (done.0, more.0, done.1, more.1, refl),
+      ends ∙ ap (λ (vs : List Act). Some vs) (sym (map-append told done.0 more.0)),
+    )
 
 -- a list of images has a first, which is that of its first
 first_image : (f : Visit → Act) (xs : List Visit) (z : Act) (rest : List Act) → map f xs ≡ z ∷ rest
@@ -98,6 +99,7 @@ first_image f (x ∷ xs) z rest e = (x, xs, refl, by_first e, by_rest e)
   where
     by_first : f x ∷ map f xs ≡ z ∷ rest → z ≡ f x
     by_first k = cc
+
     by_rest : f x ∷ map f xs ≡ z ∷ rest → map f xs ≡ rest
     by_rest k = cc
 
@@ -203,9 +205,11 @@ iteration program told flag body params outer x a runs h =
     let l = length-append outer (x ∷ []) in
     let r = runs a (subst (λ k. MayDoAll (statements_of program k body) (params ++ (outer ++ x ∷ [])) a)
     (omega (arith, l)) (subst (λ q. MayDoAll (statements_of program (suc (length outer)) body) q a)
-    (append_assoc params outer (x ∷ [])) h)) in
-    (map (through flag x) r.0, (r.0, r.1, refl),
-    r.2 ∙ ap (λ (vs : List Act). Some vs) (map_twice told (through flag x) r.0))
+    (append_assoc params outer (x ∷ [])) h)) in (
+      map (through flag x) r.0,
+      (r.0, r.1, refl),
+      r.2 ∙ ap (λ (vs : List Act). Some vs) (map_twice told (through flag x) r.0),
+    )
 
 guarded_runs : (told : Visit → Act) (Run : List Visit → Type 0) (t : Bool) (o : Outcome) (Do : Type 0)
     → (t ≡ true → Do → ComesTo told Run o) → (t ≡ true → Do) × (t ≡ false → o ≡ Some [])
@@ -291,9 +295,11 @@ mutual
       let g = after_is (constants p (given_expressions (length program.parameters) (length outer)
       (length program.parameters + length outer) s.heads turns)) (given_values params outer [] s.heads turns) o
       (λ vs. o ≡ Some (reached program params outer s vs ∷ []))
-      (held params outer (length program.parameters) s turns e fits.0) does in
-      (record { values = []; parallel = []; number = n; turns = values_of turns (outer ++ params) } ∷ [], refl,
-      g ∙ ap (λ (w : Act). Some (w ∷ [])) (sym (tells s formed.1)))
+      (held params outer (length program.parameters) s turns e fits.0) does in (
+        record { values = []; parallel = []; number = n; turns = values_of turns (outer ++ params) } ∷ [],
+        refl,
+        g ∙ ap (λ (w : Act). Some (w ∷ [])) (sym (tells s formed.1)),
+      )
 
   pub runs_all : (program : Program) (told : Visit → Act) (ts : Trees) (params outer : List ℤ)
       → length program.parameters ≡ length params → FlatAll ts → AreFormed program ts params outer
@@ -308,9 +314,11 @@ mutual
       let on = after_is h.0 (map told r.0) o
       (λ vs. (b : Outcome) × MayDoAll ss p b × After b o (λ ws. o ≡ Some (vs ++ ws))) r.2 h.2 in
       let q = runs_all program told ts params outer e flat.1 formed.1 narrow.1 tells.1 on.0 on.1 in
-      let ends = after_is on.0 (map told q.0) o (λ ws. o ≡ Some (map told r.0 ++ ws)) q.2 on.2 in
-      (r.0 ++ q.0, (r.0, q.0, r.1, q.1, refl),
-      ends ∙ ap (λ (vs : List Act). Some vs) (sym (map-append told r.0 q.0)))
+      let ends = after_is on.0 (map told q.0) o (λ ws. o ≡ Some (map told r.0 ++ ws)) q.2 on.2 in (
+        r.0 ++ q.0,
+        (r.0, q.0, r.1, q.1, refl),
+        ends ∙ ap (λ (vs : List Act). Some vs) (sym (map-append told r.0 q.0)),
+      )
 
 -- so it is with a whole program
 pub runs_of_program : (program : Program) (told : Visit → Act) (ts : Trees) (params : List ℤ)

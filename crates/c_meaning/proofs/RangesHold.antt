@@ -316,9 +316,11 @@ givens_lie params outer before ps os bs (head ∷ heads) [] h b = tt
 givens_lie params outer before ps os bs (head ∷ heads) (turn ∷ turns) h b =
     let z = given_value params outer before head turn in
     let r = form_range (iterator_form (length ps) (length os) head turn) (ps ++ (os ++ bs)) in
-    let here = given_lies params outer before ps os bs head turn h b in
-    (here, givens_lie params outer (before ++ z ∷ []) ps os (bs ++ r ∷ []) heads turns h
-    (behind_lie before (z ∷ []) bs (r ∷ []) b (one_lies z r here)))
+    let here = given_lies params outer before ps os bs head turn h b in (
+      here,
+      givens_lie params outer (before ++ z ∷ []) ps os (bs ++ r ∷ []) heads turns h
+          (behind_lie before (z ∷ []) bs (r ∷ []) b (one_lies z r here)),
+    )
 
 givens_narrow : (params outer before : List ℤ) (ps os bs : List Range) (heads : List Head) (turns : List Affine)
     → AreNames params outer ps os → LieIn before bs → givens_fit ps os bs heads turns ≡ true
@@ -362,9 +364,10 @@ subscripts_narrow : (params outer given : List ℤ) (ps os gs : List Range) (for
     → SubscriptsFit params outer given forms
 subscripts_narrow params outer given ps os gs [] h e = tt
 subscripts_narrow params outer given ps os gs (form ∷ forms) h e =
-    let both = and_parts (source_form_fits ps os gs form) (subscripts_fit ps os gs forms) e in
-    (source_narrow params outer given ps os gs form h both.0,
-    subscripts_narrow params outer given ps os gs forms h both.1)
+    let both = and_parts (source_form_fits ps os gs form) (subscripts_fit ps os gs forms) e in (
+      source_narrow params outer given ps os gs form h both.0,
+      subscripts_narrow params outer given ps os gs forms h both.1,
+    )
 
 value_narrow : (params outer given : List ℤ) (ps os gs : List Range) (e : Expression)
     → AreAll params outer given ps os gs → value_fits ps os gs e ≡ true → ValueFits params outer given e

@@ -48,10 +48,13 @@ made_side : (told : Visit → Act) (Body : ℤ → Outcome → Type 0) (Run : �
     → SideBySide Body x n (Some (map told vs))
 made_side told Body Run first last body zero x low high vs h =
     ap (λ (t : List Visit). Some (map told t)) h
-made_side told Body Run first last body (suc n) x low high vs h =
-    (Some (map told h.0), Some (map told h.1), body x low (omega (arith, ints, high)) h.0 h.2,
-    made_side told Body Run first last body n (x +ℤ pos 1) (omega (arith, ints, low)) (omega (arith, ints, high)) h.1 h.3,
-    (map told vs, shuffle_of_images told vs h.0 h.1 h.4, refl))
+made_side told Body Run first last body (suc n) x low high vs h = (
+  Some (map told h.0),
+  Some (map told h.1),
+  body x low (omega (arith, ints, high)) h.0 h.2,
+  made_side told Body Run first last body n (x +ℤ pos 1) (omega (arith, ints, low)) (omega (arith, ints, high)) h.1 h.3,
+  (map told vs, shuffle_of_images told vs h.0 h.1 h.4, refl),
+)
 
 -- iterations in turn
 made_turn : (told : Visit → Act) (condition : ℤ → Option Bool) (Body : ℤ → Outcome → Type 0)
@@ -73,13 +76,14 @@ made_turn told condition Body Run first last test fits body (suc n) x low count 
   Some (map told h.0),
   body x low up h.0 h.2,
   after_made (kept false (x +ℤ pos 1)) (x +ℤ pos 1) (Some (map told vs))
-  (λ y. (b : Outcome) × InTurn condition Body y n b
-  × After b (Some (map told vs)) (λ ws. Some (map told vs) ≡ Some (map told h.0 ++ ws)))
-  (kept_wide (x +ℤ pos 1) (fits x low up))
-  (Some (map told h.1),
-  made_turn told condition Body Run first last test fits body n (x +ℤ pos 1) (omega (arith, ints, low)) rest h.1 h.3,
-  ap (λ (t : List Visit). Some (map told t)) h.4
-  ∙ ap (λ (ws : List Act). Some ws) (map-append told h.0 h.1)),
+      (λ y. (b : Outcome) × InTurn condition Body y n b
+      × After b (Some (map told vs)) (λ ws. Some (map told vs) ≡ Some (map told h.0 ++ ws)))
+      (kept_wide (x +ℤ pos 1) (fits x low up)) (
+        Some (map told h.1),
+        made_turn told condition Body Run first last test fits body n (x +ℤ pos 1) (omega (arith, ints, low)) rest h.1 h.3,
+        ap (λ (t : List Visit). Some (map told t)) h.4
+            ∙ ap (λ (ws : List Act). Some ws) (map-append told h.0 h.1),
+      ),
 )
   where
     by_test : (t : Bool) → le_z x last ≡ t → le_z x last ≡ true
@@ -87,10 +91,13 @@ made_turn told condition Body Run first last test fits body (suc n) x low count 
     by_test false e =
         let l = false_le x last e in
         let z = no_turns (last -ℤ x) (omega (arith, ints, l)) in absurd (omega (arith, z, count))
+
     goes : le_z x last ≡ true
     goes = by_test (le_z x last) refl
+
     up : x ≤ℤ last
     up = holds_le_z x last goes
+
     rest : most_turns (last -ℤ (x +ℤ pos 1)) ≡ n
     rest =
         let same : last -ℤ (x +ℤ pos 1) ≡ (last -ℤ x) -ℤ pos 1 = omega (arith, ints) in
@@ -147,18 +154,20 @@ mutual
       after_made (worth p (lower_expression n d lo)) first (Some (map told vs))
       (λ x. (m : ℕ) × InTurn (at_most_last p (upper_expression n d up))
       (λ y. MayDoAll (statements_of program (suc d) body) (p ++ y ∷ [])) x m (Some (map told vs)))
-      (ap (λ k. worth p (lower_expression k d lo)) e ∙ lower_worth params outer lo flat.0 formed.0 narrow.0)
-      (most_turns (last -ℤ first), made_turn told (at_most_last p (upper_expression n d up))
-      (λ y. MayDoAll (statements_of program (suc d) body) (p ++ y ∷ []))
-      (λ x xs. (ys : List Visit) × MayRunAll body params (outer ++ x ∷ []) ys × (xs ≡ map (through false x) ys))
-      first last
-      (λ x. ap (λ k. at_most_last p (upper_expression k d up) x) e
-      ∙ condition_worth params outer up x flat.1 formed.1 narrow.1)
-      (λ x low high. (narrow.3 x (low, high)).0)
-      (λ x low high xs k. made_iteration program told false body params outer x xs
-      (made_all program (λ v. told (through false x v)) body params (outer ++ x ∷ []) e flat.2 (formed.2 x)
-      (narrow.3 x (low, high)).1 (tells x)) k)
-      (most_turns (last -ℤ first)) first (omega (arith, ints)) refl vs h)
+      (ap (λ k. worth p (lower_expression k d lo)) e ∙ lower_worth params outer lo flat.0 formed.0 narrow.0) (
+        most_turns (last -ℤ first),
+        made_turn told (at_most_last p (upper_expression n d up))
+            (λ y. MayDoAll (statements_of program (suc d) body) (p ++ y ∷ []))
+            (λ x xs. (ys : List Visit) × MayRunAll body params (outer ++ x ∷ []) ys × (xs ≡ map (through false x) ys))
+            first last
+            (λ x. ap (λ k. at_most_last p (upper_expression k d up) x) e
+            ∙ condition_worth params outer up x flat.1 formed.1 narrow.1)
+            (λ x low high. (narrow.3 x (low, high)).0)
+            (λ x low high xs k. made_iteration program told false body params outer x xs
+            (made_all program (λ v. told (through false x v)) body params (outer ++ x ∷ []) e flat.2 (formed.2 x)
+            (narrow.3 x (low, high)).1 (tells x)) k)
+            (most_turns (last -ℤ first)) first (omega (arith, ints)) refl vs h,
+      )
   made_of program told (loop true lo up body) params outer e flat formed narrow tells vs h =
       let p = params ++ outer in
       let first = lower lo (outer ++ params) in
@@ -192,9 +201,10 @@ mutual
       after_made (all_of p (map (comparison n d) (test ∷ tests))) t o
       (λ (x : Bool). (x ≡ true → MayDoAll (statements_of program d body) p o) × (x ≡ false → o ≡ Some []))
       (ap (λ k. all_of p (map (comparison k d) (test ∷ tests))) e
-      ∙ tests_worth params outer (test ∷ tests) flat.0 formed.0 narrow.0)
-      (λ k. made_all program told body params outer e flat.1 formed.1 (narrow.1 k) tells vs (h.0 k),
-      λ k. ap (λ (ws : List Visit). Some (map told ws)) (h.1 k))
+      ∙ tests_worth params outer (test ∷ tests) flat.0 formed.0 narrow.0) (
+        λ k. made_all program told body params outer e flat.1 formed.1 (narrow.1 k) tells vs (h.0 k),
+        λ k. ap (λ (ws : List Visit). Some (map told ws)) (h.1 k),
+      )
   made_of program told (instance n turns) params outer e flat formed narrow tells vs h =
       let p = params ++ outer in
       let s = formed.0 in
@@ -217,10 +227,12 @@ mutual
   made_all program told (more t ts) params outer e flat formed narrow tells vs h = (
     Some (map told h.0),
     made_of program told t params outer e flat.0 formed.0 narrow.0 tells.0 h.0 h.2,
-    (Some (map told h.1),
-    made_all program told ts params outer e flat.1 formed.1 narrow.1 tells.1 h.1 h.3,
-    ap (λ (ws : List Visit). Some (map told ws)) h.4
-    ∙ ap (λ (ws : List Act). Some ws) (map-append told h.0 h.1)),
+    (
+      Some (map told h.1),
+      made_all program told ts params outer e flat.1 formed.1 narrow.1 tells.1 h.1 h.3,
+      ap (λ (ws : List Visit). Some (map told ws)) h.4
+          ∙ ap (λ (ws : List Act). Some ws) (map-append told h.0 h.1),
+    ),
   )
 
 -- so it is with a whole program
