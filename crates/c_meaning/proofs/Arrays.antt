@@ -1,9 +1,9 @@
 -- The acts of a printed program's run, performed from given arrays, leave what the source's execution leaves.
-use Rattle.scop_syntax.proofs.Common.{◌≡◌, ◌∙◌, ap, sym, subst, refl, ℕ, zero, suc, ◌+◌, ◌^◌, ◌<◌, ℤ, List, [], ◌∷◌}
-use Rattle.scop_syntax.proofs.Common.{◌++◌, length, map, fold, arith, Option, Some, None, inl, inr, slice_get}
-use Rattle.scop_syntax.proofs.Common.{same_Some, In, in_map, place_of, Program, Placed, Scope, loops_in, statements_of}
-use Rattle.scop_syntax.proofs.Common.{IsCell, cell_of, visit_of, heads_in, Instance, instance, walk_of, IsKernel, IsInside, layout}
-use Rattle.scop_syntax.proofs.Common.{performed_all, narrow_arrays, ranks_of, under, round, slice_index_or}
+use Rattle.scop_syntax.proofs.Common.{◌≡◌, ◌∙◌, ap, sym, subst, refl, ℕ, ◌+◌, ℤ, List, [], ◌∷◌, ◌++◌, length, map}
+use Rattle.scop_syntax.proofs.Common.{arith, Option, Some, inl, inr, slice_get, same_Some, In, place_of, Program}
+use Rattle.scop_syntax.proofs.Common.{Placed, loops_in, statements_of, IsCell, cell_of, visit_of, heads_in, Instance}
+use Rattle.scop_syntax.proofs.Common.{instance, walk_of, IsKernel, IsInside, layout, performed_all, narrow_arrays}
+use Rattle.scop_syntax.proofs.Common.{ranks_of}
 use Rattle.scop_syntax.specs.Execution.{performed, performed_by}
 use Rattle.scop_syntax.specs.Walk.{Visit as Walked}
 use Rattle.scop_syntax.specs.Widths.{HoldTypes}
@@ -11,9 +11,8 @@ use Rattle.scop_syntax.proofs.Kernels.{kernel_placed}
 use Rattle.scop_syntax.proofs.Statements.{found_at, placed_number}
 use Rattle.scop_syntax.proofs.Widths.{instance_is}
 use Rattle.std.proofs.lemmas.List.{append_assoc, length-append}
-use Rattle.form_text.specs.Reading.{when}
 use Rattle.loop_tree.specs.Walk.{Visit, given}
-use Rattle.c_meaning.specs.Assignments.{Arrays, Contents, assigned}
+use Rattle.c_meaning.specs.Assignments.{Contents, assigned}
 use Rattle.c_meaning.specs.Runs.{Act}
 use Rattle.c_meaning.specs.Runs as c
 use Rattle.c_meaning.specs.Programs.{arrays_of, assignment_in}

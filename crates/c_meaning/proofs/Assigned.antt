@@ -1,18 +1,18 @@
 -- An assignment of the program does what the source's statement does, and leaves numbers of the cells' types.
-use Rattle.scop_syntax.proofs.Common.{◌≡◌, ◌∙◌, ap, sym, subst, refl, ℕ, zero, suc, ◌+◌, ◌*◌, ◌/◌, ◌%◌, ◌^◌, ◌<◌, ◌≤◌}
-use Rattle.scop_syntax.proofs.Common.{Bool, true, false, ◌&&◌, if◌then◌else◌, ℤ, List, [], ◌∷◌, ◌++◌, length, map, drop}
-use Rattle.scop_syntax.proofs.Common.{arith, Option, Some, None, inl, inr, nat_lt, slice_index_or, get_or, set, In}
-use Rattle.scop_syntax.proofs.Common.{Access, Operator, Expression, Statement, Right, assigned, combined, moved_left}
+use Rattle.scop_syntax.proofs.Common.{◌≡◌, ◌∙◌, ap, sym, subst, refl, ℕ, zero, suc, ◌*◌, ◌/◌, ◌%◌, ◌^◌, ◌<◌, ◌≤◌, Bool}
+use Rattle.scop_syntax.proofs.Common.{true, false, ◌&&◌, if◌then◌else◌, ℤ, List, [], ◌∷◌, length, map, drop, arith}
+use Rattle.scop_syntax.proofs.Common.{Option, Some, None, inl, inr, nat_lt, slice_index_or, get_or, set, Access}
+use Rattle.scop_syntax.proofs.Common.{Operator, Expression, Statement, Right, assigned, combined, moved_left}
 use Rattle.scop_syntax.proofs.Common.{moved_right, combined_narrow, moved_left_narrow, implied, converted, narrowed}
-use Rattle.scop_syntax.proofs.Common.{Cell, cell_of, reads, reads_of, reads_with, accesses, held, offset_of, append-nil}
-use Rattle.scop_syntax.proofs.Common.{IsCell, IsStatement, IsRight, IsExpression, HasWidth, mod_below, div-le_self}
+use Rattle.scop_syntax.proofs.Common.{cell_of, reads_of, reads_with, accesses, held, offset_of, append-nil, IsStatement}
+use Rattle.scop_syntax.proofs.Common.{IsRight, IsExpression, HasWidth, mod_below, div-le_self}
 use Rattle.scop_syntax.specs.Tree.{explicit, Narrowing}
-use Rattle.scop_syntax.specs.Execution.{performed_by, stored, values_read_by, value_stored_by}
+use Rattle.scop_syntax.specs.Execution.{performed_by, stored, value_stored_by}
 use Rattle.scop_syntax.specs.Widths as widths
 use Rattle.form_text.specs.Reading.{when}
 use Rattle.c_printer.specs.Values as printed
 use Rattle.c_printer.proofs.PrintedValues.{typed_stores}
-use Rattle.c_meaning.specs.Assignments.{Arrays, has_narrow, is_narrow, number_of, found, assigned_number}
+use Rattle.c_meaning.specs.Assignments.{has_narrow, is_narrow, number_of, found, assigned_number}
 use Rattle.c_meaning.specs.Assignments as c
 use Rattle.c_meaning.specs.Syntax as syntax
 use Rattle.c_meaning.specs.Programs.{right_in, assignment_in}

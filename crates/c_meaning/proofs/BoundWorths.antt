@@ -2,8 +2,8 @@
 use Rattle.scop_syntax.proofs.Common.{◌≡◌, ◌∙◌, ap, sym, subst, refl, T, not, ℕ, zero, suc, ◌+◌, ◌<◌, ◌≤◌, ◌^◌, Bool}
 use Rattle.scop_syntax.proofs.Common.{true, false, ◌&&◌, if◌then◌else◌, ℤ, pos, negsuc, neg_ℤ, ◌+ℤ◌, ◌-ℤ◌, ◌*ℤ◌, ◌≤ℤ◌}
 use Rattle.scop_syntax.proofs.Common.{◌<ℤ◌, List, [], ◌∷◌, ◌++◌, length, arith, ints, Option, Some, unsigned_abs}
-use Rattle.scop_syntax.proofs.Common.{value_of, floor, ceiling, floor_is, mul_comm_int, le_z, le_z_holds}
-use Rattle.scop_syntax.proofs.Common.{holds_le_z, abs_at_most, abs_high, abs_low, map}
+use Rattle.scop_syntax.proofs.Common.{value_of, floor, ceiling, floor_is, mul_comm_int, le_z, le_z_holds, holds_le_z}
+use Rattle.scop_syntax.proofs.Common.{abs_at_most, abs_high, abs_low, map}
 use Rattle.whole_numbers.proofs.Common.{div-le_self}
 use Rattle.std.specs.Int.Signed.{lt_z, quot_z, lt_z_yes, lt_z_no}
 use Rattle.form_text.specs.Reading.{when}

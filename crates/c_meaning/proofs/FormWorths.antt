@@ -1,17 +1,17 @@
 -- Expressions of forms are worth what the forms are, where each number on the way fits.
-use Rattle.scop_syntax.proofs.Common.{◌≡◌, ◌∙◌, ap, sym, subst, refl, ℕ, zero, suc, ◌+◌, ◌^◌, Bool, true, false}
-use Rattle.scop_syntax.proofs.Common.{◌&&◌, if◌then◌else◌, ℤ, pos, negsuc, neg_ℤ, ◌+ℤ◌, ◌-ℤ◌, ◌*ℤ◌, List, [], ◌∷◌, ◌++◌}
+use Rattle.scop_syntax.proofs.Common.{◌≡◌, ◌∙◌, ap, sym, subst, refl, ℕ, zero, suc, ◌+◌, ◌^◌, Bool, true, false, ◌&&◌}
+use Rattle.scop_syntax.proofs.Common.{if◌then◌else◌, ℤ, pos, negsuc, neg_ℤ, ◌+ℤ◌, ◌-ℤ◌, ◌*ℤ◌, List, [], ◌∷◌, ◌++◌}
 use Rattle.scop_syntax.proofs.Common.{length, take, drop, arith, ints, Option, Some, None, slice_get, ◌≤◌, zeros}
-use Rattle.scop_syntax.proofs.Common.{length-zeros, dot-zeros}
-use Rattle.scop_syntax.proofs.Common.{ltb-true, length-drop, length-take-le, take-append-drop, dot}
-use Rattle.scop_syntax.proofs.Common.{dot-append, Affine, value_of, mul_neg_left}
+use Rattle.scop_syntax.proofs.Common.{length-zeros, dot-zeros, ltb-true, length-drop, length-take-le, take-append-drop}
+use Rattle.scop_syntax.proofs.Common.{dot, dot-append, Affine, value_of, mul_neg_left}
 use Rattle.std.proofs.lemmas.Bool.{lt-ltb}
 use Rattle.std.proofs.lemmas.List.{length-append}
 use Rattle.form_text.specs.Reading.{when}
 use Rattle.c_printer.specs.Forms.{turned, spread}
 use Rattle.c_meaning.specs.Syntax.{Expression, number, opposite}
 use Rattle.c_meaning.specs.Expressions.{kept, is_int, worth}
-use Rattle.c_meaning.specs.Programs.{integer, factor, opposed, with_term, with_constant, behind, from, tree_expression, source_expression}
+use Rattle.c_meaning.specs.Programs.{integer, factor, opposed, with_term, with_constant, behind, from, tree_expression}
+use Rattle.c_meaning.specs.Programs.{source_expression}
 use Rattle.c_meaning.specs.Narrow.{SourceFormFits, Fits, SumsFit, TreeFormFits}
 
 pub kept_wide : (z : ℤ) → Fits z → kept false z ≡ Some z

@@ -1,7 +1,7 @@
 -- Trees that a text can have are formed: divisors are at least 1, forms have an entry for each name, and instances are of
 -- statements.
-use Rattle.scop_syntax.proofs.Common.{◌≡◌, ap, sym, subst, ◌+◌, ◌∙◌, ℕ, suc, ℤ, pos, negsuc, ◌<ℤ◌, List, [], ◌∷◌, ◌++◌}
-use Rattle.scop_syntax.proofs.Common.{length, arith, ints, Affine, Program}
+use Rattle.scop_syntax.proofs.Common.{◌≡◌, ◌+◌, ℕ, suc, ℤ, pos, negsuc, ◌<ℤ◌, List, [], ◌∷◌, ◌++◌, length, arith, ints}
+use Rattle.scop_syntax.proofs.Common.{Affine, Program}
 use Rattle.std.proofs.lemmas.List.{length-append}
 use Rattle.loop_tree.specs.Fits.{form_in}
 use Rattle.loop_tree.specs.Marks.{AreBounds, IsTest, AreTests, Flat, FlatAll}

@@ -1,7 +1,7 @@
 -- Names that are declared later change no value; a loop's condition; the constants of an instance.
-use Rattle.scop_syntax.proofs.Common.{◌≡◌, ◌∙◌, ap, refl, ℕ, zero, suc, Bool, true, false, ◌&&◌}
-use Rattle.scop_syntax.proofs.Common.{if◌then◌else◌, ℤ, neg_ℤ, ◌+ℤ◌, ◌-ℤ◌, ◌*ℤ◌, List, [], ◌∷◌, ◌++◌, length, arith}
-use Rattle.scop_syntax.proofs.Common.{Option, Some, None, slice_get, Affine, le_z, Head, none-some}
+use Rattle.scop_syntax.proofs.Common.{◌≡◌, ◌∙◌, ap, refl, ℕ, zero, suc, Bool, true, false, ◌&&◌, if◌then◌else◌, ℤ}
+use Rattle.scop_syntax.proofs.Common.{neg_ℤ, ◌+ℤ◌, ◌-ℤ◌, ◌*ℤ◌, List, [], ◌∷◌, ◌++◌, length, arith, Option, Some, None}
+use Rattle.scop_syntax.proofs.Common.{slice_get, Affine, le_z, Head, none-some}
 use Rattle.std.proofs.lemmas.List.{append_assoc, length-append}
 use Rattle.form_text.specs.Reading.{when}
 use Rattle.loop_tree.specs.Tree.{Bounds}

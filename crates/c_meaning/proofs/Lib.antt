@@ -8,5 +8,6 @@ pub mod ValueWorths
 pub mod Assigned
 pub mod Reached
 pub mod Arrays
+pub mod Races
 pub mod Wholes
 pub mod RangesHold

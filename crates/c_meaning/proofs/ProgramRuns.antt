@@ -1,9 +1,8 @@
 -- Runs of a printed program are those of its loop tree.
-use Rattle.scop_syntax.proofs.Common.{◌≡◌, ◌∙◌, ap, ap₂, sym, subst, refl, ℕ, zero, suc, ◌+◌, Bool, true, false}
-use Rattle.scop_syntax.proofs.Common.{inl, inr, ℤ, pos, negsuc, ◌+ℤ◌, ◌-ℤ◌, ◌≤ℤ◌, ◌<ℤ◌, List, [], ◌∷◌, ◌++◌, length}
-use Rattle.scop_syntax.proofs.Common.{arith, ints, Option, Some, None, slice_get, le_z, le_z_holds, holds_le_z, map}
-use Rattle.scop_syntax.proofs.Common.{same_Some, Program, Affine, values_of, Standing, standings_of, append-nil}
-use Rattle.scop_syntax.proofs.Common.{T, not}
+use Rattle.scop_syntax.proofs.Common.{◌≡◌, ◌∙◌, ap, ap₂, sym, subst, refl, ℕ, zero, suc, ◌+◌, Bool, true, false, inl}
+use Rattle.scop_syntax.proofs.Common.{inr, ℤ, pos, negsuc, ◌+ℤ◌, ◌-ℤ◌, ◌≤ℤ◌, ◌<ℤ◌, List, [], ◌∷◌, ◌++◌, length, arith}
+use Rattle.scop_syntax.proofs.Common.{ints, Option, Some, le_z, le_z_holds, holds_le_z, map, same_Some, Program, Affine}
+use Rattle.scop_syntax.proofs.Common.{values_of, Standing, append-nil, T, not, In, in_append, in_map_from}
 use Rattle.std.specs.Int.Signed.{lt_z, lt_z_yes, lt_z_no}
 use Rattle.whole_numbers.proofs.Common.{map-append}
 use Rattle.std.proofs.lemmas.List.{append_assoc, length-append}
@@ -16,15 +15,17 @@ use Rattle.form_text.specs.Reading.{when}
 use Rattle.c_meaning.proofs.FormWorths.{kept_wide}
 use Rattle.c_meaning.proofs.BoundWorths.{lower_worth, upper_worth, tests_worth}
 use Rattle.c_meaning.proofs.LaterNames.{condition_worth, constants_worth}
+use Rattle.c_meaning.specs.Visits.{IsRaceless, AreRaceless}
 use Rattle.c_meaning.specs.Expressions.{kept, worth, constants, all_of}
 use Rattle.c_meaning.specs.Runs.{Act, Outcome, After, Stops, InTurn, SideBySide, MayDo, MayDoAll, at_most_last, counted}
-use Rattle.c_meaning.specs.Runs.{Together}
+use Rattle.c_meaning.specs.Runs.{Together, Clash, Race}
+use Rattle.loop_tree.proofs.Shuffles.{joins_members}
+use Rattle.planned_trees.proofs.TreeRuns.{members_all}
 use Rattle.c_meaning.specs.Programs.{lower_expression, upper_expression, statement_of, statements_of, comparison, c_of}
-use Rattle.c_meaning.specs.Programs.{standing_at, instance_at, given_expressions}
+use Rattle.c_meaning.specs.Programs.{instance_at, given_expressions, assignment_in}
 use Rattle.c_printer.specs.Iterators.{given_values}
-use Rattle.c_meaning.specs.Programs.{assignment_in}
-use Rattle.c_meaning.specs.Narrow.{GivensFit, Fits, IsNarrow, AreNarrow, InstanceFits, CountFits, StatementFits}
-use Rattle.c_meaning.specs.steps.Law.{IsFormed, AreFormed, Tells, TellAll, ComesTo, act_at}
+use Rattle.c_meaning.specs.Narrow.{GivensFit, Fits, IsNarrow, AreNarrow, InstanceFits, CountFits}
+use Rattle.c_meaning.specs.steps.Law.{IsFormed, AreFormed, Tells, TellAll, ComesTo}
 
 pub no_turns : (z : ℤ) → z <ℤ pos 0 → most_turns z ≡ 0
 no_turns (pos n) h = absurd (omega (arith, ints, h))
@@ -123,22 +124,61 @@ shuffled f (u ∷ us) xs ys (inr h) =
     let r = shuffled f us xs i.1 (subst (λ (t : List Act). IsShuffle (map f xs) t us) (sym i.4) h.2) in
     (i.0 ∷ r.0, inr (i.1, i.2, r.1), ap₂ (λ (v : Act) (vs : List Act). v ∷ vs) i.3 r.2)
 
+-- a visit of some run of an iteration
+record Reaches (Run : ℤ → List Visit → Type 0) (x : ℤ) (v : Visit) : Type 0 where
+  visits : List Visit
+  run : Run x visits
+  among : In v visits
+
+-- what later iterations make together stands in one of them
+along_reached : (Run : ℤ → List Visit → Type 0) (n : ℕ) (x : ℤ) (zs : List Visit) → RunsAlong true Run x n zs
+    → (v : Visit) → In v zs → (y : ℤ) × (x ≤ℤ y) × (y <ℤ (x +ℤ pos n)) × Reaches Run y v
+along_reached Run zero x zs h v i = absurd (subst (λ (ws : List Visit). In v ws) h i)
+along_reached Run (suc n) x zs h v i =
+    elim (in_append v h.0 h.1 ((joins_members true h.0 h.1 zs h.4 v).0 i)) [
+      | inl j ↦ (x, omega (arith, ints), omega (arith, ints), record { visits = h.0; run = h.2; among = j })
+      | inr j ↦ let r = along_reached Run n (x +ℤ pos 1) h.1 h.3 v j in
+          let a = r.1 in
+          let b = r.2 in (r.0, omega (arith, ints, a), omega (arith, ints, b), r.3)
+    ]
+
+-- acts of two iterations do not conflict
+abbrev AreApart : (Visit → Act) → (ℤ → List Visit → Type 0) → ℤ → ℤ → Type 0
+AreApart told Run first last =
+    (x y : ℤ) → first ≤ℤ x → x <ℤ y → y ≤ℤ last → (v w : Visit) → Reaches Run x v → Reaches Run y w
+    → Clash (told v) (told w) → ⊥
+
+no_race : (told : Visit → Act) (Run : ℤ → List Visit → Type 0) (first last : ℤ) → AreApart told Run first last
+    → (n : ℕ) (x : ℤ) (vs ws : List Visit) → first ≤ℤ x → (x +ℤ pos (suc n)) ≤ℤ (last +ℤ pos 1) → Run x vs
+    → RunsAlong true Run (x +ℤ pos 1) n ws → Race (map told vs) (map told ws) → ⊥
+no_race told Run first last apart n x vs ws low high run later race =
+    let v = in_map_from told race.left vs race.is_left in
+    let w = in_map_from told race.right ws race.is_right in
+    let r = along_reached Run n (x +ℤ pos 1) ws later w.0 w.1 in
+    let a = r.1 in
+    let b = r.2 in
+    apart x r.0 low (omega (arith, ints, a)) (omega (arith, ints, b, high)) v.0 w.0
+    (record { visits = vs; run = run; among = v.1 }) r.3
+    (subst (λ (t : Act). Clash (told v.0) t) w.2 (subst (λ (t : Act). Clash t race.right) v.2 race.clash))
+
 -- a loop that runs its iterations side by side
 side_by_side : (told : Visit → Act) (Body : ℤ → Outcome → Type 0) (Run : ℤ → List Visit → Type 0) (first last : ℤ)
     → ((x : ℤ) → first ≤ℤ x → x ≤ℤ last → (a : Outcome) → Body x a → ComesTo told (Run x) a)
+    → AreApart told Run first last
     → (n : ℕ) (x : ℤ) → first ≤ℤ x → (x +ℤ pos n) ≤ℤ (last +ℤ pos 1) → (o : Outcome) → SideBySide Body x n o
     → ComesTo told (RunsAlong true Run x n) o
-side_by_side told Body Run first last body zero x low high o h = ([], refl, h)
-side_by_side told Body Run first last body (suc n) x low high o h =
+side_by_side told Body Run first last body apart zero x low high o h = ([], refl, h)
+side_by_side told Body Run first last body apart (suc n) x low high o h =
     let done = body x low (omega (arith, ints, high)) h.0 h.2 in
-    let more = side_by_side told Body Run first last body n (x +ℤ pos 1) (omega (arith, ints, low))
+    let more = side_by_side told Body Run first last body apart n (x +ℤ pos 1) (omega (arith, ints, low))
     (omega (arith, ints, high)) h.1 h.3 in
-    let on = after_is h.0 (map told done.0) o
-    (λ vs. After h.1 o (λ ws. (zs : List Act) × IsShuffle vs ws zs × (o ≡ Some zs))) done.2 h.4 in
-    let ends = after_is h.1 (map told more.0) o
-    (λ ws. (zs : List Act) × IsShuffle (map told done.0) ws zs × (o ≡ Some zs)) more.2 on in
-    let r = shuffled told ends.0 done.0 more.0 ends.1 in
-    (r.0, (done.0, more.0, done.1, more.1, r.1), ends.2 ∙ ap (λ (vs : List Act). Some vs) r.2)
+    let on = after_is h.0 (map told done.0) o (λ vs. After h.1 o (λ ws. Together vs ws o)) done.2 h.4 in
+    let ends = after_is h.1 (map told more.0) o (λ ws. Together (map told done.0) ws o) more.2 on in
+    elim ends [
+      | inl race ↦ absurd (no_race told Run first last apart n x done.0 more.0 low high done.1 more.1 race.0)
+      | inr made ↦ let r = shuffled told made.0 done.0 more.0 made.1 in
+          (r.0, (done.0, more.0, done.1, more.1, r.1), made.2 ∙ ap (λ (vs : List Act). Some vs) r.2)
+    ]
 
 pub map_twice : (f : Visit → Act) (g : Visit → Visit) (vs : List Visit) → map (λ v. f (g v)) vs ≡ map f (map g vs)
 map_twice f g [] = refl
@@ -174,9 +214,10 @@ counted_is x y f =
 parallel : (told : Visit → Act) (Body : ℤ → Outcome → Type 0) (Run : ℤ → List Visit → Type 0) (first last : ℤ)
     (o : Outcome) → CountFits first last
     → ((x : ℤ) → first ≤ℤ x → x ≤ℤ last → (a : Outcome) → Body x a → ComesTo told (Run x) a)
+    → AreApart told Run first last
     → After (counted first last) o (λ z. SideBySide Body first (most_turns (last -ℤ first)) o)
     → ComesTo told (RunsAlong true Run first (most_turns (last -ℤ first))) o
-parallel told Body Run first last o fits body h =
+parallel told Body Run first last o fits body apart h =
     by_test (le_z first last) refl
     (after_is (counted first last) ((last -ℤ first) +ℤ pos 1) o
     (λ z. SideBySide Body first (most_turns (last -ℤ first)) o) (counted_is first last fits) h)
@@ -186,7 +227,7 @@ parallel told Body Run first last o fits body h =
     by_test true e k =
         let l = holds_le_z first last e in
         let n = turns_are (last -ℤ first) (omega (arith, ints, l)) in
-        side_by_side told Body Run first last body (most_turns (last -ℤ first)) first (omega (arith, ints))
+        side_by_side told Body Run first last body apart (most_turns (last -ℤ first)) first (omega (arith, ints))
         (omega (arith, ints, n)) o k
     by_test false e k =
         let l = false_le first last e in
@@ -230,9 +271,9 @@ reached program params outer s vs =
 mutual
   pub runs_of : (program : Program) (told : Visit → Act) (t : Tree) (params outer : List ℤ)
       → length program.parameters ≡ length params → Flat t → IsFormed program t params outer → IsNarrow program t params outer
-      → Tells program told t params outer → (o : Outcome)
+      → Tells program told t params outer → IsRaceless told t params outer → (o : Outcome)
       → MayDo (statement_of program (length outer) t) (params ++ outer) o → ComesTo told (MayRun t params outer) o
-  runs_of program told (loop false lo up body) params outer e flat formed narrow tells o h =
+  runs_of program told (loop false lo up body) params outer e flat formed narrow tells free o h =
       let p = params ++ outer in
       let first = lower lo (outer ++ params) in
       let last = upper up (outer ++ params) in
@@ -251,9 +292,9 @@ mutual
       (λ x low high. (narrow.3 x (low, high)).0)
       (λ x low high a k. iteration program told false body params outer x a
       (runs_all program (λ v. told (through false x v)) body params (outer ++ x ∷ []) e flat.2 (formed.2 x)
-      (narrow.3 x (low, high)).1 (tells x)) k)
+      (narrow.3 x (low, high)).1 (tells x) (free.1 x (low, high))) k)
       g.0 first (omega (arith, ints)) o g.1
-  runs_of program told (loop true lo up body) params outer e flat formed narrow tells o h =
+  runs_of program told (loop true lo up body) params outer e flat formed narrow tells free o h =
       let p = params ++ outer in
       let first = lower lo (outer ++ params) in
       let last = upper up (outer ++ params) in
@@ -272,9 +313,17 @@ mutual
       first last o (narrow.2 refl)
       (λ x low high a k. iteration program told true body params outer x a
       (runs_all program (λ v. told (through true x v)) body params (outer ++ x ∷ []) e flat.2 (formed.2 x)
-      (narrow.3 x (low, high)).1 (tells x)) k) f
-  runs_of program told (guard [] body) params outer e flat formed narrow tells o h = absurd flat
-  runs_of program told (guard (test ∷ tests) body) params outer e flat formed narrow tells o h =
+      (narrow.3 x (low, high)).1 (tells x) (free.1 x (low, high))) k)
+      (λ x y low less high v w a b.
+      let i = in_map_from (through true x) v a.run.0 (subst (In v) a.run.2 a.among) in
+      let j = in_map_from (through true y) w b.run.0 (subst (In w) b.run.2 b.among) in
+      λ clash. free.0 refl x y (low, omega (arith, ints, less, high)) (omega (arith, ints, low, less), high) less i.0 j.0
+      ((members_all body params (outer ++ x ∷ []) a.run.0 a.run.1 i.0).0 i.1)
+      ((members_all body params (outer ++ y ∷ []) b.run.0 b.run.1 j.0).0 j.1)
+      (subst (λ (t : Visit). Clash (told (through true x i.0)) (told t)) j.2
+      (subst (λ (t : Visit). Clash (told t) (told w)) i.2 clash))) f
+  runs_of program told (guard [] body) params outer e flat formed narrow tells free o h = absurd flat
+  runs_of program told (guard (test ∷ tests) body) params outer e flat formed narrow tells free o h =
       let p = params ++ outer in
       let n = length program.parameters in
       let d = length outer in
@@ -285,8 +334,8 @@ mutual
       (ap (λ k. all_of p (map (comparison k d) (test ∷ tests))) e
       ∙ tests_worth params outer (test ∷ tests) flat.0 formed.0 narrow.0) h in
       guarded_runs told (MayRunAll body params outer) t o Do
-      (λ k does. runs_all program told body params outer e flat.1 formed.1 (narrow.1 k) tells o does) g
-  runs_of program told (instance n turns) params outer e flat formed narrow tells o h =
+      (λ k does. runs_all program told body params outer e flat.1 formed.1 (narrow.1 k) tells (free k) o does) g
+  runs_of program told (instance n turns) params outer e flat formed narrow tells free o h =
       let p = params ++ outer in
       let s = formed.0 in
       let fits = subst (λ (q : Option Standing). InstanceFits params outer q turns) formed.1 narrow in
@@ -303,17 +352,18 @@ mutual
 
   pub runs_all : (program : Program) (told : Visit → Act) (ts : Trees) (params outer : List ℤ)
       → length program.parameters ≡ length params → FlatAll ts → AreFormed program ts params outer
-      → AreNarrow program ts params outer → TellAll program told ts params outer → (o : Outcome)
+      → AreNarrow program ts params outer → TellAll program told ts params outer → AreRaceless told ts params outer
+      → (o : Outcome)
       → MayDoAll (statements_of program (length outer) ts) (params ++ outer) o
       → ComesTo told (MayRunAll ts params outer) o
-  runs_all program told none params outer e flat formed narrow tells o h = ([], refl, h)
-  runs_all program told (more t ts) params outer e flat formed narrow tells o h =
+  runs_all program told none params outer e flat formed narrow tells free o h = ([], refl, h)
+  runs_all program told (more t ts) params outer e flat formed narrow tells free o h =
       let p = params ++ outer in
       let ss = statements_of program (length outer) ts in
-      let r = runs_of program told t params outer e flat.0 formed.0 narrow.0 tells.0 h.0 h.1 in
+      let r = runs_of program told t params outer e flat.0 formed.0 narrow.0 tells.0 free.0 h.0 h.1 in
       let on = after_is h.0 (map told r.0) o
       (λ vs. (b : Outcome) × MayDoAll ss p b × After b o (λ ws. o ≡ Some (vs ++ ws))) r.2 h.2 in
-      let q = runs_all program told ts params outer e flat.1 formed.1 narrow.1 tells.1 on.0 on.1 in
+      let q = runs_all program told ts params outer e flat.1 formed.1 narrow.1 tells.1 free.1 on.0 on.1 in
       let ends = after_is on.0 (map told q.0) o (λ ws. o ≡ Some (map told r.0 ++ ws)) q.2 on.2 in (
         r.0 ++ q.0,
         (r.0, q.0, r.1, q.1, refl),
@@ -323,8 +373,8 @@ mutual
 -- so it is with a whole program
 pub runs_of_program : (program : Program) (told : Visit → Act) (ts : Trees) (params : List ℤ)
     → length program.parameters ≡ length params → FlatAll ts → AreFormed program ts params [] → AreNarrow program ts params []
-    → TellAll program told ts params [] → (o : Outcome) → MayDoAll (c_of program ts) params o
-    → ComesTo told (MayRunAll ts params []) o
-runs_of_program program told ts params e flat formed narrow tells o h =
-    runs_all program told ts params [] e flat formed narrow tells o
+    → TellAll program told ts params [] → AreRaceless told ts params [] → (o : Outcome)
+    → MayDoAll (c_of program ts) params o → ComesTo told (MayRunAll ts params []) o
+runs_of_program program told ts params e flat formed narrow tells free o h =
+    runs_all program told ts params [] e flat formed narrow tells free o
     (subst (λ (q : List ℤ). MayDoAll (c_of program ts) q o) (sym (append-nil params)) h)

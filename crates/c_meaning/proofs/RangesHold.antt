@@ -1,24 +1,22 @@
 -- What ranges say of the numbers in them, and that trees that fit by their ranges are narrow.
-use Rattle.scop_syntax.proofs.Common.{◌≡◌, ◌∙◌, ap, ap₂, sym, subst, refl, ℕ, zero, suc, ◌+◌, ◌-◌, ◌^◌, ◌<◌, Bool, true}
-use Rattle.scop_syntax.proofs.Common.{false, ◌&&◌, if◌then◌else◌, ℤ, pos, negsuc, neg_ℤ, ◌+ℤ◌, ◌-ℤ◌, ◌*ℤ◌, ◌≤ℤ◌, ◌<ℤ◌}
-use Rattle.scop_syntax.proofs.Common.{List, [], ◌∷◌, ◌++◌, length, map, arith, ints, Option, Some, None, slice_get, ⊤, All}
-use Rattle.scop_syntax.proofs.Common.{All-head, All-tail, unsigned_abs, and_parts, le_z, holds_le_z, le_z_holds, dot}
-use Rattle.scop_syntax.proofs.Common.{Affine, value_of, floor, ceiling, floor_is, ceiling_is, floor_at_least}
-use Rattle.scop_syntax.proofs.Common.{ceiling_at_most, mul_le_left, mul_le_turned, mul_comm_int, abs_low, abs_high}
-use Rattle.scop_syntax.proofs.Common.{Head, Expression, Right, Statement, Standing, standings_of, Program, IsInRange}
-use Rattle.scop_syntax.proofs.Common.{AreInRange, HasParameters, most_parameter}
+use Rattle.scop_syntax.proofs.Common.{◌≡◌, ap, sym, subst, refl, ℕ, suc, ◌+◌, ◌-◌, ◌^◌, ◌<◌, Bool, true, false, ◌&&◌}
+use Rattle.scop_syntax.proofs.Common.{if◌then◌else◌, ℤ, pos, negsuc, ◌+ℤ◌, ◌-ℤ◌, ◌*ℤ◌, ◌≤ℤ◌, ◌<ℤ◌, List, [], ◌∷◌, ◌++◌}
+use Rattle.scop_syntax.proofs.Common.{length, map, arith, ints, Option, Some, None, slice_get, ⊤, All-head, All-tail}
+use Rattle.scop_syntax.proofs.Common.{unsigned_abs, and_parts, le_z, holds_le_z, dot, Affine, value_of, floor, ceiling}
+use Rattle.scop_syntax.proofs.Common.{floor_is, ceiling_is, floor_at_least, ceiling_at_most, mul_le_left, mul_le_turned}
+use Rattle.scop_syntax.proofs.Common.{abs_low, abs_high, Head, Expression, Right, Standing, standings_of, Program}
+use Rattle.scop_syntax.proofs.Common.{IsInRange, AreInRange, HasParameters, most_parameter}
 use Rattle.scop_syntax.specs.Tree as scop
 use Rattle.std.specs.Int.Signed.{lt_z}
 use Rattle.whole_numbers.specs.Affine.{form_of}
 use Rattle.loop_tree.specs.Tree.{Bound, Bounds, only, besides, Test, at_least, equal, multiple, Tree, loop, guard}
 use Rattle.loop_tree.specs.Tree.{instance, Trees, none, more}
-use Rattle.loop_tree.specs.Walk.{lower, upper, max_z, min_z, all_hold}
-use Rattle.loop_tree.specs.Scans.{Within}
+use Rattle.loop_tree.specs.Walk.{lower, upper, max_z, min_z}
 use Rattle.c_printer.specs.Forms.{turned, spread, iterator_form}
 use Rattle.c_printer.specs.Iterators.{given_value, given_values}
 use Rattle.c_meaning.specs.Narrow.{Fits, SumsFit, FormFits, TreeFormFits, QuotientFits, BoundFits, BoundsFit, TestFits}
 use Rattle.c_meaning.specs.Narrow.{TestsFit, GivensFit, SourceFormFits, SubscriptsFit, ValueFits, RightFits}
-use Rattle.c_meaning.specs.Narrow.{StatementFits, InstanceFits, CountFits, IsNarrow, AreNarrow}
+use Rattle.c_meaning.specs.Narrow.{InstanceFits, CountFits, IsNarrow, AreNarrow}
 use Rattle.c_meaning.specs.Ranges.{Range, range, single, summed, scaled, fits_range, sum_range, form_range, sums_fit}
 use Rattle.c_meaning.specs.Ranges.{form_fits, tree_form_fits, quotient_fits, bound_fits, bounds_fit, ceiling_range}
 use Rattle.c_meaning.specs.Ranges.{floor_range, lower_range, upper_range, loop_range, distances, count_fits, test_fits}

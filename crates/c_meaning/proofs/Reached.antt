@@ -1,11 +1,10 @@
 -- What visits of a tree reach: each is an instance of a statement whose numbers fit, and the program's act there is told
 -- by the visit.
-use Rattle.scop_syntax.proofs.Common.{◌≡◌, ◌∙◌, ap, ap₂, sym, subst, refl, ℕ, zero, suc, ◌+◌, Bool, true, false, ℤ}
-use Rattle.scop_syntax.proofs.Common.{List, [], ◌∷◌, ◌++◌, length, map, drop, arith, Option, Some, None, inl, inr}
-use Rattle.scop_syntax.proofs.Common.{slice_get, option_map, slice_get-map, append-nil, In, in_append, in_map_from}
-use Rattle.scop_syntax.proofs.Common.{in_if_from, none-some, same_Some, Affine, values_of, Head, Program, Placed}
-use Rattle.scop_syntax.proofs.Common.{statements_of, visit_of, Standing, standing, heads_in, standings_of}
-use Rattle.std.proofs.lemmas.List.{append_assoc, length-append}
+use Rattle.scop_syntax.proofs.Common.{◌≡◌, ◌∙◌, ap, sym, subst, refl, ℕ, zero, suc, ◌+◌, ℤ, List, [], ◌∷◌, ◌++◌, length}
+use Rattle.scop_syntax.proofs.Common.{map, drop, Option, Some, inl, inr, slice_get, append-nil, In, in_append}
+use Rattle.scop_syntax.proofs.Common.{in_map_from, in_if_from, none-some, same_Some, Affine, values_of, Head, Program}
+use Rattle.scop_syntax.proofs.Common.{Placed, statements_of, visit_of, Standing, standing, heads_in, standings_of}
+use Rattle.std.proofs.lemmas.List.{append_assoc}
 use Rattle.loop_tree.specs.Tree.{Tree, loop, guard, instance, Trees, none, more}
 use Rattle.loop_tree.specs.Walk.{Visit, lower, upper, all_hold, through, walk, walk_all}
 use Rattle.loop_tree.proofs.Lists.{in_between_from}

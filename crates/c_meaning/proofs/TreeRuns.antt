@@ -1,34 +1,26 @@
 -- Each run of a loop tree is one of its printed program.
-use Rattle.scop_syntax.proofs.Common.{◌≡◌, ◌∙◌, ap, sym, subst, refl, ℕ, zero, suc, Bool, true, false}
-use Rattle.scop_syntax.proofs.Common.{ℤ, pos, ◌+ℤ◌, ◌-ℤ◌, ◌≤ℤ◌, List, [], ◌∷◌, ◌++◌, Option, Some, map}
-use Rattle.scop_syntax.proofs.Common.{arith, ints, inl, inr, le_z, holds_le_z, ◌+◌}
-use Rattle.loop_tree.specs.Walk.{Visit}
-use Rattle.scop_syntax.proofs.Common.{length, slice_get, Program, standings_of}
+use Rattle.scop_syntax.proofs.Common.{◌≡◌, ◌∙◌, ap, sym, subst, refl, ℕ, zero, suc, Bool, true, false, ℤ, pos, ◌+ℤ◌}
+use Rattle.scop_syntax.proofs.Common.{◌-ℤ◌, ◌≤ℤ◌, List, [], ◌∷◌, ◌++◌, Option, Some, map, arith, ints, inl, inr, le_z}
+use Rattle.scop_syntax.proofs.Common.{holds_le_z, ◌+◌, length, Program, append-nil}
+use Rattle.loop_tree.specs.Walk.{Visit, lower, upper, all_hold, through}
 use Rattle.std.proofs.lemmas.List.{append_assoc, length-append}
 use Rattle.loop_tree.specs.Tree.{Tree, loop, guard, instance, Trees, none, more}
-use Rattle.loop_tree.specs.Walk.{lower, upper, all_hold, through}
-use Rattle.loop_tree.specs.Runs.{MayRun, MayRunAll}
+use Rattle.loop_tree.specs.Runs.{MayRun, MayRunAll, IsShuffle, RunsAlong}
 use Rattle.loop_tree.specs.Marks.{Flat, FlatAll}
-use Rattle.scop_syntax.proofs.Common.{append-nil}
 use Rattle.c_meaning.proofs.BoundWorths.{lower_worth, upper_worth, tests_worth}
 use Rattle.c_meaning.proofs.LaterNames.{condition_worth}
-use Rattle.c_meaning.proofs.ProgramRuns.{turns_are, map_twice, held, counted_is}
-use Rattle.loop_tree.specs.Runs.{IsShuffle, RunsAlong}
+use Rattle.c_meaning.proofs.ProgramRuns.{turns_are, map_twice, held, counted_is, one_turn, no_turns, false_le, reached}
 use Rattle.whole_numbers.proofs.Common.{map-append}
 use Rattle.scop_syntax.specs.Walk.{most_turns}
 use Rattle.c_meaning.proofs.FormWorths.{kept_wide}
-use Rattle.c_meaning.proofs.ProgramRuns.{one_turn, no_turns, false_le}
 use Rattle.c_meaning.specs.Expressions.{worth, constants, all_of, kept}
 use Rattle.c_meaning.specs.Runs.{Act, MayDo, MayDoAll, at_most_last, counted, Outcome, After, SideBySide, InTurn, Stops}
-use Rattle.c_meaning.specs.Runs.{Together}
 use Rattle.c_meaning.specs.Programs.{lower_expression, upper_expression, statement_of, statements_of, comparison, c_of}
-use Rattle.c_meaning.specs.Programs.{standing_at, instance_at, given_expressions}
+use Rattle.c_meaning.specs.Programs.{instance_at, given_expressions}
 use Rattle.c_printer.specs.Iterators.{given_values}
-use Rattle.whole_numbers.specs.Affine.{Affine}
 use Rattle.scop_syntax.specs.Standings.{Standing}
-use Rattle.c_meaning.proofs.ProgramRuns.{reached}
-use Rattle.c_meaning.specs.Narrow.{InstanceFits, IsNarrow, AreNarrow, Fits, StatementFits}
-use Rattle.c_meaning.specs.steps.Law.{IsFormed, AreFormed, Tells, TellAll, act_at}
+use Rattle.c_meaning.specs.Narrow.{InstanceFits, IsNarrow, AreNarrow, Fits}
+use Rattle.c_meaning.specs.steps.Law.{IsFormed, AreFormed, Tells, TellAll}
 
 after_made : {A : Type 0} → (q : Option A) (a : A) (o : Outcome) (f : A → Type 0) → q ≡ Some a → f a → After q o f
 after_made q a o f e h = subst (λ r. After r o f) (sym e) h
@@ -53,7 +45,7 @@ made_side told Body Run first last body (suc n) x low high vs h = (
   Some (map told h.1),
   body x low (omega (arith, ints, high)) h.0 h.2,
   made_side told Body Run first last body n (x +ℤ pos 1) (omega (arith, ints, low)) (omega (arith, ints, high)) h.1 h.3,
-  (map told vs, shuffle_of_images told vs h.0 h.1 h.4, refl),
+  inr (map told vs, shuffle_of_images told vs h.0 h.1 h.4, refl),
 )
 
 -- iterations in turn

@@ -1,24 +1,24 @@
 -- Values and places of a statement are worth in the program what they are at the source's point, where numbers fit and
 -- subscripts lie inside.
-use Rattle.scop_syntax.proofs.Common.{◌≡◌, ◌∙◌, ap, ap₂, sym, subst, refl, ℕ, zero, suc, ◌+◌, ◌-◌, ◌*◌, ◌/◌, ◌%◌, ◌^◌}
-use Rattle.scop_syntax.proofs.Common.{nat_lt, ◌<ℤ◌, ◌<◌, ◌≤◌, Bool, true, false, ◌&&◌, if◌then◌else◌, ℤ, pos, List, [], ◌∷◌, ◌++◌}
-use Rattle.scop_syntax.proofs.Common.{length, map, drop, arith, ints, Option, Some, None, inl, inr, All, All-head}
+use Rattle.scop_syntax.proofs.Common.{◌≡◌, ◌∙◌, ap, ap₂, sym, subst, refl, ℕ, ◌+◌, ◌-◌, ◌*◌, ◌/◌, ◌%◌, ◌^◌, nat_lt}
+use Rattle.scop_syntax.proofs.Common.{◌<ℤ◌, ◌<◌, ◌≤◌, Bool, true, false, ◌&&◌, if◌then◌else◌, ℤ, pos, List, [], ◌∷◌}
+use Rattle.scop_syntax.proofs.Common.{◌++◌, length, map, drop, arith, ints, Option, Some, None, inl, All, All-head}
 use Rattle.scop_syntax.proofs.Common.{All-tail, slice_index_or, le_z_holds, In, in_front, in_back, Affine, value_of}
 use Rattle.scop_syntax.proofs.Common.{Access, Expression, read, affine, negated, complemented, cast, binary}
 use Rattle.scop_syntax.proofs.Common.{shifted_left, shifted_right, implied, converted, narrowed, values, Cell, cell_of}
 use Rattle.scop_syntax.proofs.Common.{reads_of, held, AreWithin, IsCell, IsAccess, IsAffine, IsExpression}
-use Rattle.scop_syntax.specs.Tree.{constant, explicit, Narrowing}
+use Rattle.scop_syntax.specs.Tree.{constant, explicit}
 use Rattle.scop_syntax.specs.Widths as widths
 use Rattle.std.proofs.lemmas.Bool.{lt-ltb}
 use Rattle.std.proofs.lemmas.List.{append_assoc, map-append}
-use Rattle.std.specs.Int.Signed.{lt_z, le_z}
+use Rattle.std.specs.Int.Signed.{lt_z}
 use Rattle.form_text.specs.Reading.{when}
 use Rattle.c_printer.specs.Values as printed
 use Rattle.c_meaning.specs.Syntax.{Value}
 use Rattle.c_meaning.specs.Syntax as c
 use Rattle.c_meaning.specs.Expressions.{worth, worths}
-use Rattle.c_meaning.specs.Assignments.{Arrays, Contents, are_within, is_cell, cell_with, named, found}
-use Rattle.c_meaning.specs.Assignments.{is_narrow, number_of}
+use Rattle.c_meaning.specs.Assignments.{Arrays, Contents, are_within, is_cell, cell_with, named, found, is_narrow}
+use Rattle.c_meaning.specs.Assignments.{number_of}
 use Rattle.c_meaning.specs.Programs.{source_expression, place_in, signed_in, value_in}
 use Rattle.c_meaning.specs.Narrow.{SubscriptsFit, ValueFits}
 use Rattle.c_meaning.proofs.FormWorths.{kept_wide, source_form_worth}

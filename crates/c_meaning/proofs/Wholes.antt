@@ -1,27 +1,22 @@
 -- Whole programs: their runs are those of their trees, and leave the arrays of the source's execution.
-use Rattle.scop_syntax.proofs.Common.{◌≡◌, ◌∙◌, ap, sym, subst, refl, ℤ, List, [], ◌∷◌, ◌++◌, length, map, Option, Some}
-use Rattle.scop_syntax.proofs.Common.{In, Program, IsKernel, IsInside, IsShaped, layout, exec, performed_all}
-use Rattle.scop_syntax.proofs.Common.{narrow_arrays, walk_of, HasParameters, pos, negsuc, ◌≤ℤ◌, arith, ints, Bool, true}
-use Rattle.scop_syntax.proofs.Common.{false, ◌&&◌, nat_lt, All, All-head, All-tail, Affine, value_of, values, size_of}
-use Rattle.scop_syntax.proofs.Common.{Declaration}
+use Rattle.scop_syntax.proofs.Common.{◌≡◌, ◌∙◌, ap, refl, ℤ, List, [], ◌∷◌, length, map, Some, Program, IsKernel}
+use Rattle.scop_syntax.proofs.Common.{IsInside, layout, performed_all, narrow_arrays, pos, negsuc, ◌≤ℤ◌, arith, ints}
+use Rattle.scop_syntax.proofs.Common.{Bool, true, ◌&&◌, nat_lt, All, All-head, All-tail, Affine, value_of, values}
+use Rattle.scop_syntax.proofs.Common.{size_of, Declaration}
 use Rattle.std.proofs.lemmas.Bool.{lt-ltb}
-use Rattle.scop_syntax.specs.ConflictOrders.{IsOrderOf}
 use Rattle.scop_syntax.specs.Walk.{Visit as Walked}
 use Rattle.scop_syntax.specs.Widths.{HoldTypes}
-use Rattle.loop_tree.specs.Plans.{walked}
 use Rattle.loop_tree.specs.Runs.{MayRunAll}
-use Rattle.loop_tree.specs.Tiling.{Tiling}
 use Rattle.loop_tree.specs.Tree.{Trees}
-use Rattle.loop_tree.specs.Walk.{Visit, given, walk_all}
+use Rattle.loop_tree.specs.Walk.{Visit, given}
 use Rattle.planned_trees.specs.Executions.{AreVisitsOf}
-use Rattle.planned_trees.specs.Trees.{AreTreesOf}
 use Rattle.planned_trees.proofs.TreeRuns.{members_all}
 use Rattle.c_printer.specs.Printable.{AreNodes, IsNamed}
+use Rattle.c_meaning.specs.Visits.{AreRaceless, act_of}
 use Rattle.c_meaning.specs.Assignments.{Contents}
 use Rattle.c_meaning.specs.Narrow.{AreNarrow}
 use Rattle.c_meaning.specs.Programs.{arrays_of, c_of, HaveExtents}
 use Rattle.c_meaning.specs.Runs.{MayDoAll, MayCall, Outcome, left_by, are_positive, have_cells}
-use Rattle.c_meaning.specs.Visits.{act_of}
 use Rattle.c_meaning.specs.steps.Law.{ComesTo}
 use Rattle.c_meaning.proofs.FormedTrees.{flat_nodes, formed_all}
 use Rattle.c_meaning.proofs.Reached.{tell_all, reach_all}
@@ -30,12 +25,13 @@ use Rattle.c_meaning.proofs.TreeRuns.{made_program}
 use Rattle.c_meaning.proofs.Arrays.{acts_are}
 
 pub program_runs : (program : Program) (ts : Trees) (params : List ℤ) → IsNamed program → AreNodes program 0 ts
-    → length program.parameters ≡ length params → AreNarrow program ts params [] → (o : Outcome)
+    → length program.parameters ≡ length params → AreNarrow program ts params []
+    → AreRaceless (act_of program params) ts params [] → (o : Outcome)
     → MayDoAll (c_of program ts) params o → ComesTo (act_of program params) (MayRunAll ts params []) o
-program_runs program ts params named is count narrow o h =
+program_runs program ts params named is count narrow free o h =
     runs_of_program program (act_of program params) ts params count (flat_nodes program 0 ts is)
     (formed_all program 0 ts params [] (count, refl) is) narrow
-    (tell_all program (act_of program params) ts params [] 0 named count refl is (λ v. refl)) o h
+    (tell_all program (act_of program params) ts params [] 0 named count refl is (λ v. refl)) free o h
 
 pub program_makes : (program : Program) (ts : Trees) (params : List ℤ) → IsNamed program → AreNodes program 0 ts
     → length program.parameters ≡ length params → AreNarrow program ts params [] → (vs : List Visit)

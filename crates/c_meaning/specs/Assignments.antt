@@ -1,7 +1,7 @@
 -- What unsigned values are worth, and what assignments do to arrays (C17), where unsigned int has 32 bits and unsigned
 -- long long int 64. Arrays are distinct objects, each as large as its extents say.
 use Rattle.std.specs.Prelude.{ℕ, ◌-◌, ◌*◌, ◌/◌, ◌%◌, ◌^◌, nat_lt, Bool, true, false, ◌&&◌, if◌then◌else◌, ℤ, pos, List}
-use Rattle.std.specs.Prelude.{[], ◌∷◌, length, slice_index_or, Option, Some, None}
+use Rattle.std.specs.Prelude.{[], ◌∷◌, ◌++◌, length, slice_index_or, Option, Some, None}
 use Rattle.std.specs.Int.Signed.{le_z, lt_z}
 use Rattle.form_text.specs.Reading.{when}
 use Rattle.scop_syntax.specs.Cells.{Cell}
@@ -45,6 +45,25 @@ named p place = when (worths p place.subscripts) (λ zs. Some (cell_with place.a
 -- the same where it is read or assigned to: beside its array there is none (6.5.6p8)
 abbrev pub found : Arrays → List ℤ → Place → Option Cell
 found arrays p place = when (named p place) (λ c. if is_cell arrays c then Some c else None)
+
+-- the places that a value reads
+abbrev pub places_in : Value → List Place
+places_in (constant n) = []
+places_in (cell place) = place ∷ []
+places_in (of_signed small e) = []
+places_in (cast small v) = places_in v
+places_in (negated v) = places_in v
+places_in (complemented v) = places_in v
+places_in (joined op v w) = places_in v ++ places_in w
+places_in (moved_left v k) = places_in v
+places_in (moved_right v k) = places_in v
+
+-- those that stand behind a place
+abbrev pub places_behind : Right → List Place
+places_behind (plain v) = places_in v
+places_behind (compound op v) = places_in v
+places_behind (shifted_left k) = []
+places_behind (shifted_right k) = []
 
 -- the type of a cell is uint32_t
 abbrev pub has_narrow : Arrays → ℕ → Bool

@@ -1,7 +1,7 @@
 -- What signed expressions are worth (ISO/IEC 9899:2018, "C17"), where int has 32 bits, and a constant that int does not
 -- hold, like int64_t, 64. A point has the values of the names in scope.
-use Rattle.std.specs.Prelude.{ℕ, zero, suc, ◌^◌, nat_lt, Bool, true, false, ◌&&◌, if◌then◌else◌, ℤ, pos, negsuc}
-use Rattle.std.specs.Prelude.{neg_ℤ, ◌+ℤ◌, ◌-ℤ◌, ◌*ℤ◌, List, [], ◌∷◌, ◌++◌, slice_get, Option, Some, None}
+use Rattle.std.specs.Prelude.{zero, suc, ◌^◌, nat_lt, Bool, true, false, ◌&&◌, if◌then◌else◌, ℤ, pos, negsuc, neg_ℤ}
+use Rattle.std.specs.Prelude.{◌+ℤ◌, ◌-ℤ◌, ◌*ℤ◌, List, [], ◌∷◌, ◌++◌, slice_get, Option, Some, None}
 use Rattle.std.specs.Int.Signed.{le_z, lt_z, quot_z}
 use Rattle.form_text.specs.Reading.{when}
 use Rattle.c_meaning.specs.Syntax.{Function, floord, ceild, greater_of, less_of, Relation, below, above, at_most}

@@ -1,10 +1,10 @@
 -- Every number that the text of a tree makes on the way fits, in the order of the text: of its bounds, tests, constants
 -- and subscripts, and of what its assignments convert.
-use Rattle.std.specs.Prelude.{◌+◌, ◌<◌, ◌^◌, ℤ, pos, ◌+ℤ◌, ◌-ℤ◌, ◌*ℤ◌, List, [], ◌∷◌, ◌++◌, ⊤, unsigned_abs, ◌≡◌}
-use Rattle.std.specs.Prelude.{true, length, slice_get, Option, Some, None}
+use Rattle.std.specs.Prelude.{◌+◌, ◌<◌, ◌^◌, ℤ, pos, ◌+ℤ◌, ◌-ℤ◌, ◌*ℤ◌, List, [], ◌∷◌, ◌++◌, ⊤, unsigned_abs, ◌≡◌, true}
+use Rattle.std.specs.Prelude.{length, slice_get, Option, Some, None}
 use Rattle.whole_numbers.specs.Affine.{Affine, form_of, value_of}
 use Rattle.scop_syntax.specs.Standings.{Standing, standings_of}
-use Rattle.scop_syntax.specs.Tree.{Access, Expression, Head, Program, Right, Statement}
+use Rattle.scop_syntax.specs.Tree.{Expression, Head, Program, Right, Statement}
 use Rattle.scop_syntax.specs.Tree as scop
 use Rattle.loop_tree.specs.Tree.{Bound, Bounds, only, besides, Test, at_least, equal, multiple, Tree, loop, guard}
 use Rattle.loop_tree.specs.Tree.{instance, Trees, none, more}

@@ -11,11 +11,11 @@ use Rattle.loop_tree.specs.Tree.{Bound, Bounds, only, besides, Test, at_least, e
 use Rattle.loop_tree.specs.Tree as tree
 use Rattle.c_printer.specs.Forms.{turned, spread, iterator_form}
 use Rattle.c_printer.specs.Nodes.{is_one}
-use Rattle.c_meaning.specs.Syntax.{Function, floord, ceild, greater_of, less_of, Relation, equals, Expression}
-use Rattle.c_meaning.specs.Syntax.{number, name, opposite, product, sum, difference, call, Comparison, Place, Value}
-use Rattle.c_meaning.specs.Syntax.{constant, cell, of_signed, cast, negated, complemented, joined, moved_left}
-use Rattle.c_meaning.specs.Syntax.{moved_right, Right, plain, compound, shifted_left, shifted_right, Assignment}
-use Rattle.c_meaning.specs.Syntax.{Statement, loop, branch, block, Statements, none, more}
+use Rattle.c_meaning.specs.Syntax.{Function, floord, ceild, greater_of, less_of, Relation, equals, Expression, number}
+use Rattle.c_meaning.specs.Syntax.{name, opposite, product, sum, difference, call, Comparison, Place, Value, constant}
+use Rattle.c_meaning.specs.Syntax.{cell, of_signed, cast, negated, complemented, joined, moved_left, moved_right, Right}
+use Rattle.c_meaning.specs.Syntax.{plain, compound, shifted_left, shifted_right, Assignment, Statement, loop, branch}
+use Rattle.c_meaning.specs.Syntax.{block, Statements, none, more}
 use Rattle.c_meaning.specs.Syntax as c
 use Rattle.c_meaning.specs.Assignments.{Arrays}
 

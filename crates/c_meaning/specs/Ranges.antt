@@ -1,13 +1,13 @@
 -- Whether int64_t holds every number of a tree's text for all parameters in 0..=65536, by one pass: each name has a
 -- range, a loop's by those of what its bounds speak of, a constant's by its form.
-use Rattle.std.specs.Prelude.{ℕ, ◌-◌, ◌^◌, Bool, true, false, ◌&&◌, if◌then◌else◌, ℤ, pos, negsuc, ◌+ℤ◌, ◌-ℤ◌, ◌*ℤ◌}
-use Rattle.std.specs.Prelude.{List, [], ◌∷◌, ◌++◌, length, map, slice_get, Option, Some, None, unsigned_abs}
+use Rattle.std.specs.Prelude.{◌-◌, ◌^◌, Bool, true, ◌&&◌, if◌then◌else◌, ℤ, pos, negsuc, ◌+ℤ◌, ◌-ℤ◌, ◌*ℤ◌, List, []}
+use Rattle.std.specs.Prelude.{◌∷◌, ◌++◌, length, map, slice_get, Option, Some, None, unsigned_abs}
 use Rattle.std.specs.Int.Signed.{le_z, lt_z}
 use Rattle.whole_numbers.specs.Affine.{Affine, form_of}
 use Rattle.whole_numbers.specs.Floor.{floor, ceiling}
 use Rattle.scop_syntax.specs.Limits.{most_parameter}
 use Rattle.scop_syntax.specs.Standings.{Standing, standings_of}
-use Rattle.scop_syntax.specs.Tree.{Expression, Head, Program, Right, Statement}
+use Rattle.scop_syntax.specs.Tree.{Expression, Head, Program, Right}
 use Rattle.scop_syntax.specs.Tree as scop
 use Rattle.loop_tree.specs.Tree.{Bound, Bounds, only, besides, Test, at_least, equal, multiple, Tree, loop, guard}
 use Rattle.loop_tree.specs.Tree.{instance, Trees, none, more}

@@ -1,14 +1,16 @@
 -- The runs of a program (C17; OpenMP 5.0 for parallel loops): which assignments they reach, in which order, and what
 -- these leave in the arrays.
-use Rattle.std.specs.Prelude.{◌≡◌, ℕ, zero, suc, Bool, true, false, ℤ, pos, ◌+ℤ◌, ◌-ℤ◌, List, [], ◌∷◌, ◌++◌, length}
-use Rattle.std.specs.Prelude.{nat_lt, ◌&&◌, Option, Some, None}
+use Rattle.std.specs.Prelude.{◌≡◌, ◌⊎◌, map, ℕ, zero, suc, Bool, true, false, ℤ, pos, ◌+ℤ◌, ◌-ℤ◌, List, [], ◌∷◌, ◌++◌}
+use Rattle.std.specs.Prelude.{length, nat_lt, ◌&&◌, Option, Some, None}
 use Rattle.form_text.specs.Reading.{when}
+use Rattle.scop_syntax.specs.Cells.{Cell}
+use Rattle.scop_syntax.specs.Members.{In}
 use Rattle.scop_syntax.specs.Walk.{most_turns}
 use Rattle.loop_tree.specs.Runs.{IsShuffle}
 use Rattle.c_meaning.specs.Syntax.{at_most, Expression, name, Assignment, Statement, loop, branch, block, Statements}
 use Rattle.c_meaning.specs.Syntax.{none, more}
 use Rattle.c_meaning.specs.Expressions.{kept, worth, compared, both, all_of, constants}
-use Rattle.c_meaning.specs.Assignments.{Arrays, Contents, assigned}
+use Rattle.c_meaning.specs.Assignments.{Arrays, Contents, assigned, named, places_behind}
 
 -- an assignment that was reached, and the values of the names in scope there
 pub record Act : Type 0 where
@@ -39,9 +41,33 @@ InTurn condition Body x (suc n) o =
     × After a o (λ vs. After (kept false (x +ℤ pos 1)) o
     (λ y. (b : Outcome) × InTurn condition Body y n b × After b o (λ ws. o ≡ Some (vs ++ ws))))
 
--- what an iteration and all later ones make together: any interleaving of their assignments
+-- the cells that an act touches, in front the one that it assigns to
+abbrev pub touched : Act → List (Option Cell)
+touched a = map (named a.point) (a.assignment.place ∷ places_behind a.assignment.right)
+
+-- an act assigns to a cell
+abbrev pub Assigns : Act → Cell → Type 0
+Assigns a c = named a.point a.assignment.place ≡ Some c
+
+-- two acts conflict: one of them assigns to a cell that the other touches (5.1.2.4p4)
+pub record Clash (a b : Act) : Type 0 where
+  pub cell : Cell
+  pub first : In (Some cell) (touched a)
+  pub second : In (Some cell) (touched b)
+  pub assigned : Assigns a cell ⊎ Assigns b cell
+
+-- an act of one list conflicts with one of the other
+pub record Race (vs ws : List Act) : Type 0 where
+  pub left : Act
+  pub right : Act
+  pub is_left : In left vs
+  pub is_right : In right ws
+  pub clash : Clash left right
+
+-- what an iteration and all later ones make together: any interleaving of their assignments. Nothing orders those of
+-- two iterations, so where some conflict this is a data race, and undefined (5.1.2.4p35, OpenMP 1.4.1)
 abbrev pub Together : List Act → List Act → Outcome → Type 0
-Together vs ws o = (zs : List Act) × IsShuffle vs ws zs × (o ≡ Some zs)
+Together vs ws o = (Race vs ws × (o ≡ None)) ⊎ ((zs : List Act) × IsShuffle vs ws zs × (o ≡ Some zs))
 
 -- n iterations from x on, each once (OpenMP 2.9.2)
 abbrev pub SideBySide : (ℤ → Outcome → Type 0) → ℤ → ℕ → Outcome → Type 0

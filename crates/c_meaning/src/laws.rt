@@ -15,6 +15,7 @@ ghost use Rattle.loop_tree.specs.Tree.{Trees};
 ghost use Rattle.loop_tree.specs.Walk.{Visit, given, max_z, min_z};
 ghost use Rattle.planned_trees.specs.Trees.{AreTreesOf};
 ghost use Rattle.c_printer.specs.Printable.{AreNodes, IsNamed};
+ghost use Rattle.c_meaning.specs.Visits.{AreRaceless};
 ghost use Rattle.c_meaning.specs.Assignments.{Contents};
 ghost use Rattle.c_meaning.specs.Expressions.{called, worth};
 ghost use Rattle.c_meaning.specs.Narrow.{AreNarrow, QuotientFits, TreeFormFits};
@@ -43,13 +44,13 @@ pub fn printed_functions_round_and_choose()
     ensures less { (a b : ℤ) → called less_of a b ≡ Some (min_z a b) }
 {}
 
-/// Where each number on the way fits, a run of the printed program meets nothing that is undefined: it is a run of the
-/// tree, and reaches at each visit that statement's assignment, at the loops' values and the source's iterators. And
+/// Where each number on the way fits and acts of two parallel iterations do not conflict, a run of the printed program
+/// meets nothing that is undefined: it is a run of the tree, and reaches at each visit that statement's assignment, at the loops' values and the source's iterators. And
 /// each run of the tree is one of the program.
 pub fn printed_runs_are_those_of_the_tree()
     ensures runs { (program : Program) (ts : Trees) (params : List ℤ) → IsNamed program → AreNodes program 0 ts
-        → length program.parameters ≡ length params → AreNarrow program ts params [] → (o : Outcome)
-        → MayDoAll (c_of program ts) params o
+        → length program.parameters ≡ length params → AreNarrow program ts params []
+        → AreRaceless (act_of program params) ts params [] → (o : Outcome) → MayDoAll (c_of program ts) params o
         → (vs : List Visit) × MayRunAll ts params [] vs × (o ≡ Some (map (act_of program params) vs)) }
     ensures all { (program : Program) (ts : Trees) (params : List ℤ) → IsNamed program → AreNodes program 0 ts
         → length program.parameters ≡ length params → AreNarrow program ts params [] → (vs : List Visit)

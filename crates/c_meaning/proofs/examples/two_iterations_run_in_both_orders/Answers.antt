@@ -19,9 +19,9 @@ returns-clause-forward c = (
       Some [],
       (Some (act 1 ∷ []), refl, (Some [], refl, refl)),
       refl,
-      (act 1 ∷ [], inl ([], refl, (refl, refl)), refl),
+      inr (act 1 ∷ [], inl ([], refl, (refl, refl)), refl),
     ),
-    (act 0 ∷ act 1 ∷ [], inl ([], refl, inr ([], refl, (refl, refl))), refl),
+    inr (act 0 ∷ act 1 ∷ [], inl ([], refl, inr ([], refl, (refl, refl))), refl),
   ),
   (Some [], refl, refl),
 )
@@ -38,9 +38,9 @@ returns-clause-backward c = (
       Some [],
       (Some (act 1 ∷ []), refl, (Some [], refl, refl)),
       refl,
-      (act 1 ∷ [], inl ([], refl, (refl, refl)), refl),
+      inr (act 1 ∷ [], inl ([], refl, (refl, refl)), refl),
     ),
-    (act 1 ∷ act 0 ∷ [], inr ([], refl, inl ([], refl, (refl, refl))), refl),
+    inr (act 1 ∷ act 0 ∷ [], inr ([], refl, inl ([], refl, (refl, refl))), refl),
   ),
   (Some [], refl, refl),
 )
