@@ -5,8 +5,7 @@
 set -u
 root=$(CDPATH= cd -- "$(dirname -- "$0")/.." && pwd)
 cd "$root" || exit 1
-"$root/polypar" schedule <examples/copy.c >/dev/null || exit 1
-POLYPAR=${POLYPAR:-$(POLYPAR_WHICH=1 "$root/polypar")}
+POLYPAR=${POLYPAR:-$(POLYPAR_WHICH=1 "$root/polypar")} || exit 1
 export POLYPAR
 said=$(python3 -B tests/explained.py)
 failed=$?
